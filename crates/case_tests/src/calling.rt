@@ -7,7 +7,7 @@ use crew::{Crew, MemoryCrew, Order, ProcessCrew};
 use deftable::Bytes;
 use disk::Host;
 use diskfiles::FileOutputs;
-use runner::{asks_why, command, run};
+use runner::{Terminal, asks_why, command, run};
 use std::fs::File;
 use std::io::{Read, Write};
 use summary::Children;
@@ -61,19 +61,16 @@ pub fn status_over<C: Crew + Causes, R: Read, W: Write, E: Write>(
 ) -> u8
     requires may_run { MayRun (C.account crew.old) }
 {
-    run(
-        rt.alloc(),
-        rt,
-        &mut FileOutputs::new(rt.alloc(), Host::new(rt)),
-        words,
+    let mut terminal = Terminal {
+        alloc: rt.alloc(),
+        is_asked: asks_why(env),
         env,
-        crew,
-        asks_why(env),
-        false,
+        outputs: FileOutputs::new(rt.alloc(), Host::new(rt)),
         input,
         output,
         errors,
-    )
+    };
+    run(&mut terminal, rt, words, crew, false)
 }
 
 /// Returns the exit status of the whole program over a crew, on the streams of the process.

@@ -6,13 +6,16 @@ use Rattle.diskfiles.specs.Done.{IsAllDone}
 use Rattle.diskfiles.specs.Held.{Held, IsUnused, receipt_of, closings}
 use Rattle.diskfiles.proofs.Unused.{unused_receipt}
 use Rattle.diskfiles.specs.Lines.{AreLines}
+use Rattle.framing.specs.Faults.{named, of_record, ◌>>=◌}
 use Rattle.framing.specs.Remade.{remade, IsRemade, refused, memory, all, cut}
+use Rattle.framing.specs.Remade as again
 use Rattle.framing.specs.declared.fault.RemakeFault.{RemakeFault}
-use Rattle.invocation.specs.Supplies.{ReadsWhole, GivenAgain}
+use Rattle.invocation.specs.Supplies.{AreTemplates, ReadsWhole, GivenAgain}
 use Rattle.outputs.specs.Receipt.{Receipt}
 use Rattle.outputs.specs.declared.artifact.Artifact.{Artifact}
 use Rattle.status_record.specs.Reading.{record_in}
-use Rattle.commands.specs.MadeAgain.{IsMadeAgain}
+use Rattle.status_record.specs.declared.record.Record.{Record}
+use Rattle.commands.specs.MadeAgain.{IsMadeAgain, IsRecordFound}
 
 -- A text that was read is handed on.
 pub found_by : {D : Type 0} (known : D → Option Known) (d lent : D) (name : List ℕ) (read : Option (List ℕ)) (text slice : List ℕ) → lent ≡ d → read ≡ Some text → slice ≡ text
@@ -33,26 +36,30 @@ all_done known handed artifacts failures said lines artifacts_are none lines_are
     subst (λ ts. IfSome known (λ k. IsAllDone k ts 0 lines)) artifacts_are
     (subst (λ n. IfSome known (λ k. IsAllDone k handed n lines)) none (subst (λ l. IfSome known (λ k. IsAllDone k handed failures l)) lines_are h))
 
--- What a call of `remake` made, if it returned a number.
-pub made_again : {D : Type 0} (known : D → Option Known) (d : D) (before now : Held D) (text : List ℕ) (templates : List (List ℕ × List ℕ)) (tags : List (List ℕ)) (same : Type 0) (answer : Result ℕ RemakeFault) (n : ℕ) (lines : List ℕ)
-    → IsUnused before → ReadsWhole (known d) (codes "config.status") (Some text) → GivenAgain (known d) (record_in text) templates
-    → IsRemade (remade text templates tags) same (receipt_of before) (receipt_of now) answer → answer ≡ Ok n → lines ≡ now.lines → AreLines now.handed lines
+remade_of : (text : List ℕ) (recorded : Record) (templates : List (List ℕ × List ℕ)) (tags : List (List ℕ)) → record_in text ≡ Ok recorded → remade text templates tags ≡ again.made_again recorded templates tags
+unfolding remade
+remade_of text recorded templates tags is = ap (λ r. named of_record r >>= λ x. again.made_again x templates tags) is
+
+-- What a call of `remake_record` made, if it returned a number.
+pub made_again : {D : Type 0} (known : D → Option Known) (d : D) (before now : Held D) (recorded : Record) (templates : List (List ℕ × List ℕ)) (tags : List (List ℕ)) (same : Type 0) (answer : Result ℕ RemakeFault) (n : ℕ) (lines : List ℕ)
+    → IsUnused before → IsRecordFound (known d) recorded → AreTemplates (known d) recorded.srcdir (recorded.files ++ recorded.headers) templates
+    → IsRemade (again.made_again recorded templates tags) same (receipt_of before) (receipt_of now) answer → answer ≡ Ok n → lines ≡ now.lines → AreLines now.handed lines
     → (now.closed ≡ false → IfSome (known now.disk) (λ k. IsAllDone k now.handed now.failures now.lines)) → IsMadeAgain (known d) (known now.disk) tags lines
-made_again known d before now text templates tags same (Err f) n lines new found given (refused is s) returned shown are done = absurd (cc)
-made_again known d before now text templates tags same (Err f) n lines new found given (memory s) returned shown are done = absurd (cc)
-made_again known d before now text templates tags same (Err f) n lines new found given (cut is at) returned shown are done = absurd (cc)
-made_again known d before now text templates tags same (Ok m) n lines new found given (all {artifacts = made} is handed) returned shown are done =
+made_again known d before now recorded templates tags same (Err f) n lines new found given (refused is s) returned shown are done = absurd (cc)
+made_again known d before now recorded templates tags same (Err f) n lines new found given (memory s) returned shown are done = absurd (cc)
+made_again known d before now recorded templates tags same (Err f) n lines new found given (cut is at) returned shown are done = absurd (cc)
+made_again known d before now recorded templates tags same (Ok m) n lines new found given (all {artifacts = made} is handed) returned shown are done =
     let empty : receipt_of before ≡ record { handed = []; failures = 0 } = unused_receipt before new in
     let made_all : now.handed ≡ made = ap (λ (r : Receipt). r.handed) handed ∙ ap (λ (r : Receipt). r.handed ++ made) empty in
     let counted : now.failures + closings now.closed ≡ 0 = ap (λ (r : Receipt). r.failures) handed ∙ ap (λ (r : Receipt). r.failures) empty in
     let none = nothing_refused now.failures now.closed counted in
     record {
-      text = text;
+      text = found.text;
       templates = templates;
       made = made;
-      found = found;
-      given = given;
-      remakes = is;
+      found = found.found;
+      given = subst (λ r. GivenAgain (known d) r templates) (sym found.is) given;
+      remakes = remade_of found.text recorded templates tags found.is ∙ is;
       lines = subst (λ l. AreLines l lines) made_all are;
       written = all_done (known now.disk) now.handed made now.failures now.lines lines made_all none.0 (sym shown) (done none.1);
     }

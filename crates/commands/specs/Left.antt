@@ -5,7 +5,6 @@ use Rattle.disk.specs.Known.{Known, Deed}
 use Rattle.diskfiles.specs.Done.{IsDone}
 use Rattle.diskfiles.specs.Held.{Held}
 use Rattle.diskfiles.specs.Steps.{IsReplaced}
-use Rattle.framing.specs.declared.report.Outcome.TheVariants.{Shown}
 use Rattle.framing.specs.declared.report.Report.{Report}
 use Rattle.invocation.specs.Logged.{IsHeld, HasLogged}
 use Rattle.outputs.specs.declared.artifact.Artifact.{Artifact}
@@ -19,8 +18,7 @@ pub record IsLeft (k : Known) (artifacts : List Artifact) (lines log : List ℕ)
   pub done : IsDone k.files artifacts 0 lines before
   pub written : IsReplaced (record { deeds = before; files = k.files }) (codes "config.log") log logged
 
--- After a run with this report the log was written, unless a text was shown. (own)
+-- After a run with this report the log was written. (own)
 pub record Logs {D : Type 0} (known : D → Option Known) (old new : Held D) (report : Report) : Type 0 where
   pub held : IsHeld known old
-  pub nothing : report.outcome ≡ Shown → new ≡ old
-  pub log : (report.outcome ≡ Shown → ⊥) → HasLogged known old new (log_of report.log)
+  pub log : HasLogged known old new (log_of report.log)

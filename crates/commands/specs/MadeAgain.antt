@@ -7,6 +7,13 @@ use Rattle.framing.specs.Remade.{remade}
 use Rattle.invocation.specs.Supplies.{ReadsWhole, GivenAgain}
 use Rattle.outputs.specs.declared.artifact.Artifact.{Artifact}
 use Rattle.status_record.specs.Reading.{record_in}
+use Rattle.status_record.specs.declared.record.Record.{Record}
+
+-- The record is that of the text of config.status. (own)
+pub record IsRecordFound (files : Option Known) (recorded : Record) : Type 0 where
+  pub text : List ℕ
+  pub found : ReadsWhole files (codes "config.status") (Some text)
+  pub is : record_in text ≡ Ok recorded
 
 -- The outputs with these names are made of the record, which is the text of config.status, and of
 -- its templates, as they are in files; this is printed on standard output; and nothing else is done

@@ -4,9 +4,10 @@ ghost use Rattle.std.specs.Prelude.{◌≡◌, Ok, IsTrue};
 
 use disk::Disk;
 use explaining::{Why, explain_error, explain_file};
-use faultlines::{explain_fault, explain_remake};
+use faultlines::{Given, explain_fault, explain_remake};
 use framing::{Fault, RemakeFault};
-use invocation::{FAULT, Supplies, tell_file, tell_named, tell_precious};
+use invocation::{FAULT, tell_file, tell_named, tell_precious};
+use status_record::Record;
 use std::alloc::Global;
 use std::io::{self, Write};
 
@@ -20,39 +21,40 @@ fn tell_fault<E: Write>(errors: &mut E, fault: &Fault) -> u8
     }
 }
 
-/// Returns the text of the cache, or an empty text if there is none.
-fn cache_of(supplies: &Supplies) -> &[u8] {
-    match &supplies.cache {
-        Some(text) => text.as_slice(),
-        None => b"",
+/// Reports the line of a fault of a run.
+fn tell_line<E: Write>(given: Option<&Given<'_>>, errors: &mut E, fault: &Fault) -> u8
+    ensures { result ≡ 2 }
+{
+    match (fault, given) {
+        (Fault::Precious(inner), Some(given)) => tell_precious(errors, given.source, *inner),
+        _ => tell_fault(errors, fault),
     }
 }
 
-/// Reports what is wrong with what a run of this source is given, and says more of it if it is asked.
-pub(crate) fn tell_run<D: Disk, E: Write>(
+/// Reports what is wrong with what a run is given, and says more of it if it is asked. Returns the exit status. If the source was judged
+/// before the fault was found, `given` is what the run was given then.
+pub fn tell_run<D: Disk, E: Write>(
     alloc: Global,
     disk: &D,
     why: &Why<'_>,
-    supplies: &Supplies,
+    given: Option<&Given<'_>>,
     errors: &mut E,
     fault: &Fault,
 ) -> u8
     ensures { result ≡ 2 }
 {
-    let _ = match fault {
-        Fault::Precious(inner) => tell_precious(alloc, why.text, errors, *inner),
-        other => tell_fault(errors, other),
-    };
-    explain_fault(alloc, disk, why, cache_of(supplies), errors, fault);
+    let _ = tell_line(given, errors, fault);
+    explain_fault(alloc, disk, why, given, errors, fault);
     FAULT
 }
 
-/// Reports why outputs are not made again, or a run is not done again, and returns the exit status. Says more of it if it is asked. If
-/// a put was refused, `cause` says why, and it is empty if that is not known.
+/// Reports why outputs are not made again, or a run is not done again, and returns the exit status. Says more of it if it is asked.
+/// `recorded` is the record, if it was read. If a put was refused, `cause` says why, and it is empty if that is not known.
 pub fn tell_remake<D: Disk, E: Write>(
     alloc: Global,
     disk: &D,
     why: &Why<'_>,
+    recorded: Option<&Record>,
     cause: &[u8],
     errors: &mut E,
     fault: &RemakeFault,
@@ -63,7 +65,7 @@ pub fn tell_remake<D: Disk, E: Write>(
         RemakeFault::NoTemplate(name) => tell_named(errors, fault, name.as_slice()),
         _ => tell_named(errors, fault, b""),
     };
-    explain_remake(alloc, disk, why, cause, errors, fault);
+    explain_remake(alloc, disk, why, recorded, cause, errors, fault);
     FAULT
 }
 

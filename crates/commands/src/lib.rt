@@ -1,7 +1,7 @@
 //! The commands that start no child, and what the command that does leaves for its user.
 //!
 //! [`run_status`] makes the outputs of a record again, and [`run_standin`] answers in place of a compiler.
-//! [`tell_result`] prints and logs the result of a whole run. The crate `configuring` makes that run, with given
+//! [`tell_result`] prints and logs the result of a whole run, and [`tell_shown`] prints a text that is shown. The crate `configuring` makes that run, with given
 //! arguments or with those of a record. So this crate needs `framing`, and no crate that runs a plan.
 //!
 //! For example, `acrun status Makefile` is [`run_status`] with the tag `Makefile`: it reads `config.status`, prints
@@ -19,6 +19,6 @@ mod remaking;
 mod reporting;
 
 pub use answering::run_standin;
-pub use errors::{tell_remake, tell_unread};
+pub use errors::{tell_remake, tell_run, tell_unread};
 pub use remaking::{RECORD, run_status};
-pub use reporting::tell_result;
+pub use reporting::{tell_result, tell_shown};

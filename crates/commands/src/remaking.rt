@@ -1,21 +1,21 @@
 //! The command that makes the outputs of a record again.
 
-ghost use Rattle.std.specs.Prelude.{◌≡◌, ◌≢◌, ℕ, List, Some, Ok, IsTrue, codes};
+ghost use Rattle.std.specs.Prelude.{◌≡◌, ◌≢◌, ℕ, List, ◌++◌, Some, Ok, IsTrue, codes};
 ghost use Rattle.std.specs.Io.KnownBytes.{Appends};
-ghost use Rattle.commands.specs.MadeAgain.{IsMadeAgain};
-ghost use Rattle.diskfiles.specs.Held.{fresh, IsUnused, GuardsMore};
-ghost use Rattle.invocation.specs.Supplies.{ReadsWhole, GivenAgain};
-ghost use Rattle.status_record.specs.Reading.{record_in};
+ghost use Rattle.commands.specs.MadeAgain.{IsMadeAgain, IsRecordFound};
+ghost use Rattle.diskfiles.specs.Held.{GuardsMore, IsUnused, fresh};
+ghost use Rattle.invocation.specs.Supplies.{AreTemplates, ReadsWhole};
 
 use crate::errors::{tell_remake, tell_unread, tell_written};
 use deftable::Bytes;
 use disk::Disk;
 use diskfiles::{FileOutputs, read_text};
 use explaining::Why;
-use framing::{RemakeFault, remake};
-use invocation::{FAULT, RecordSupplies, keep_inputs, print_lines, record_supplies, tell_memory};
+use framing::{RemakeFault, remake_record};
+use invocation::{FAULT, Terminal, keep_inputs, print_lines, record_templates, tell_memory};
+use status_record::{Record, read_record};
 use std::alloc::{AllocError, Global};
-use std::io::Write;
+use std::io::{Read, Write};
 
 /// The name of the record.
 pub const RECORD: &[u8] = b"config.status";
@@ -31,7 +31,8 @@ fn print_made<W: Write, E: Write>(
     output: &mut W,
     errors: &mut E,
 ) -> bool
-    ensures { IsTrue result → Appends (W.contents output.old) (W.contents output.new) lines.now }
+    ensures prints { IsTrue result → Appends (W.contents output.old) (W.contents output.new) lines.now }
+    ensures silent { IsTrue result → errors.new ≡ errors.old }
 {
     let done = print_lines(lines, false, output);
     tell_written(alloc, why.is_asked, OUTPUT, done, errors)
@@ -40,18 +41,21 @@ fn print_made<W: Write, E: Write>(
 /// Reports the fault of the answer, if there is one. Returns whether there is none.
 fn tell_answer<D: Disk, E: Write>(
     alloc: Global,
-    disk: &D,
+    outputs: &FileOutputs<D>,
     why: &Why<'_>,
-    cause: &[u8],
+    recorded: &Record,
     answer: &Result<usize, RemakeFault>,
     errors: &mut E,
 ) -> bool
-    ensures { IsTrue result → (n : ℕ) × (answer.now ≡ Ok n) }
+    ensures made { IsTrue result → (n : ℕ) × (answer.now ≡ Ok n) }
+    ensures silent { IsTrue result → errors.new ≡ errors.old }
 {
     match answer {
         Ok(_) => true,
         Err(fault) => {
-            let _ = tell_remake(alloc, disk, why, cause, errors, fault);
+            let disk = outputs.disk();
+            let cause = outputs.cause();
+            let _ = tell_remake(alloc, disk, why, Some(recorded), cause, errors, fault);
             false
         }
     }
@@ -62,86 +66,119 @@ fn tell_answer<D: Disk, E: Write>(
 fn keep_all<D: Disk>(
     alloc: Global,
     outputs: &mut FileOutputs<D>,
-    supplies: &RecordSupplies,
+    srcdir: &[u8],
+    templates: &[(Bytes, Bytes)],
 ) -> Result<(), AllocError>
     requires { IsUnused outputs.old }
     ensures { GuardsMore outputs.old outputs.new }
 {
     outputs.keep(RECORD)?;
-    let templates = supplies.templates.as_slice();
-    keep_inputs(alloc, outputs, supplies.srcdir.as_slice(), templates)
+    keep_inputs(alloc, outputs, srcdir, templates)
 }
 
-/// Returns what the faults of a record are explained by.
-fn why_of<'a>(is_asked: bool, text: &'a [u8], srcdir: &'a [u8], tags: &'a [Bytes]) -> Why<'a> {
+/// Returns what the faults of a record with this text are explained by.
+fn why_of<'a>(is_asked: bool, text: &'a [u8], srcdir: &'a [u8], tags: &'a [Bytes]) -> Why<'a>
+    ensures { result.args.now ≡ tags.now }
+{
     Why {
         is_asked,
         srcdir,
         path: RECORD,
         text,
         args: tags,
-        env: &[],
     }
 }
 
 /// Makes the outputs of a record with these templates, and returns the exit status.
 #[tactic(auto, using(diskfiles::proofs::Unused::fresh_unused))]
-fn make_supplied<'a, D: Disk, W: Write, E: Write>(
-    alloc: Global,
-    outputs: &mut FileOutputs<D>,
-    is_asked: bool,
-    text: &'a [u8],
-    supplies: &'a RecordSupplies,
-    tags: &'a [Bytes],
-    output: &mut W,
-    errors: &mut E,
+fn make_with<D: Disk, R: Read, W: Write, E: Write>(
+    terminal: &mut Terminal<'_, D, R, W, E>,
+    why: &Why<'_>,
+    recorded: &Record,
+    templates: &[(Bytes, Bytes)],
 ) -> u8
-    requires fresh { outputs.old ≡ fresh outputs.old.disk }
-    requires found { ReadsWhole (D.known outputs.old.disk) (codes "config.status") (Some text.now) }
-    requires given { GivenAgain (D.known outputs.old.disk) (record_in text.now) supplies.now.templates.items }
-    ensures { result ≢ 2 → (result ≡ 0) × (out : List ℕ)
-        × IsMadeAgain (D.known outputs.old.disk) (D.known outputs.new.disk) tags.now out
-        × Appends (W.contents output.old) (W.contents output.new) out }
+    requires fresh { terminal.old.outputs ≡ fresh terminal.old.outputs.disk }
+    requires found { IsRecordFound (D.known terminal.old.outputs.disk) recorded.now }
+    requires given { AreTemplates (D.known terminal.old.outputs.disk) recorded.now.srcdir (recorded.now.files ++ recorded.now.headers) templates.now }
+    ensures status { result ≢ 2 → (result ≡ 0) × (out : List ℕ)
+        × IsMadeAgain (D.known terminal.old.outputs.disk) (D.known terminal.new.outputs.disk) why.now.args.now out
+        × Appends (W.contents terminal.old.output) (W.contents terminal.new.output) out }
+    ensures silent { result ≢ 2 → terminal.new.errors ≡ terminal.old.errors }
+    ensures input { terminal.new.input ≡ terminal.old.input }
 {
-    if keep_all(alloc, outputs, supplies).is_err() {
-        return tell_memory(errors);
+    let alloc = terminal.alloc;
+    let srcdir = recorded.srcdir.as_slice();
+    if keep_all(alloc, &mut terminal.outputs, srcdir, templates).is_err() {
+        return tell_memory(&mut terminal.errors);
     }
-    let templates = supplies.templates.as_slice();
-    let answer = remake(alloc, text, templates, tags, outputs);
-    let why = why_of(is_asked, text, supplies.srcdir.as_slice(), tags);
-    let is_printed = print_made(alloc, &why, outputs.lines(), output, errors);
-    let is_whole = tell_answer(
+    let answer = remake_record(alloc, recorded, templates, why.args, &mut terminal.outputs);
+    let lines = terminal.outputs.lines();
+    let is_printed = print_made(
         alloc,
-        outputs.disk(),
-        &why,
-        outputs.cause(),
-        &answer,
-        errors,
+        why,
+        lines,
+        &mut terminal.output,
+        &mut terminal.errors,
     );
+    let outputs = &terminal.outputs;
+    let is_whole = tell_answer(alloc, outputs, why, recorded, &answer, &mut terminal.errors);
     if is_printed && is_whole { 0 } else { FAULT }
 }
 
 /// Reads the templates of a record, makes its outputs, and returns the exit status.
-fn make_text<D: Disk, W: Write, E: Write>(
-    alloc: Global,
-    outputs: &mut FileOutputs<D>,
-    is_asked: bool,
+fn make_record<D: Disk, R: Read, W: Write, E: Write>(
+    terminal: &mut Terminal<'_, D, R, W, E>,
+    text: &[u8],
+    recorded: &Record,
+    tags: &[Bytes],
+) -> u8
+    requires fresh { terminal.old.outputs ≡ fresh terminal.old.outputs.disk }
+    requires found { IsRecordFound (D.known terminal.old.outputs.disk) recorded.now }
+    ensures status { result ≢ 2 → (result ≡ 0) × (out : List ℕ)
+        × IsMadeAgain (D.known terminal.old.outputs.disk) (D.known terminal.new.outputs.disk) tags.now out
+        × Appends (W.contents terminal.old.output) (W.contents terminal.new.output) out }
+    ensures silent { result ≢ 2 → terminal.new.errors ≡ terminal.old.errors }
+    ensures input { terminal.new.input ≡ terminal.old.input }
+{
+    match record_templates(terminal.alloc, terminal.outputs.disk(), recorded) {
+        Ok(templates) => {
+            let why = why_of(terminal.is_asked, text, recorded.srcdir.as_slice(), tags);
+            make_with(terminal, &why, recorded, templates.as_slice())
+        }
+        Err(_) => tell_memory(&mut terminal.errors),
+    }
+}
+
+/// Reads a record, makes its outputs, and returns the exit status.
+fn make_text<D: Disk, R: Read, W: Write, E: Write>(
+    terminal: &mut Terminal<'_, D, R, W, E>,
     text: &[u8],
     tags: &[Bytes],
-    output: &mut W,
-    errors: &mut E,
 ) -> u8
-    requires fresh { outputs.old ≡ fresh outputs.old.disk }
-    requires found { ReadsWhole (D.known outputs.old.disk) (codes "config.status") (Some text.now) }
-    ensures { result ≢ 2 → (result ≡ 0) × (out : List ℕ)
-        × IsMadeAgain (D.known outputs.old.disk) (D.known outputs.new.disk) tags.now out
-        × Appends (W.contents output.old) (W.contents output.new) out }
+    requires fresh { terminal.old.outputs ≡ fresh terminal.old.outputs.disk }
+    requires found { ReadsWhole (D.known terminal.old.outputs.disk) (codes "config.status") (Some text.now) }
+    ensures status { result ≢ 2 → (result ≡ 0) × (out : List ℕ)
+        × IsMadeAgain (D.known terminal.old.outputs.disk) (D.known terminal.new.outputs.disk) tags.now out
+        × Appends (W.contents terminal.old.output) (W.contents terminal.new.output) out }
+    ensures silent { result ≢ 2 → terminal.new.errors ≡ terminal.old.errors }
+    ensures input { terminal.new.input ≡ terminal.old.input }
 {
-    match record_supplies(alloc, outputs.disk(), text) {
-        Ok(supplies) => make_supplied(
-            alloc, outputs, is_asked, text, &supplies, tags, output, errors,
-        ),
-        Err(_) => tell_memory(errors),
+    match read_record(terminal.alloc, text) {
+        Ok(recorded) => make_record(terminal, text, &recorded, tags),
+        Err(fault) => {
+            let why = why_of(terminal.is_asked, text, b"", tags);
+            let disk = terminal.outputs.disk();
+            let fault = RemakeFault::from(fault);
+            tell_remake(
+                terminal.alloc,
+                disk,
+                &why,
+                None,
+                b"",
+                &mut terminal.errors,
+                &fault,
+            )
+        }
     }
 }
 
@@ -149,31 +186,27 @@ fn make_text<D: Disk, W: Write, E: Write>(
 /// exit status.
 ///
 /// If anything is wrong, the status is 2, and standard error has a line for it (own); outputs may have been made before that. If
-/// `is_asked`, further lines may say why.
-pub fn run_status<D: Disk, W: Write, E: Write>(
-    alloc: Global,
-    outputs: &mut FileOutputs<D>,
-    is_asked: bool,
+/// it is asked, further lines may say why. Nothing else is written there.
+pub fn run_status<D: Disk, R: Read, W: Write, E: Write>(
+    terminal: &mut Terminal<'_, D, R, W, E>,
     tags: &[Bytes],
-    output: &mut W,
-    errors: &mut E,
 ) -> u8
-    requires fresh { outputs.old ≡ fresh outputs.old.disk }
-    ensures { result ≢ 2 → (result ≡ 0) × (out : List ℕ)
-        × IsMadeAgain (D.known outputs.old.disk) (D.known outputs.new.disk) tags.now out
-        × Appends (W.contents output.old) (W.contents output.new) out }
+    requires fresh { terminal.old.outputs ≡ fresh terminal.old.outputs.disk }
+    ensures status { result ≢ 2 → (result ≡ 0) × (out : List ℕ)
+        × IsMadeAgain (D.known terminal.old.outputs.disk) (D.known terminal.new.outputs.disk) tags.now out
+        × Appends (W.contents terminal.old.output) (W.contents terminal.new.output) out }
+    ensures silent { result ≢ 2 → terminal.new.errors ≡ terminal.old.errors }
+    ensures input { terminal.new.input ≡ terminal.old.input }
 {
-    match read_text(alloc, outputs.disk(), RECORD) {
-        Ok(Some(text)) => make_text(
-            alloc,
-            outputs,
-            is_asked,
-            text.as_slice(),
-            tags,
-            output,
-            errors,
+    match read_text(terminal.alloc, terminal.outputs.disk(), RECORD) {
+        Ok(Some(text)) => make_text(terminal, text.as_slice(), tags),
+        Ok(None) => tell_unread(
+            terminal.alloc,
+            terminal.outputs.disk(),
+            terminal.is_asked,
+            RECORD,
+            &mut terminal.errors,
         ),
-        Ok(None) => tell_unread(alloc, outputs.disk(), is_asked, RECORD, errors),
-        Err(_) => tell_memory(errors),
+        Err(_) => tell_memory(&mut terminal.errors),
     }
 }

@@ -1,15 +1,14 @@
 //! What a run leaves for its user: its messages, the lines on its outputs, its log, and its exit status.
 
-ghost use Rattle.std.specs.Prelude.{◌≡◌, ◌≢◌, None, Ok, IsTrue, false};
+ghost use Rattle.std.specs.Prelude.{◌≡◌, ◌≢◌, [], None, Ok, IsTrue, false};
 ghost use Rattle.std.specs.Io.KnownBytes.{Appends};
 ghost use Rattle.cfglog.specs.Texts.{log_of};
 ghost use Rattle.commands.specs.Left.{Logs};
 ghost use Rattle.commands.specs.Printed.{printed};
-ghost use Rattle.framing.specs.declared.report.Outcome.TheVariants.{Shown};
 ghost use Rattle.framing.specs.declared.report.Report.{Report};
 ghost use Rattle.framing.specs.Told as words;
 ghost use Rattle.invocation.specs.Errors.{AreTold, errors_of};
-ghost use Rattle.invocation.specs.Logged.{HasLogged};
+ghost use Rattle.invocation.specs.Logged.{HasLogged, IsHeld};
 
 use crate::errors::{tell_run, tell_written};
 use crate::remaking::OUTPUT;
@@ -17,11 +16,20 @@ use causes::Causes;
 use disk::Disk;
 use diskfiles::FileOutputs;
 use explaining::{Why, explain_cut, explain_words};
-use faultlines::explain_compilers;
+use faultlines::{Given, explain_compilers};
 use framing::{Fault, Outcome, Report, status_of};
-use invocation::{FAULT, LOG, Supplies, print_all, tell_put, write_log};
+use invocation::{FAULT, LOG, Terminal, print_all, tell_put, write_log};
+use options::Settings;
 use std::alloc::Global;
-use std::io::Write;
+use std::io::{Read, Write};
+
+/// Returns the name of the cache, or an empty text if none is named.
+fn cache_name(settings: &Settings) -> &[u8] {
+    match &settings.cache_name {
+        Some(name) => name.as_slice(),
+        None => b"",
+    }
+}
 
 /// Says why a run was cut, if it was, and if it is asked.
 fn explain_short<C: Causes, E: Write>(
@@ -49,23 +57,27 @@ fn explain_short<C: Causes, E: Write>(
 
 /// Prints the messages of a run and the lines of its outputs, and says why it was cut, if it is asked. Returns whether standard output
 /// took them.
-fn print_report<C: Causes, W: Write, E: Write>(
-    alloc: Global,
-    is_asked: bool,
-    supplies: &Supplies,
+fn print_report<D: Disk, C: Causes, R: Read, W: Write, E: Write>(
+    terminal: &mut Terminal<'_, D, R, W, E>,
+    settings: &Settings,
     report: &Report,
     crew: &C,
-    lines: &[u8],
-    output: &mut W,
-    errors: &mut E,
 ) -> bool
-    ensures run { IsTrue result → Appends (W.contents output.old) (W.contents output.new) (printed supplies.now.quiet report.now.messages lines.now) }
-    ensures told { is_asked ≡ false → IsTrue result → AreTold (E.contents errors.old) (E.contents errors.new) (errors_of report.now.messages) }
+    ensures run { IsTrue result → Appends (W.contents terminal.old.output) (W.contents terminal.new.output) (printed settings.now.quiet report.now.messages terminal.old.outputs.lines) }
+    ensures told { terminal.old.is_asked ≡ false → IsTrue result → AreTold (E.contents terminal.old.errors) (E.contents terminal.new.errors) (errors_of report.now.messages) }
+    ensures held { IsHeld D.known terminal.old.outputs }
+    ensures outputs { terminal.new.outputs ≡ terminal.old.outputs }
+    ensures input { terminal.new.input ≡ terminal.old.input }
 {
+    let alloc = terminal.alloc;
+    let is_asked = terminal.is_asked;
+    let errors = &mut terminal.errors;
+    let lines = terminal.outputs.lines();
     let messages = report.messages.as_slice();
-    let done = print_all(alloc, messages, lines, supplies.quiet, output, errors);
-    let cache = supplies.cache_name.as_slice();
-    explain_short(alloc, is_asked, report, cache, crew, errors);
+    let quiet = settings.quiet;
+    let output = &mut terminal.output;
+    let done = print_all(alloc, messages, lines, quiet, output, errors);
+    explain_short(alloc, is_asked, report, cache_name(settings), crew, errors);
     explain_compilers(alloc, is_asked, report.log.as_slice(), errors);
     tell_written(alloc, is_asked, OUTPUT, done, errors)
 }
@@ -91,7 +103,7 @@ fn tell_refused<E: Write>(
     }
 }
 
-/// Writes the log of a run, unless a text was shown. Returns whether that succeeded.
+/// Writes the log of a run. Returns whether that succeeded.
 fn log_report<D: Disk, E: Write>(
     alloc: Global,
     outputs: &mut FileOutputs<D>,
@@ -99,40 +111,32 @@ fn log_report<D: Disk, E: Write>(
     report: &Report,
     errors: &mut E,
 ) -> bool
-    ensures nothing { report.now.outcome ≡ Shown → outputs.new ≡ outputs.old }
-    ensures log { IsTrue result → (report.now.outcome ≡ Shown → ⊥) → HasLogged D.known outputs.old outputs.new (log_of report.now.log) }
+    ensures log { IsTrue result → HasLogged D.known outputs.old outputs.new (log_of report.now.log) }
     ensures silent { IsTrue result → errors.new ≡ errors.old }
 {
-    match report.outcome {
-        Outcome::Shown => true,
-        _ => {
-            let done = write_log(alloc, outputs, report.log.as_slice());
-            tell_written(alloc, is_asked, LOG.as_bytes(), done, errors)
-        }
-    }
+    let done = write_log(alloc, outputs, report.log.as_slice());
+    tell_written(alloc, is_asked, LOG.as_bytes(), done, errors)
 }
 
 /// Prints and writes what a run leaves for its user, and returns the exit status.
-fn tell_report<D: Disk, C: Causes, W: Write, E: Write>(
-    alloc: Global,
-    outputs: &mut FileOutputs<D>,
-    is_asked: bool,
-    supplies: &Supplies,
+fn tell_report<D: Disk, C: Causes, R: Read, W: Write, E: Write>(
+    terminal: &mut Terminal<'_, D, R, W, E>,
+    settings: &Settings,
     report: &Report,
     refused: Option<u64>,
     crew: &C,
-    output: &mut W,
-    errors: &mut E,
 ) -> u8
-    ensures { result ≢ 2 → (refused ≡ None) × (result ≡ words.status_of report.now.outcome)
-        × Appends (W.contents output.old) (W.contents output.new) (printed supplies.now.quiet report.now.messages outputs.old.lines)
-        × Logs D.known outputs.old outputs.new report.now
-        × (is_asked ≡ false → AreTold (E.contents errors.old) (E.contents errors.new) (errors_of report.now.messages)) }
+    ensures run { result ≢ 2 → (refused ≡ None) × (result ≡ words.status_of report.now.outcome)
+        × Appends (W.contents terminal.old.output) (W.contents terminal.new.output) (printed settings.now.quiet report.now.messages terminal.old.outputs.lines)
+        × Logs D.known terminal.old.outputs terminal.new.outputs report.now
+        × (terminal.old.is_asked ≡ false → AreTold (E.contents terminal.old.errors) (E.contents terminal.new.errors) (errors_of report.now.messages)) }
+    ensures input { terminal.new.input ≡ terminal.old.input }
 {
-    let lines = outputs.lines();
-    let is_printed = print_report(
-        alloc, is_asked, supplies, report, crew, lines, output, errors,
-    );
+    let alloc = terminal.alloc;
+    let is_asked = terminal.is_asked;
+    let is_printed = print_report(terminal, settings, report, crew);
+    let outputs = &mut terminal.outputs;
+    let errors = &mut terminal.errors;
     let is_whole = tell_refused(alloc, is_asked, refused, outputs.cause(), errors);
     let is_logged = log_report(alloc, outputs, is_asked, report, errors);
     if is_printed && is_whole && is_logged {
@@ -142,43 +146,63 @@ fn tell_report<D: Disk, C: Causes, W: Write, E: Write>(
     }
 }
 
-/// Prints and writes what follows from the result of a run of this source, and returns the exit status.
+/// Prints and writes what follows from the result of a run, and returns the exit status. `given` is what the run was given.
 ///
 /// A report leaves its messages, the lines on its outputs and its log, also if a put was refused,
 /// which is told then. Any other fault is told alone. The status is 2 if there is a fault, if the
 /// log can't be written, or if standard output doesn't take all of it. If it is asked, it also says
 /// why: of a cut run by what the crew knows, and of a refused put by what the outputs know.
-pub fn tell_result<D: Disk, C: Causes, W: Write, E: Write>(
-    alloc: Global,
-    outputs: &mut FileOutputs<D>,
+pub fn tell_result<D: Disk, C: Causes, R: Read, W: Write, E: Write>(
+    terminal: &mut Terminal<'_, D, R, W, E>,
     why: &Why<'_>,
-    supplies: &Supplies,
+    given: &Given<'_>,
     answer: Result<Report, Fault>,
     crew: &C,
-    output: &mut W,
-    errors: &mut E,
 ) -> u8
-    ensures { result ≢ 2 → (report : Report) × (answer ≡ Ok report) × (result ≡ words.status_of report.outcome)
-        × Appends (W.contents output.old) (W.contents output.new) (printed supplies.now.quiet report.messages outputs.old.lines)
-        × Logs D.known outputs.old outputs.new report
-        × (why.now.is_asked ≡ false → AreTold (E.contents errors.old) (E.contents errors.new) (errors_of report.messages)) }
+    ensures run { result ≢ 2 → (report : Report) × (answer ≡ Ok report) × (result ≡ words.status_of report.outcome)
+        × Appends (W.contents terminal.old.output) (W.contents terminal.new.output) (printed given.now.settings.now.quiet report.messages terminal.old.outputs.lines)
+        × Logs D.known terminal.old.outputs terminal.new.outputs report
+        × (terminal.old.is_asked ≡ false → AreTold (E.contents terminal.old.errors) (E.contents terminal.new.errors) (errors_of report.messages)) }
+    ensures input { terminal.new.input ≡ terminal.old.input }
 {
-    let is_asked = why.is_asked;
     match answer {
-        Ok(report) => tell_report(
-            alloc, outputs, is_asked, supplies, &report, None, crew, output, errors,
-        ),
-        Err(Fault::PutRefused(number, report)) => tell_report(
-            alloc,
-            outputs,
-            is_asked,
-            supplies,
-            &report,
-            Some(number),
-            crew,
-            output,
-            errors,
-        ),
-        Err(fault) => tell_run(alloc, outputs.disk(), why, supplies, errors, &fault),
+        Ok(report) => tell_report(terminal, given.settings, &report, None, crew),
+        Err(Fault::PutRefused(number, report)) => {
+            tell_report(terminal, given.settings, &report, Some(number), crew)
+        }
+        Err(fault) => {
+            let disk = terminal.outputs.disk();
+            tell_run(
+                terminal.alloc,
+                disk,
+                why,
+                Some(given),
+                &mut terminal.errors,
+                &fault,
+            )
+        }
+    }
+}
+
+/// Prints the text of a report that shows one, and returns the exit status, which is 0 if standard output takes it.
+pub fn tell_shown<D: Disk, R: Read, W: Write, E: Write>(
+    terminal: &mut Terminal<'_, D, R, W, E>,
+    report: &Report,
+) -> u8
+    ensures run { result ≢ 2 → (result ≡ 0)
+        × Appends (W.contents terminal.old.output) (W.contents terminal.new.output) (printed false report.now.messages [])
+        × AreTold (E.contents terminal.old.errors) (E.contents terminal.new.errors) (errors_of report.now.messages) }
+    ensures outputs { terminal.new.outputs ≡ terminal.old.outputs }
+    ensures input { terminal.new.input ≡ terminal.old.input }
+{
+    let alloc = terminal.alloc;
+    let is_asked = terminal.is_asked;
+    let errors = &mut terminal.errors;
+    let messages = report.messages.as_slice();
+    let done = print_all(alloc, messages, b"", false, &mut terminal.output, errors);
+    if tell_written(alloc, is_asked, OUTPUT, done, errors) {
+        0
+    } else {
+        FAULT
     }
 }

@@ -13,14 +13,12 @@ use crate::running::run_configure;
 use causes::Causes;
 use commands::{RECORD, tell_remake, tell_unread};
 use crew_trait::Crew;
-use deftable::Bytes;
 use disk::Disk;
-use diskfiles::{FileOutputs, read_text};
+use diskfiles::read_text;
 use explaining::Why;
 use framing::recheck_args;
-use invocation::tell_memory;
-use std::alloc::Global;
-use std::io::Write;
+use invocation::{Terminal, tell_memory};
+use std::io::{Read, Write};
 
 /// Returns what the faults of a record with this text are explained by.
 fn why_of(is_asked: bool, text: &[u8]) -> Why<'_> {
@@ -30,47 +28,45 @@ fn why_of(is_asked: bool, text: &[u8]) -> Why<'_> {
         path: RECORD,
         text,
         args: &[],
-        env: &[],
     }
 }
 
 /// Runs a configure.ac again with the arguments of the record that has this text, and returns the exit status.
-fn run_again<D: Disk, C: Crew + Causes, W: Write, E: Write>(
-    alloc: Global,
-    outputs: &mut FileOutputs<D>,
-    is_asked: bool,
+fn run_again<D: Disk, C: Crew + Causes, R: Read, W: Write, E: Write>(
+    terminal: &mut Terminal<'_, D, R, W, E>,
     text: &[u8],
-    env: &[(Bytes, Bytes)],
     crew: &mut C,
-    output: &mut W,
-    errors: &mut E,
 ) -> u8
     requires may_run { MayRun (C.account crew.old) }
-    requires found { ReadsWhole (D.known outputs.old.disk) (codes "config.status") (Some text.now) }
-    requires fresh { outputs.old ≡ fresh outputs.old.disk }
+    requires found { ReadsWhole (D.known terminal.old.outputs.disk) (codes "config.status") (Some text.now) }
+    requires fresh { terminal.old.outputs ≡ fresh terminal.old.outputs.disk }
     ensures idle { IsIdle (C.account crew.new).events }
     ensures run { result ≢ 2 → (out : List ℕ) × (said : List (List ℕ))
-        × IsRechecked env.now (C.account crew.old) (C.account crew.new)
-        (D.known outputs.old.disk) (D.known outputs.new.disk) out said result
-        × Appends (W.contents output.old) (W.contents output.new) out
-        × (is_asked ≡ false → AreTold (E.contents errors.old) (E.contents errors.new) said) }
+        × IsRechecked terminal.old.env.now (C.account crew.old) (C.account crew.new)
+        (D.known terminal.old.outputs.disk) (D.known terminal.new.outputs.disk) out said result
+        × Appends (W.contents terminal.old.output) (W.contents terminal.new.output) out
+        × (terminal.old.is_asked ≡ false → AreTold (E.contents terminal.old.errors) (E.contents terminal.new.errors) said) }
+    ensures input { terminal.new.input ≡ terminal.old.input }
 {
-    match recheck_args(alloc, text) {
+    match recheck_args(terminal.alloc, text) {
         Ok(args) => {
             let args = args.as_slice();
-            let status = run_configure(
-                alloc, outputs, is_asked, 1, args, env, crew, output, errors,
-            );
+            let status = run_configure(terminal, 1, args, crew);
             status
         }
-        Err(fault) => tell_remake(
-            alloc,
-            outputs.disk(),
-            &why_of(is_asked, text),
-            b"",
-            errors,
-            &fault,
-        ),
+        Err(fault) => {
+            let why = why_of(terminal.is_asked, text);
+            let disk = terminal.outputs.disk();
+            tell_remake(
+                terminal.alloc,
+                disk,
+                &why,
+                None,
+                b"",
+                &mut terminal.errors,
+                &fault,
+            )
+        }
     }
 }
 
@@ -79,32 +75,37 @@ fn run_again<D: Disk, C: Crew + Causes, W: Write, E: Write>(
 ///
 /// The environment is that of now, and at most one child runs at once. The record and the log are written again, and the cache if
 /// one is named, but no file and no header. If anything is wrong, the status is 2, and standard error has a line for it (own). If
-/// `is_asked`, further lines may say why.
-pub fn run_recheck<D: Disk, C: Crew + Causes, W: Write, E: Write>(
-    alloc: Global,
-    outputs: &mut FileOutputs<D>,
-    is_asked: bool,
-    env: &[(Bytes, Bytes)],
+/// it is asked, further lines may say why.
+pub fn run_recheck<D: Disk, C: Crew + Causes, R: Read, W: Write, E: Write>(
+    terminal: &mut Terminal<'_, D, R, W, E>,
     crew: &mut C,
-    output: &mut W,
-    errors: &mut E,
 ) -> u8
     requires may_run { MayRun (C.account crew.old) }
-    requires fresh { outputs.old ≡ fresh outputs.old.disk }
+    requires fresh { terminal.old.outputs ≡ fresh terminal.old.outputs.disk }
     ensures idle { IsIdle (C.account crew.new).events }
     ensures run { result ≢ 2 → (out : List ℕ) × (said : List (List ℕ))
-        × IsRechecked env.now (C.account crew.old) (C.account crew.new)
-        (D.known outputs.old.disk) (D.known outputs.new.disk) out said result
-        × Appends (W.contents output.old) (W.contents output.new) out
-        × (is_asked ≡ false → AreTold (E.contents errors.old) (E.contents errors.new) said) }
+        × IsRechecked terminal.old.env.now (C.account crew.old) (C.account crew.new)
+        (D.known terminal.old.outputs.disk) (D.known terminal.new.outputs.disk) out said result
+        × Appends (W.contents terminal.old.output) (W.contents terminal.new.output) out
+        × (terminal.old.is_asked ≡ false → AreTold (E.contents terminal.old.errors) (E.contents terminal.new.errors) said) }
+    ensures input { terminal.new.input ≡ terminal.old.input }
 {
-    match read_text(alloc, outputs.disk(), RECORD) {
+    match read_text(terminal.alloc, terminal.outputs.disk(), RECORD) {
         Ok(Some(text)) => {
             let text = text.as_slice();
-            let status = run_again(alloc, outputs, is_asked, text, env, crew, output, errors);
+            let status = run_again(terminal, text, crew);
             status
         }
-        Ok(None) => tell_unread(alloc, outputs.disk(), is_asked, RECORD, errors),
-        Err(_) => tell_memory(errors),
+        Ok(None) => {
+            let disk = terminal.outputs.disk();
+            tell_unread(
+                terminal.alloc,
+                disk,
+                terminal.is_asked,
+                RECORD,
+                &mut terminal.errors,
+            )
+        }
+        Err(_) => tell_memory(&mut terminal.errors),
     }
 }

@@ -18,8 +18,6 @@ pub struct Why<'a> {
     pub text: &'a [u8],
     /// The arguments of the run, or the names of the outputs that are to be made again.
     pub args: &'a [Bytes],
-    /// The name and the value of each entry of the environment of a run.
-    pub env: &'a [(Bytes, Bytes)],
 }
 
 /// Returns whether an entry of the environment is an ACRUN_WHY that isn't empty.

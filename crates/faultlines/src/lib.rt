@@ -27,6 +27,7 @@ mod source;
 mod usage;
 
 pub use compilers::explain_compilers;
+pub use precious::Given;
 pub use remakes::explain_remake;
 pub use runs::explain_fault;
 pub use source::explain_source;

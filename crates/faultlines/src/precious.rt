@@ -6,15 +6,22 @@ ghost use Rattle.deftable.specs.Table.{value_of};
 ghost use Rattle.options.specs.Precious.{old_value as value_then};
 
 use crate::page::numbered;
-use acparse::parse;
 use cachefile::{OldCache, read_cache};
 use deftable::Vars;
-use explaining::Why;
 use faultwords::precious_words;
-use options::{PreciousFault, Settings, mark_name, read_args};
+use options::{PreciousFault, Settings, mark_name};
 use std::alloc::{AllocError, Global};
 use syntax::Source;
 use wordtable::Words;
+
+/// What a run was given, once its source was judged.
+#[derive(Clone, Copy)]
+pub struct Given<'a> {
+    pub source: &'a Source,
+    pub settings: &'a Settings,
+    /// The text of the cache, or an empty text if there is none.
+    pub cache: &'a [u8],
+}
 
 /// Returns the value that pouring the cache over the variables would leave in this one, or an empty text if it would be unset.
 fn poured<'a>(vars: &'a Vars, cache: &'a OldCache, name: &[u8]) -> &'a [u8]
@@ -96,31 +103,12 @@ fn place_of(fault: PreciousFault) -> u64 {
     }
 }
 
-/// Returns what is wrong with a variable of this source.
-fn of_source(
-    alloc: Global,
-    why: &Why<'_>,
-    source: &Source,
-    cache: &[u8],
-    fault: PreciousFault,
-) -> Result<Words, AllocError> {
-    let name = numbered(source.precious().names(), place_of(fault));
-    match read_args(alloc, source, why.args, why.env) {
-        Ok(settings) => of_cache(alloc, &settings, cache, name),
-        Err(_) => Err(AllocError),
-    }
-}
-
-/// Returns what is wrong with a precious variable, with the value that the cache holds and the one that is given. The cache is its
-/// text.
+/// Returns what is wrong with a precious variable, with the value that the cache holds and the one that is given.
 pub(crate) fn of_precious(
     alloc: Global,
-    why: &Why<'_>,
-    cache: &[u8],
+    given: &Given<'_>,
     fault: PreciousFault,
 ) -> Result<Words, AllocError> {
-    match parse(alloc, why.text) {
-        Ok(source) => of_source(alloc, why, &source, cache, fault),
-        Err(_) => Err(AllocError),
-    }
+    let name = numbered(given.source.precious().names(), place_of(fault));
+    of_cache(alloc, given.settings, given.cache, name)
 }

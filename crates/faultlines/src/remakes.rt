@@ -8,7 +8,7 @@ use explaining::{Why, explain_template, explain_words};
 use faultwords::{record_words, tag_words};
 use framing::RemakeFault;
 use outputlist::Output;
-use status_record::{Record, read_record};
+use status_record::Record;
 use std::alloc::{AllocError, Global};
 use std::io::Write;
 use wordtable::Words;
@@ -29,19 +29,20 @@ fn of_record_tag(alloc: Global, record: &Record, name: &[u8]) -> Result<Words, A
     tag_words(alloc, name, names.as_slice())
 }
 
-/// Returns that a name is that of no output of the record with this text.
-fn of_tag(alloc: Global, text: &[u8], name: &[u8]) -> Result<Words, AllocError> {
-    match read_record(alloc, text) {
-        Ok(record) => of_record_tag(alloc, &record, name),
-        Err(_) => Err(AllocError),
+/// Says that a name is that of no output of a record.
+fn explain_tag<E: Write>(alloc: Global, recorded: Option<&Record>, name: &[u8], errors: &mut E) {
+    if let Some(recorded) = recorded {
+        put_words(alloc, of_record_tag(alloc, recorded, name), errors);
     }
 }
 
-/// Says more of why outputs are not made again, after its line, if it is asked. If a put was refused, `cause` says why.
+/// Says more of why outputs are not made again, after its line, if it is asked. `recorded` is the record, if it was read. If a put was
+/// refused, `cause` says why.
 pub fn explain_remake<D: Disk, E: Write>(
     alloc: Global,
     disk: &D,
     why: &Why<'_>,
+    recorded: Option<&Record>,
     cause: &[u8],
     errors: &mut E,
     fault: &RemakeFault,
@@ -55,7 +56,7 @@ pub fn explain_remake<D: Disk, E: Write>(
             }
             RemakeFault::UnknownTag(number) => {
                 let name = numbered(why.args, *number);
-                put_words(alloc, of_tag(alloc, why.text, name), errors)
+                explain_tag(alloc, recorded, name, errors)
             }
             RemakeFault::NoTemplate(name) => {
                 explain_template(alloc, disk, why, name.as_slice(), errors)

@@ -3,7 +3,7 @@
 ghost use Rattle.std.specs.Prelude.{◌≡◌, false};
 
 use crate::page::{put_words, slices};
-use crate::precious::of_precious;
+use crate::precious::{Given, of_precious};
 use crate::source::explain_source;
 use commandline::OptionFault;
 use disk::Disk;
@@ -20,12 +20,22 @@ fn of_option(alloc: Global, why: &Why<'_>, fault: OptionFault) -> Result<Words, 
     option_words(alloc, fault, args.as_slice())
 }
 
-/// Says what is wrong with what a run is given, after the line of the fault, if it is asked. The cache is its text.
+/// Says what is wrong with the cache or with a precious variable, after the line of the fault.
+fn explain_given<E: Write>(alloc: Global, given: &Given<'_>, errors: &mut E, fault: &Fault) {
+    match fault {
+        Fault::Cache(fault) => put_words(alloc, cache_words(alloc, *fault, given.cache), errors),
+        Fault::Precious(fault) => put_words(alloc, of_precious(alloc, given, *fault), errors),
+        _ => {}
+    }
+}
+
+/// Says what is wrong with what a run is given, after the line of the fault, if it is asked. If the source was judged before the
+/// fault was found, `given` is what the run was given then.
 pub fn explain_fault<D: Disk, E: Write>(
     alloc: Global,
     disk: &D,
     why: &Why<'_>,
-    cache: &[u8],
+    given: Option<&Given<'_>>,
     errors: &mut E,
     fault: &Fault,
 )
@@ -34,9 +44,10 @@ pub fn explain_fault<D: Disk, E: Write>(
     if why.is_asked {
         match fault {
             Fault::Option(fault) => put_words(alloc, of_option(alloc, why, *fault), errors),
-            Fault::Cache(fault) => put_words(alloc, cache_words(alloc, *fault, cache), errors),
-            Fault::Precious(fault) => {
-                put_words(alloc, of_precious(alloc, why, cache, *fault), errors)
+            Fault::Cache(_) | Fault::Precious(_) => {
+                if let Some(given) = given {
+                    explain_given(alloc, given, errors, fault);
+                }
             }
             Fault::NoTemplate(name) => explain_template(alloc, disk, why, name.as_slice(), errors),
             _ => explain_source(alloc, why, errors, fault),

@@ -5,8 +5,9 @@ use Rattle.std.specs.Prelude.{◌==◌, IfOk, IfErr, IsErrAnd, replicate}
 use Rattle.crew_trait.specs.Events.{Account, replies_in}
 use Rattle.crew_trait.specs.declared.reply.Reply.TheVariants.{StartRefused}
 use Rattle.engine.specs.Configured.{Ran, RunEnd, outcome_from, IfReport, IfStarts, IsAnswer, IsMeant, artifacts}
+use Rattle.framing.specs.Faults.{Fails}
 use Rattle.framing.specs.Given.{Accepted, Shows, Starts}
-use Rattle.framing.specs.declared.inputs.Start.{Start}
+use Rattle.framing.specs.declared.starting.Start.{Start}
 use Rattle.framing.specs.declared.fault.Fault.{Fault}
 use Rattle.framing.specs.declared.fault.Fault.TheVariants as faults
 use Rattle.framing.specs.declared.report.Report.{Report}
@@ -61,3 +62,10 @@ not_run j (faults.PutRefused number report) (Err e) a h = subst (IsNotRun j) (sy
 not_run (Err g) f (Err e) a h = subst (IsNotRun (Err g)) (sym h) (refused cc)
 not_run (Ok (Shows script settings)) f (Err e) a h = cc
 not_run (Ok (Starts script start)) f (Err e) a h = absurd a
+
+-- The same, if a part failed with this fault.
+pub not_run_by : {A : Type 0} (f : Fault) (r : Result A FilterFault) (j : Result Accepted Fault) → Fails f j → IsErrAnd r (λ e. e ≡ of_run f) → IfErr r (IsNotRun j)
+not_run_by f (Ok x) j is h = absurd h
+not_run_by faults.OutOfMemory (Err e) j is h = subst (IsNotRun j) (sym h) no_memory
+not_run_by (faults.PutRefused number report) (Err e) j is h = subst (IsNotRun j) (sym h) no_memory
+not_run_by f (Err e) j is h = subst (IsNotRun j) (sym h) (refused is)

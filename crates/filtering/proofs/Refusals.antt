@@ -31,12 +31,12 @@ parse_refused input source template parse_faults.OutOfMemory (Err e) parted exac
 parse_refused input source template f (Err e) parted exact bad h = subst (IsInputFault input) (sym h) (parse parted (λ e. cc) exact (bad (λ e. cc)))
 
 pub run_found : {A : Type 0} (input source template : List ℕ) (s : Script) (r : Result A FilterFault) (text errors : A → List ℕ) (status : A → ℕ) → IsParted input source template → IsSource source s
-    → IfOk r (λ a. IsRun source s template (text a) (errors a) (status a)) → IfOk r (λ a. IsFiltered input (text a) (errors a) (status a))
+    → IfOk r (λ a. IsRun s template (text a) (errors a) (status a)) → IfOk r (λ a. IsFiltered input (text a) (errors a) (status a))
 run_found input source template s (Ok a) text errors status parted is h = record { source = source; template = template; parted = parted; statements = s; is_source = is; run = h }
 run_found input source template s (Err e) text errors status parted is h = tt
 
 pub not_run_refused : {A : Type 0} (input source template : List ℕ) (s : Script) (r : Result A FilterFault) → IsParted input source template → IsSource source s
-    → IfErr r (IsNotRun (judged_alone source (templates_of s template))) → IfErr r (IsInputFault input)
+    → IfErr r (IsNotRun (judged_alone s (templates_of s template))) → IfErr r (IsInputFault input)
 not_run_refused input source template s (Ok x) parted is h = tt
 not_run_refused input source template s (Err e) parted is h = not_run parted is h
 

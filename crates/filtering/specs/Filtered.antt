@@ -9,7 +9,7 @@ use Rattle.deftable.specs.declared.note.Stream.TheVariants as streams
 use Rattle.engine.specs.Configured.{artifacts}
 use Rattle.framing.specs.Given.{Starts}
 use Rattle.framing.specs.Told.{status_of}
-use Rattle.framing.specs.declared.inputs.Start.{Start}
+use Rattle.framing.specs.declared.starting.Start.{Start}
 use Rattle.framing.specs.declared.fault.Fault.TheVariants.{Parse}
 use Rattle.framing.specs.declared.report.Report.{Report}
 use Rattle.filter_input.specs.Parted.{IsParted, HasNoMarker}
@@ -24,12 +24,12 @@ pub data IsSourcePart (input : List ℕ) : List ℕ → Type 0 where
   before : {source template : List ℕ} → IsParted input source template → IsSourcePart input source
   whole : HasNoMarker input → IsSourcePart input input
 
--- The source, which has these statements, is run without arguments, environment and cache, with this template under the name of
--- the first file's, and with each start of a child refused. This is the text of the first file that the run hands over, what it
--- prints on standard error, and its exit status. (own)
-pub record IsRun (source : List ℕ) (s : Script) (template out errors : List ℕ) (status : ℕ) : Type 0 where
+-- The statements are run without arguments, environment and cache, with this template under the name of the first file's, and
+-- with each start of a child refused. This is the text of the first file that the run hands over, what it prints on standard
+-- error, and its exit status. (own)
+pub record IsRun (s : Script) (template out errors : List ℕ) (status : ℕ) : Type 0 where
   pub start : Start
-  pub accepted : judged_alone source (templates_of s template) ≡ Ok (Starts s start)
+  pub accepted : judged_alone s (templates_of s template) ≡ Ok (Starts s start)
   pub report : Report
   pub alone : IsAlone s start report
   pub written : out ≡ first_text (artifacts s start (templates_of s template) report)
@@ -44,14 +44,14 @@ pub record IsFiltered (input out errors : List ℕ) (status : ℕ) : Type 0 wher
   pub parted : IsParted input source template
   pub statements : Script
   pub is_source : IsSource source statements
-  pub run : IsRun source statements template out errors status
+  pub run : IsRun statements template out errors status
 
 -- What is wrong with an input: it has no marker, or its source has this error, or the source is right, and is not run.
 -- (own)
 pub data IsInputFault (input : List ℕ) : FilterFault → Type 0 where
   usage : HasNoMarker input → IsInputFault input Usage
   parse : {source template : List ℕ} {f : parse_fault.ParseFault} → IsParted input source template → f ≢ parse_faults.OutOfMemory → source_of source ≡ Err f → IsSourceFault source f → IsInputFault input (Run (Parse f))
-  not_run : {source template : List ℕ} {s : Script} {e : FilterFault} → IsParted input source template → IsSource source s → IsNotRun (judged_alone source (templates_of s template)) e → IsInputFault input e
+  not_run : {source template : List ℕ} {s : Script} {e : FilterFault} → IsParted input source template → IsSource source s → IsNotRun (judged_alone s (templates_of s template)) e → IsInputFault input e
   no_memory_to_parse : IsInputFault input OutOfMemory
 
 -- Why the filter writes no text: the input has an error, or the text for it can't be written, or the input can't be

@@ -3,8 +3,8 @@ use Rattle.std.specs.Prelude.{◌≡◌, ℕ, Bool, true, false, List, [], ◌�
 use Rattle.cfglog.specs.Texts.{messages_of}
 use Rattle.deftable.specs.declared.note.Stream.TheVariants as streams
 use Rattle.engine.specs.Configured.{artifacts}
-use Rattle.engine.specs.Judged.{judged}
-use Rattle.framing.specs.Given.{Accepted, Shows, Starts}
+use Rattle.framing.specs.Faults.{◌>>=◌}
+use Rattle.framing.specs.Given.{Accepted, Shows, Starts, asked, answered}
 use Rattle.framing.specs.Shown.{shown_report}
 use Rattle.framing.specs.Told.{status_of}
 use Rattle.framing.specs.declared.fault.Fault.{Fault}
@@ -28,9 +28,11 @@ templates_for (file ∷ more) template = (file.template, template) ∷ []
 abbrev pub templates_of : Script → List ℕ → List (List ℕ × List ℕ)
 templates_of s template = templates_for (lists_of s).files template
 
--- What follows from a source with these templates, without arguments, environment and cache. (own)
-abbrev pub judged_alone : List ℕ → List (List ℕ × List ℕ) → Result Accepted Fault
-judged_alone source templates = judged source [] [] None templates
+-- What follows from statements with these templates, without arguments, environment and cache. (own)
+unfoldable pub judged_alone : Script → List (List ℕ × List ℕ) → Result Accepted Fault
+judged_alone s templates = do
+  settings ← asked [] [] s
+  answered [] None templates s settings
 
 -- Why there is no report: what is given has a fault, or memory runs out. (own)
 pub data IsNotRun (judged : Result Accepted Fault) : FilterFault → Type 0 where

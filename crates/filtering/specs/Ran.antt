@@ -4,7 +4,7 @@ use Rattle.jobs.specs.declared.job.Job.{Job}
 use Rattle.crew_trait.specs.declared.reply.Reply.{Reply}
 use Rattle.crew_trait.specs.declared.reply.Reply.TheVariants.{StartRefused}
 use Rattle.engine.specs.Configured.{RunEnd, outcome_from, report_of, state_of}
-use Rattle.framing.specs.declared.inputs.Start.{Start}
+use Rattle.framing.specs.declared.starting.Start.{Start}
 use Rattle.framing.specs.declared.report.Report.{Report}
 use Rattle.meaning.specs.Meaning.{meaning}
 use Rattle.meaning.specs.Play.{play, all_jobs, first_refused, whole}

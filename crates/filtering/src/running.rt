@@ -1,28 +1,31 @@
 //! Runs a source in memory, without starting anything.
 
-ghost use Rattle.std.specs.Prelude.{◌≡◌, [], IfOk, IfErr};
-ghost use Rattle.filtering.specs.Handed.{IsNotRun, IsReported, judged_alone};
+ghost use Rattle.std.specs.Prelude.{◌≡◌, [], None, IfOk, IfErr};
+ghost use Rattle.engine.specs.Judged.{IsRead, going};
+ghost use Rattle.framing.specs.Needed.{script_in};
+ghost use Rattle.filtering.specs.Handed.{IsNotRun, IsReported};
 
 use crate::fault::FilterFault;
 use crew::{MemoryCrew, Order};
 use deftable::Bytes;
-use engine::{MemoryOutputs, Report, configure};
+use engine::{MemoryOutputs, Needs, Report, go};
 use std::alloc::Global;
 
 /// Runs a source over this crew, and checks that the crew started nothing.
 fn run_over(
     alloc: Global,
-    source: &[u8],
+    needs: &Needs<'_>,
     templates: &[(Bytes, Bytes)],
     crew: &mut MemoryCrew,
     outputs: &mut MemoryOutputs,
 ) -> Result<Report, FilterFault>
+    requires source { IsRead (script_in needs.now) }
     requires crew { crew.old.account ≡ record { events = []; attempts = 0; failures = 0 } }
     requires outputs { outputs.old.receipt ≡ record { handed = []; failures = 0 } }
-    ensures ran { IfOk result (λ report. IsReported (judged_alone source.now templates.now) templates.now report outputs.new.receipt.handed) }
-    ensures refused { IfErr result (IsNotRun (judged_alone source.now templates.now)) }
+    ensures ran { IfOk result (λ report. IsReported (going needs.now None templates.now) templates.now report outputs.new.receipt.handed) }
+    ensures refused { IfErr result (IsNotRun (going needs.now None templates.now)) }
 {
-    let report = configure(alloc, source, &[], &[], None, templates, crew, outputs, 1)?;
+    let report = go(alloc, needs, None, templates, crew, outputs, 1)?;
     if crew.events().is_empty() {
         return Ok(report);
     }
@@ -30,18 +33,18 @@ fn run_over(
     Err(FilterFault::OutOfMemory)
 }
 
-/// Runs a source without arguments, environment and cache, with each start of a child refused. What it hands over is then in
-/// `outputs`.
+/// Runs a source without a cache, with each start of a child refused. What it hands over is then in `outputs`.
 pub(crate) fn run_alone(
     alloc: Global,
-    source: &[u8],
+    needs: &Needs<'_>,
     templates: &[(Bytes, Bytes)],
     outputs: &mut MemoryOutputs,
 ) -> Result<Report, FilterFault>
+    requires source { IsRead (script_in needs.now) }
     requires outputs { outputs.old.receipt ≡ record { handed = []; failures = 0 } }
-    ensures ran { IfOk result (λ report. IsReported (judged_alone source.now templates.now) templates.now report outputs.new.receipt.handed) }
-    ensures refused { IfErr result (IsNotRun (judged_alone source.now templates.now)) }
+    ensures ran { IfOk result (λ report. IsReported (going needs.now None templates.now) templates.now report outputs.new.receipt.handed) }
+    ensures refused { IfErr result (IsNotRun (going needs.now None templates.now)) }
 {
     let mut crew = MemoryCrew::new(alloc, Vec::new(alloc), Order::Oldest)?;
-    run_over(alloc, source, templates, &mut crew, outputs)
+    run_over(alloc, needs, templates, &mut crew, outputs)
 }

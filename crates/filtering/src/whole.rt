@@ -1,8 +1,11 @@
 //! The filter, which reads a source and a template, and writes the filled text.
 
-ghost use Rattle.std.specs.Prelude.{◌≡◌, ◌≢◌, ℕ, List, ◌+◌, ◌≤◌, length, drop, Ok, IfOk, IfErr, IfSome};
+ghost use Rattle.std.specs.Prelude.{◌≡◌, ◌≢◌, ℕ, List, ◌+◌, ◌≤◌, length, drop, None, IfOk, IfErr, IfSome};
 ghost use Rattle.std.specs.Io.KnownBytes.{Appends};
-ghost use Rattle.acparse.specs.Profile.{source_of};
+ghost use Rattle.engine.specs.Judged.{IsRead, going};
+ghost use Rattle.framing.specs.Needed.{script_in};
+ghost use Rattle.outputlist.specs.Output.{AreOutputs};
+ghost use Rattle.syntax.specs.Lists.{lists_of};
 ghost use Rattle.syntax.specs.Script.{script_of};
 ghost use Rattle.filtering.specs.Filtered.{IsRun, IsFiltered, IsInputFault, IsRefused, IsSourcePart};
 ghost use Rattle.filtering.specs.Handed as words;
@@ -14,7 +17,7 @@ use crate::result::{Written, taken};
 use crate::running::run_alone;
 use acparse::parse;
 use deftable::Bytes;
-use engine::MemoryOutputs;
+use engine::{Judged, MemoryOutputs, Needs, judge};
 use filter_input::{marker_place, read_input};
 use outputlist::Output;
 use std::alloc::{AllocError, Global};
@@ -55,38 +58,54 @@ fn templates_for(
     Ok(templates)
 }
 
-/// Returns what the filter takes of the run of a source with these templates.
+/// Returns what the filter takes of a run with these templates.
 fn run_with(
     alloc: Global,
-    text: &[u8],
+    needs: &Needs<'_>,
     templates: &[(Bytes, Bytes)],
 ) -> Result<Written, FilterFault>
-    ensures run { IfOk result (λ w. words.IsTaken (judged_alone text.now templates.now) templates.now w.text w.errors.items w.status) }
-    ensures refused { IfErr result (IsNotRun (judged_alone text.now templates.now)) }
+    requires source { IsRead (script_in needs.now) }
+    ensures run { IfOk result (λ w. words.IsTaken (going needs.now None templates.now) templates.now w.text w.errors.items w.status) }
+    ensures refused { IfErr result (IsNotRun (going needs.now None templates.now)) }
 {
     let mut outputs = MemoryOutputs::new(alloc, 0);
-    let report = run_alone(alloc, text, templates, &mut outputs)?;
+    let report = run_alone(alloc, needs, templates, &mut outputs)?;
     let written = taken(alloc, &report, outputs.handed())?;
     Ok(written)
 }
 
-/// Runs a source, given its statements too, with this template. The statements are dropped before the run, which reads its
-/// own.
-fn run_source(
+/// Judges a source without arguments and environment, and returns what the filter takes of its run with these templates.
+fn run_judged(
     alloc: Global,
-    text: &[u8],
-    source: Source,
-    template: &[u8],
+    source: &Source,
+    templates: &[(Bytes, Bytes)],
 ) -> Result<Written, FilterFault>
-    requires { source_of text.now ≡ Ok (script_of source) }
-    ensures run { IfOk result (λ w. IsRun text.now (script_of source) template.now w.text w.errors.items w.status) }
-    ensures refused { IfErr result (IsNotRun (judged_alone text.now (templates_of (script_of source) template.now))) }
+    requires source { IsRead (script_of source.now) }
+    requires outputs { AreOutputs (lists_of (script_of source.now)).files (lists_of (script_of source.now)).headers }
+    ensures run { IfOk result (λ w. words.IsTaken (judged_alone (script_of source.now) templates.now) templates.now w.text w.errors.items w.status) }
+    ensures refused { IfErr result (IsNotRun (judged_alone (script_of source.now) templates.now)) }
+{
+    match judge(alloc, source, &[], &[])? {
+        // Without arguments no text is shown.
+        Judged::Shows(report) => {
+            let written = taken(alloc, &report, &[])?;
+            Ok(written)
+        }
+        Judged::Runs(needs) => run_with(alloc, &needs, templates),
+    }
+}
+
+/// Runs a source with this template.
+fn run_source(alloc: Global, source: &Source, template: &[u8]) -> Result<Written, FilterFault>
+    requires source { IsRead (script_of source.now) }
+    requires outputs { AreOutputs (lists_of (script_of source.now)).files (lists_of (script_of source.now)).headers }
+    ensures run { IfOk result (λ w. IsRun (script_of source.now) template.now w.text w.errors.items w.status) }
+    ensures refused { IfErr result (IsNotRun (judged_alone (script_of source.now) (templates_of (script_of source.now) template.now))) }
 {
     let files = source.files().as_slice();
     let templates = templates_for(alloc, files, template)?;
-    drop(source);
     let given = templates.as_slice();
-    run_with(alloc, text, given)
+    run_judged(alloc, source, given)
 }
 
 /// Returns what the run of the input writes, or why it isn't run.
@@ -99,7 +118,7 @@ fn answer(alloc: Global, input: &[u8]) -> Result<Written, FilterFault>
     };
     let text = &input[..at];
     let source = parse(alloc, text)?;
-    run_source(alloc, text, source, after_marker(input, at))
+    run_source(alloc, &source, after_marker(input, at))
 }
 
 /// Returns the source that the filter runs: the text before the line `%%`. Without such a line it is the whole text.

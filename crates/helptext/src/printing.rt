@@ -1,6 +1,6 @@
 //! Prints the texts.
 
-ghost use Rattle.std.specs.Prelude.{◌≡◌, ◌⊎◌};
+ghost use Rattle.std.specs.Prelude.{◌≡◌, ◌⊎◌, ◌<◌, length, Ok};
 
 use crate::texts::{VERSION, general, text_of};
 use deftable::Bytes;
@@ -22,7 +22,9 @@ fn put_general<W: Write>(output: &mut W) -> io::Result<()> {
 
 /// Returns the exit status, and reports a text that could not be written.
 fn status_of<E: Write>(errors: &mut E, written: io::Result<()>) -> u8
-    ensures { (result ≡ 0) ⊎ (result ≡ 2) }
+    ensures status { (result ≡ 0) ⊎ (result ≡ 2) }
+    ensures written { written ≡ Ok tt → result ≡ 0 }
+    ensures silent { result ≡ 0 → errors.new ≡ errors.old }
 {
     match written {
         Ok(_) => 0,
@@ -32,7 +34,8 @@ fn status_of<E: Write>(errors: &mut E, written: io::Result<()>) -> u8
 
 /// Prints how a command is called.
 fn run_named<W: Write, E: Write>(name: &[u8], output: &mut W, errors: &mut E) -> u8
-    ensures { (result ≡ 0) ⊎ (result ≡ 2) }
+    ensures status { (result ≡ 0) ⊎ (result ≡ 2) }
+    ensures silent { result ≡ 0 → errors.new ≡ errors.old }
 {
     match text_of(name) {
         Some(text) => {
@@ -46,7 +49,9 @@ fn run_named<W: Write, E: Write>(name: &[u8], output: &mut W, errors: &mut E) ->
 /// Prints the commands or, if there is one word, how the command of this name is called. Returns the exit status: 0, or 2 if there
 /// is no such command, if there are further words, or if the text can't be written (own).
 pub fn run_help<W: Write, E: Write>(words: &[Bytes], output: &mut W, errors: &mut E) -> u8
-    ensures { (result ≡ 0) ⊎ (result ≡ 2) }
+    ensures status { (result ≡ 0) ⊎ (result ≡ 2) }
+    ensures further { 1 < length words.now → result ≡ 2 }
+    ensures silent { result ≡ 0 → errors.new ≡ errors.old }
 {
     match words.first() {
         None => {
@@ -64,7 +69,8 @@ pub fn run_help<W: Write, E: Write>(words: &[Bytes], output: &mut W, errors: &mu
 
 /// Prints the name and the version of the program. Returns the exit status: 0, or 2 if it can't be written (own).
 pub fn run_version<W: Write, E: Write>(output: &mut W, errors: &mut E) -> u8
-    ensures { (result ≡ 0) ⊎ (result ≡ 2) }
+    ensures status { (result ≡ 0) ⊎ (result ≡ 2) }
+    ensures silent { result ≡ 0 → errors.new ≡ errors.old }
 {
     let written = put_version(output);
     status_of(errors, written)

@@ -1,5 +1,5 @@
 -- A run is quiet only if one of its arguments is `--quiet`.
-use Rattle.std.proofs.Common.{◌≡◌, ℕ, ◌+◌, Bool, true, false, not, cond, List, [], ◌∷◌, Option, Some, None, Result, Ok, Err, refl, sym, ap, ◌∙◌}
+use Rattle.std.proofs.Common.{◌≡◌, ℕ, ◌+◌, Bool, true, false, not, List, [], ◌∷◌, Option, Some, None, Result, Ok, Err, refl, sym, ap, ◌∙◌}
 use Rattle.std.specs.Prelude.{◌||◌, IsTrue}
 use Rattle.std.specs.List.{list_any}
 use Rattle.commandline.specs.Arguments.{Argument, Flag, OptionValue, OptionName, FeatureValue, BadFeatureName, VariableValue, BadVariableName, Unrecognized, alone, and_then, awaited_by, given, read_argument}
@@ -12,7 +12,7 @@ use Rattle.commandline.specs.declared.fault.OptionFault.{OptionFault}
 use Rattle.deftable.specs.declared.note.Note.{Note}
 use Rattle.options.specs.Opening.{opening, opened_by, run_settings, set_by, setters}
 use Rattle.options.specs.Opening.{is_quiet as sets_quiet}
-use Rattle.invocation.specs.Quiet.{quiet_with}
+use Rattle.options.specs.declared.settings.Settings.{Settings}
 use Rattle.invocation.specs.Progress.{turns_quiet, is_quiet, IsNeverQuiet}
 
 -- One setting, or all of them, turn quiet on; an error doesn't.
@@ -94,17 +94,14 @@ quiet_given (value ∷ more) (Some target) i e =
 quiet_given (word ∷ more) None i e = by_reading (read_argument word) i more (quiet_given more None (i + 1)) (λ target. quiet_given more (Some target) (i + 1)) e
 
 -- The settings of a run are quiet if those of its arguments turn quiet on.
-quiet_chosen : (help version quiet : Bool) → cond (help || version) false quiet ≡ true → quiet ≡ true
-quiet_chosen true version quiet e = cc
-quiet_chosen false true quiet e = cc
-quiet_chosen false false quiet e = e
+abbrev quiet_with : Result Settings OptionFault → Bool
+quiet_with (Ok settings) = settings.quiet
+quiet_with (Err fault) = false
 
 quiet_run : (precious : List (List ℕ)) (vars : List (List ℕ × List ℕ)) (settings : List Setting) (notes : List Note)
     → quiet_with (Ok (run_settings precious vars settings notes)) ≡ true → list_any sets_quiet settings ≡ true
 unfolding run_settings
-quiet_run precious vars settings notes e =
-    let run = run_settings precious vars settings notes in
-    quiet_chosen run.help run.version (list_any sets_quiet settings) e
+quiet_run precious vars settings notes e = e
 
 quiet_noted : (precious : List (List ℕ)) (vars : List (List ℕ × List ℕ)) (settings : List Setting) (noted : Result (List Note) OptionFault)
     → quiet_with (noted >>= λ notes. Ok (run_settings precious vars settings notes)) ≡ true → list_any sets_quiet settings ≡ true
@@ -129,8 +126,8 @@ not_true false b h e = refl
 
 -- If no argument is `--quiet`, no run is quiet.
 pub never_quiet : (arguments : List (List ℕ)) → list_any is_quiet arguments ≡ false → IsNeverQuiet arguments
-never_quiet arguments none = λ features packages precious environment.
-    not_true _ _ (quiet_opening features packages precious arguments environment) none
+never_quiet arguments none = λ features packages precious environment settings is.
+    sym (ap quiet_with is) ∙ not_true _ _ (quiet_opening features packages precious arguments environment) none
 
 -- The same of the answer whether an argument is `--quiet`.
 pub shown_quiet : (arguments : List (List ℕ)) (has : Bool) → has ≡ list_any is_quiet arguments → IsTrue (not has) → IsNeverQuiet arguments

@@ -2,6 +2,5 @@ pub mod Calls
 pub mod Errors
 pub mod Lent
 pub mod Logged
-pub mod Quiet
 pub mod Progress
 pub mod Supplies

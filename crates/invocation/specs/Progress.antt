@@ -1,11 +1,11 @@
 -- Whether the program may show its progress. (own)
-use Rattle.std.specs.Prelude.{◌≡◌, ℕ, Bool, true, false, not, List}
+use Rattle.std.specs.Prelude.{◌≡◌, ℕ, Bool, true, false, not, List, Ok}
 use Rattle.std.specs.List.{list_any}
 use Rattle.commandline.specs.Arguments.{Argument, Flag, read_argument}
 use Rattle.commandline.specs.declared.argument.Switch.TheVariants.{Quiet}
 use Rattle.options.specs.Opening.{opening}
+use Rattle.options.specs.declared.settings.Settings.{Settings}
 use Rattle.invocation.specs.Calls.{Call, Configure}
-use Rattle.invocation.specs.Quiet.{quiet_with}
 
 -- The reading is that of `--quiet`, in any of its forms. (Autoconf's manual, "configure Invocation")
 abbrev pub turns_quiet : Argument → Bool
@@ -24,4 +24,5 @@ may_show_progress call = false
 -- No run with these arguments is quiet, whatever its source declares and its environment is. (own)
 abbrev pub IsNeverQuiet : List (List ℕ) → Type 0
 IsNeverQuiet arguments =
-    (features packages precious : List (List ℕ)) (environment : List (List ℕ × List ℕ)) → quiet_with (opening features packages precious arguments environment) ≡ false
+    (features packages precious : List (List ℕ)) (environment : List (List ℕ × List ℕ)) (settings : Settings)
+    → opening features packages precious arguments environment ≡ Ok settings → settings.quiet ≡ false

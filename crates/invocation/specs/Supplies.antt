@@ -1,14 +1,9 @@
 -- What a run is given besides its source: the texts of its cache and of its templates, as they are
 -- in files.
-use Rattle.std.specs.Prelude.{◌≡◌, ℕ, ◌||◌, Bool, false, List, [], ◌∷◌, ◌++◌, Option, Some, None, Result, Ok, Err, IfSome, All, if◌then◌else◌}
+use Rattle.std.specs.Prelude.{◌≡◌, ℕ, Bool, List, [], ◌∷◌, ◌++◌, Option, Some, None, Result, Ok, Err, IfSome, All, if◌then◌else◌}
 use Rattle.std.specs.List.{Contains}
-use Rattle.acparse.specs.Profile.{source_of}
-use Rattle.acstatement.specs.declared.fault.ParseFault.{ParseFault}
-use Rattle.commandline.specs.declared.fault.OptionFault.{OptionFault}
 use Rattle.disk.specs.Known.{Known}
 use Rattle.diskfiles.specs.Reading.{IsReadLimited, IsReadWhole}
-use Rattle.options.specs.Opening.{opening}
-use Rattle.options.specs.declared.settings.Settings.{Settings}
 use Rattle.outputlist.specs.declared.output.Output.{Output}
 use Rattle.status_record.specs.Reading.{record_in}
 use Rattle.status_record.specs.declared.fault.RecordFault.{RecordFault}
@@ -65,23 +60,6 @@ ReadsCache files (Some name) cache = ReadsLimited files name cache
 pub record AreGiven (files : Option Known) (script : Script) (cache_name : Option (List ℕ)) (srcdir : List ℕ) (no_create : Bool) (cache : Option (List ℕ)) (templates : List (List ℕ × List ℕ)) : Type 0 where
   pub cached : ReadsCache files cache_name cache
   pub filled : AreTemplates files srcdir (needed no_create script) templates
-
--- The same, if the run opens with these settings. If a text is to be shown, it is given nothing.
--- (own)
-abbrev pub GivenWith : Option Known → Script → Result Settings OptionFault → Option (List ℕ) → List (List ℕ × List ℕ) → Type 0
-GivenWith files script (Ok settings) cache templates =
-    (settings.help || settings.version) ≡ false → AreGiven files script settings.cache_name settings.srcdir settings.no_create cache templates
-GivenWith files script (Err f) cache templates = Unit {0}
-
--- The same for this source. (own)
-abbrev pub GivenFor : Option Known → List (List ℕ) → List (List ℕ × List ℕ) → Result Script ParseFault → Option (List ℕ) → List (List ℕ × List ℕ) → Type 0
-GivenFor files arguments environment (Ok script) cache templates =
-    GivenWith files script (opening (lists_of script).features (lists_of script).packages (lists_of script).precious arguments environment) cache templates
-GivenFor files arguments environment (Err f) cache templates = Unit {0}
-
--- The same for the text of a source. (own)
-abbrev pub GivenIn : Option Known → List ℕ → List (List ℕ) → List (List ℕ × List ℕ) → Option (List ℕ) → List (List ℕ × List ℕ) → Type 0
-GivenIn files source arguments environment cache templates = GivenFor files arguments environment (source_of source) cache templates
 
 -- What the outputs of a record are made of, as it is in files. If the text is no record, nothing is
 -- said. (own)

@@ -2,11 +2,10 @@
 
 ghost use Rattle.std.specs.Prelude.{◌≡◌};
 
-use crate::supplies::precious_name;
 use options::PreciousFault;
-use std::alloc::Global;
 use std::fmt;
 use std::io::{self, Write};
+use syntax::Source;
 
 /// The exit status after an error.
 pub const FAULT: u8 = 2;
@@ -59,42 +58,27 @@ pub fn tell_put<E: Write>(errors: &mut E, number: u64) -> u8
     FAULT
 }
 
-/// Reports a precious variable of this number, with the kind of its fault.
-fn tell_variable<E: Write>(
-    alloc: Global,
-    text: &[u8],
-    errors: &mut E,
-    kind: &str,
-    number: u64,
-) -> u8
-    ensures { result ≡ 2 }
-{
-    match precious_name(alloc, text, number) {
-        Ok(Some(name)) => tell_named(errors, &kind, name.as_slice()),
-        Ok(None) => tell_named(errors, &kind, b""),
-        Err(_) => tell_memory(errors),
+/// Returns the precious variable of this number, counted from 1, or an empty text if the source declares fewer.
+fn precious_name(source: &Source, number: u64) -> &[u8] {
+    match source
+        .precious()
+        .names()
+        .get((number as usize).saturating_sub(1))
+    {
+        Some(name) => name.as_slice(),
+        None => b"",
     }
 }
 
-/// Reports what is wrong with a precious variable of the source with this text: its kind from 1 to 3, and its name.
-pub fn tell_precious<E: Write>(
-    alloc: Global,
-    text: &[u8],
-    errors: &mut E,
-    fault: PreciousFault,
-) -> u8
+/// Reports what is wrong with a precious variable of this source: its kind from 1 to 3, and its name.
+pub fn tell_precious<E: Write>(errors: &mut E, source: &Source, fault: PreciousFault) -> u8
     ensures { result ≡ 2 }
 {
-    match fault {
-        PreciousFault::WasSet(number) => {
-            tell_variable(alloc, text, errors, "precious 1", number)
-        }
-        PreciousFault::WasUnset(number) => {
-            tell_variable(alloc, text, errors, "precious 2", number)
-        }
-        PreciousFault::Changed(number) => {
-            tell_variable(alloc, text, errors, "precious 3", number)
-        }
-        PreciousFault::OutOfMemory => tell_memory(errors),
-    }
+    let (kind, number) = match fault {
+        PreciousFault::WasSet(number) => ("precious 1", number),
+        PreciousFault::WasUnset(number) => ("precious 2", number),
+        PreciousFault::Changed(number) => ("precious 3", number),
+        PreciousFault::OutOfMemory => ("memory", 0),
+    };
+    tell_named(errors, &kind, precious_name(source, number))
 }

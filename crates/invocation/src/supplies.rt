@@ -1,48 +1,29 @@
 //! What a run is given besides its source: the texts of its cache and of its templates.
 
-ghost use Rattle.std.specs.Prelude.{◌≡◌, ℕ, List, [], ◌∷◌, ◌++◌, ◌||◌, false, None, Option, Ok, IfOk, OnOk, IfSome, IsTrue, option_copied, bytes_eq};
+ghost use Rattle.std.specs.Prelude.{◌≡◌, ℕ, List, [], ◌∷◌, ◌++◌, Option, IfOk, OnOk, option_copied, bytes_eq};
 ghost use Rattle.std.specs.List.{list_any};
-ghost use Rattle.diskfiles.specs.Held.{IsUnused, GuardsMore};
-ghost use Rattle.invocation.specs.Quiet as words;
+ghost use Rattle.diskfiles.specs.Held.{GuardsMore, IsUnused};
 ghost use Rattle.invocation.specs.Supplies as given;
 ghost use Rattle.outputlist.specs.declared.output.Output as lists;
-ghost use Rattle.status_record.specs.Reading.{record_in};
 ghost use Rattle.syntax.specs.Script.{script_of};
 
 use crate::printing::LOG;
-use acparse::{ParseFault, parse};
 use deftable::Bytes;
 use disk::Disk;
 use diskfiles::{FileOutputs, path_in, read_limited, read_text};
-use options::{OptionFault, Settings, read_args};
+use options::Settings;
 use outputlist::Output;
-use status_record::{Record, RecordFault, read_record};
+use status_record::Record;
 use std::alloc::{AllocError, Global};
 use syntax::Source;
 
-/// What a run is given besides its source, arguments and environment.
+/// What a run reads once its source is judged.
 #[derive(Drop)]
 pub struct Supplies {
-    /// If true, nothing is printed on standard output.
-    pub quiet: bool,
-    /// The name of the cache, which is empty if none is named.
-    pub cache_name: Bytes,
     /// The text of the cache, if one is named and there.
     pub cache: Option<Bytes>,
     /// The templates that are there, by their names.
     pub templates: Vec<(Bytes, Bytes)>,
-}
-
-/// Returns supplies of nothing.
-fn nothing(alloc: Global) -> Supplies
-    ensures { result.quiet ≡ false }
-{
-    Supplies {
-        quiet: false,
-        cache_name: Bytes::new(alloc),
-        cache: None,
-        templates: Vec::new(alloc),
-    }
 }
 
 /// Reads the text of a template, and appends it under its name. Does nothing if it can't be read.
@@ -109,8 +90,12 @@ fn add_templates<D: Disk>(
     Ok(())
 }
 
-/// Reads the templates of files and headers.
-fn read_templates<D: Disk>(
+/// Reads the templates of files and headers, each once, with its name. One that can't be read is left out.
+///
+/// # Errors
+///
+/// Fails only if memory runs out.
+pub fn read_templates<D: Disk>(
     alloc: Global,
     disk: &D,
     srcdir: &[u8],
@@ -123,14 +108,6 @@ fn read_templates<D: Disk>(
     add_templates(alloc, disk, srcdir, outputs, &mut templates)?;
     add_templates(alloc, disk, srcdir, headers, &mut templates)?;
     Ok(templates)
-}
-
-/// Returns the name of the cache, or an empty text if none is named.
-fn name_of_cache(alloc: Global, name: Option<&Bytes>) -> Result<Bytes, AllocError> {
-    match name {
-        Some(name) => name.copy(alloc),
-        None => Ok(Bytes::new(alloc)),
-    }
 }
 
 /// Reads the cache, if one is named.
@@ -169,50 +146,7 @@ fn wanted_templates<D: Disk>(
     )
 }
 
-/// Reads what a run with these settings is given. If a text is to be shown, nothing is read, and it is shown also with `-q`.
-fn settled_supplies<D: Disk>(
-    alloc: Global,
-    disk: &D,
-    source: &Source,
-    settings: &Settings,
-) -> Result<Supplies, AllocError>
-    ensures quiet { IfOk result (λ s. s.quiet ≡ words.quiet_with (Ok settings.now)) }
-    ensures given { IfOk result (λ s. (settings.now.help || settings.now.version) ≡ false → given.AreGiven (D.known disk.now)
-        (script_of source.now) settings.now.cache_name settings.now.srcdir settings.now.no_create s.cache s.templates.items) }
-{
-    if settings.help || settings.version {
-        return Ok(nothing(alloc));
-    }
-    let cache_name = name_of_cache(alloc, settings.cache_name.as_ref())?;
-    let cache = read_cache(alloc, disk, settings.cache_name.as_ref())?;
-    let templates = wanted_templates(alloc, disk, source, settings)?;
-    Ok(Supplies {
-        quiet: settings.quiet,
-        cache_name,
-        cache,
-        templates,
-    })
-}
-
-/// Reads what a run of this source is given.
-fn parsed_supplies<D: Disk>(
-    alloc: Global,
-    disk: &D,
-    source: &Source,
-    args: &[Bytes],
-    env: &[(Bytes, Bytes)],
-) -> Result<Supplies, AllocError>
-    ensures quiet { IfOk result (λ s. s.quiet ≡ words.quiet_for args.now env.now (Ok (script_of source.now))) }
-    ensures given { IfOk result (λ s. given.GivenFor (D.known disk.now) args.now env.now (Ok (script_of source.now)) s.cache s.templates.items) }
-{
-    match read_args(alloc, source, args, env) {
-        Ok(settings) => settled_supplies(alloc, disk, source, &settings),
-        Err(OptionFault::OutOfMemory) => Err(AllocError),
-        Err(_) => Ok(nothing(alloc)),
-    }
-}
-
-/// Reads what a run is given besides its source, arguments and environment. If one of these has an error, nothing is read.
+/// Reads the cache and the templates that a run with these settings is given.
 ///
 /// A file that can't be read counts as not there: who runs the source then names it.
 ///
@@ -222,70 +156,38 @@ fn parsed_supplies<D: Disk>(
 pub fn read_supplies<D: Disk>(
     alloc: Global,
     disk: &D,
-    text: &[u8],
-    args: &[Bytes],
-    env: &[(Bytes, Bytes)],
+    source: &Source,
+    settings: &Settings,
 ) -> Result<Supplies, AllocError>
-    ensures quiet { IfOk result (λ s. s.quiet ≡ words.quiet_in text.now args.now env.now) }
-    ensures given { IfOk result (λ s. given.GivenIn (D.known disk.now) text.now args.now env.now s.cache s.templates.items) }
+    ensures { IfOk result (λ s. given.AreGiven (D.known disk.now) (script_of source.now) settings.now.cache_name settings.now.srcdir settings.now.no_create
+        s.cache s.templates.items) }
 {
-    match parse(alloc, text) {
-        Ok(source) => parsed_supplies(alloc, disk, &source, args, env),
-        Err(ParseFault::OutOfMemory) => Err(AllocError),
-        Err(_) => Ok(nothing(alloc)),
-    }
+    let cache = read_cache(alloc, disk, settings.cache_name.as_ref())?;
+    let templates = wanted_templates(alloc, disk, source, settings)?;
+    Ok(Supplies { cache, templates })
 }
 
-/// What the outputs of a record are made of, besides the record.
-#[derive(Drop)]
-pub struct RecordSupplies {
-    /// The directory of the sources.
-    pub srcdir: Bytes,
-    /// The templates that are there, by their names.
-    pub templates: Vec<(Bytes, Bytes)>,
-}
-
-/// Reads the templates of a record, each once, with its name. If the text is no record, nothing is read.
+/// Reads the templates of a record, each once, with its name.
 ///
 /// A template that can't be read is left out, so who makes its output finds it missing.
 ///
 /// # Errors
 ///
 /// Fails only if memory runs out.
-pub fn record_supplies<D: Disk>(
+pub fn record_templates<D: Disk>(
     alloc: Global,
     disk: &D,
-    text: &[u8],
-) -> Result<RecordSupplies, AllocError>
-    ensures { IfOk result (λ s. given.GivenAgain (D.known disk.now) (record_in text.now) s.templates.items) }
+    recorded: &Record,
+) -> Result<Vec<(Bytes, Bytes)>, AllocError>
+    ensures { IfOk result (λ templates. given.AreTemplates (D.known disk.now) recorded.now.srcdir (recorded.now.files ++ recorded.now.headers) templates.items) }
 {
-    match read_record(alloc, text) {
-        Ok(record) => supplies_of(alloc, disk, &record),
-        Err(RecordFault::OutOfMemory) => Err(AllocError),
-        Err(_) => Ok(RecordSupplies {
-            srcdir: Bytes::new(alloc),
-            templates: Vec::new(alloc),
-        }),
-    }
-}
-
-/// Reads the templates of this record.
-fn supplies_of<D: Disk>(
-    alloc: Global,
-    disk: &D,
-    kept: &Record,
-) -> Result<RecordSupplies, AllocError>
-    ensures { IfOk result (λ s. given.AreTemplates (D.known disk.now) kept.now.srcdir (kept.now.files ++ kept.now.headers) s.templates.items) }
-{
-    let srcdir = kept.srcdir.copy(alloc)?;
-    let templates = read_templates(
+    read_templates(
         alloc,
         disk,
-        kept.srcdir.as_slice(),
-        kept.files.as_slice(),
-        kept.headers.as_slice(),
-    )?;
-    Ok(RecordSupplies { srcdir, templates })
+        recorded.srcdir.as_slice(),
+        recorded.files.as_slice(),
+        recorded.headers.as_slice(),
+    )
 }
 
 /// Has puts to a file of the source directory refused.
@@ -325,29 +227,4 @@ pub fn keep_inputs<D: Disk>(
         keep_in(alloc, outputs, srcdir, template.0.as_slice())?;
     }
     Ok(())
-}
-
-/// Returns the name of the precious variable of this number, counted from 1.
-pub(crate) fn precious_name(
-    alloc: Global,
-    text: &[u8],
-    number: u64,
-) -> Result<Option<Bytes>, AllocError> {
-    match parse(alloc, text) {
-        Ok(source) => name_at(alloc, &source, number),
-        Err(ParseFault::OutOfMemory) => Err(AllocError),
-        Err(_) => Ok(None),
-    }
-}
-
-/// Returns the precious variable of this number.
-fn name_at(alloc: Global, source: &Source, number: u64) -> Result<Option<Bytes>, AllocError> {
-    match source
-        .precious()
-        .names()
-        .get((number as usize).saturating_sub(1))
-    {
-        Some(name) => Ok(Some(Bytes::from_slice(alloc, name.as_slice())?)),
-        None => Ok(None),
-    }
 }

@@ -104,15 +104,15 @@ fn lint_all<D: Disk, R: Read, W: Write, E: Write>(
     disk: &D,
     form: Form,
     words: &[Bytes],
-    reads: bool,
     input: &mut R,
     output: &mut W,
     errors: &mut E,
 ) -> u8
-    ensures input { reads ≡ false → input.new ≡ input.old }
+    ensures input { list_any calls.is_input words.now ≡ false → input.new ≡ input.old }
     ensures status { result ≤ 2 }
     ensures silent { result ≢ 2 → errors.new ≡ errors.old }
 {
+    let reads = has_input(words);
     if words.iter().all(|word| is_option(word.as_slice())) {
         let found = page_for(alloc, disk, form, SOURCE, false, input);
         return put_found(SOURCE, found, output, errors);
@@ -159,8 +159,7 @@ pub fn run_lint<D: Disk, R: Read, W: Write, E: Write>(
         is_json: words.iter().any(|word| word.as_slice() == JSON),
         is_coloured,
     };
-    let reads = has_input(words);
-    lint_all(alloc, disk, form, words, reads, input, output, errors)
+    lint_all(alloc, disk, form, words, input, output, errors)
 }
 
 /// Returns whether the entry is a NO_COLOR that isn't empty.

@@ -18,22 +18,6 @@ pub(crate) struct Found {
     pub(crate) sheets: Sheets,
 }
 
-/// Returns the templates of a source that are there, and appends an error for each that can't be read.
-fn sheets_of<D: Disk>(
-    alloc: Global,
-    disk: &D,
-    linted: &Linted,
-    source: &Source,
-    found: &mut Vec<Finding>,
-) -> Result<Sheets, AllocError> {
-    let of_files = read_sheets(alloc, disk, linted, source.files().as_slice(), found)?;
-    let of_headers = read_sheets(alloc, disk, linted, source.headers().as_slice(), found)?;
-    Ok(Sheets {
-        files: of_files,
-        headers: of_headers,
-    })
-}
-
 /// Appends what is found in a source that is read and in its templates, and returns the templates.
 fn add_of_read<D: Disk>(
     alloc: Global,
@@ -43,7 +27,7 @@ fn add_of_read<D: Disk>(
     source: &Source,
     found: &mut Vec<Finding>,
 ) -> Result<Sheets, AllocError> {
-    let sheets = sheets_of(alloc, disk, linted, source, found)?;
+    let sheets = read_sheets(alloc, disk, linted, source, found)?;
     add_warnings(alloc, linted.text.as_slice(), calls, source, &sheets, found)?;
     Ok(sheets)
 }

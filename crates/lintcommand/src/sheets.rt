@@ -4,10 +4,12 @@ use crate::reading::Linted;
 use crate::templates::missing;
 use deftable::Bytes;
 use disk::Disk;
-use diskfiles::{path_in, read_text};
+use diskfiles::path_in;
 use findings::Finding;
+use invocation::read_templates;
 use outputlist::Output;
 use std::alloc::{AllocError, Global};
+use syntax::Source;
 
 /// A file with findings: what it is called, and its text.
 #[derive(Drop)]
@@ -16,75 +18,128 @@ pub(crate) struct Sheet {
     pub(crate) text: Bytes,
 }
 
-/// The templates that are there, each once: those of files, and those of headers. Findings count them from 1, in this order.
+/// The templates that are there. Findings count them from 1: those of files, each once, and then those of headers.
 #[derive(Drop)]
 pub(crate) struct Sheets {
-    pub(crate) files: Vec<Sheet>,
-    pub(crate) headers: Vec<Sheet>,
+    read: Vec<Sheet>,
+    files: Vec<usize>,
+    headers: Vec<usize>,
 }
 
 impl Sheets {
     /// Returns no templates.
     pub(crate) fn none(alloc: Global) -> Sheets {
         Sheets {
+            read: Vec::new(alloc),
             files: Vec::new(alloc),
             headers: Vec::new(alloc),
         }
     }
 
-    /// Returns the template of this number, counted from 1.
-    pub(crate) fn get(&self, number: usize) -> Option<&Sheet> {
+    /// Returns the place of the template of this number, counted from 1.
+    fn place(&self, number: usize) -> Option<&usize> {
         let index = number.checked_sub(1)?;
         match index.checked_sub(self.files.len()) {
             Some(rest) => self.headers.get(rest),
             None => self.files.get(index),
         }
     }
+
+    /// Returns the template of this number, counted from 1.
+    pub(crate) fn get(&self, number: usize) -> Option<&Sheet> {
+        let place = self.place(number)?;
+        self.read.get(*place)
+    }
+
+    /// Returns the number of the templates of files.
+    pub(crate) fn files(&self) -> usize {
+        self.files.len()
+    }
+
+    /// Returns the number of all templates.
+    pub(crate) fn count(&self) -> usize {
+        self.files.len().saturating_add(self.headers.len())
+    }
 }
 
-/// Returns whether a template of this name was read.
-fn has(sheets: &[Sheet], name: &[u8]) -> bool {
-    sheets.iter().any(|sheet| sheet.name.as_slice() == name)
-}
-
-/// Reads the template of an output, unless it was read before, and appends an error if it can't be read.
-fn read_sheet<D: Disk>(
+/// Appends the place of the template of an output, unless it was appended before, or an error if it was not read.
+fn add_place(
     alloc: Global,
-    disk: &D,
     linted: &Linted,
+    templates: &[(Bytes, Bytes)],
     output: &Output,
-    sheets: &mut Vec<Sheet>,
+    places: &mut Vec<usize>,
     found: &mut Vec<Finding>,
 ) -> Result<(), AllocError> {
-    let name = path_in(
-        alloc,
-        linted.directory.as_slice(),
-        output.template.as_slice(),
-    )?;
-    if has(sheets.as_slice(), name.as_slice()) {
-        return Ok(());
-    }
-    match read_text(alloc, disk, name.as_slice())? {
-        Some(text) => sheets.push(Sheet { name, text })?,
+    let name = output.template.as_slice();
+    match templates
+        .iter()
+        .position(|template| template.0.as_slice() == name)
+    {
+        Some(place) => {
+            if !places.iter().any(|other| *other == place) {
+                places.push(place)?;
+            }
+            Ok(())
+        }
         None => {
+            let path = path_in(alloc, linted.directory.as_slice(), name)?;
             let text = linted.text.as_slice();
-            found.push(missing(alloc, text, output.name.as_slice(), name.as_slice())?)?;
+            let error = missing(alloc, text, output.name.as_slice(), path.as_slice())?;
+            found.push(error)?;
+            Ok(())
         }
     }
-    Ok(())
 }
 
-/// Returns the templates of outputs that are there, and appends an error for each output whose template can't be read.
+/// Returns the places of the templates of outputs among those that were read, and appends an error for each output whose template
+/// was not.
+fn places_of(
+    alloc: Global,
+    linted: &Linted,
+    templates: &[(Bytes, Bytes)],
+    outputs: &[Output],
+    found: &mut Vec<Finding>,
+) -> Result<Vec<usize>, AllocError> {
+    let mut places = Vec::new(alloc);
+    for output in outputs {
+        add_place(alloc, linted, templates, output, &mut places, found)?;
+    }
+    Ok(places)
+}
+
+/// Returns templates as files with findings.
+fn sheets_in(
+    alloc: Global,
+    directory: &[u8],
+    templates: Vec<(Bytes, Bytes)>,
+) -> Result<Vec<Sheet>, AllocError> {
+    let mut sheets = Vec::new(alloc);
+    for (name, text) in templates {
+        let name = path_in(alloc, directory, name.as_slice())?;
+        sheets.push(Sheet { name, text })?;
+    }
+    Ok(sheets)
+}
+
+/// Reads the templates of a source, each once, and appends an error for each output whose template can't be read.
 pub(crate) fn read_sheets<D: Disk>(
     alloc: Global,
     disk: &D,
     linted: &Linted,
-    outputs: &[Output],
+    source: &Source,
     found: &mut Vec<Finding>,
-) -> Result<Vec<Sheet>, AllocError> {
-    let mut sheets = Vec::new(alloc);
-    for output in outputs {
-        read_sheet(alloc, disk, linted, output, &mut sheets, found)?;
-    }
-    Ok(sheets)
+) -> Result<Sheets, AllocError> {
+    let directory = linted.directory.as_slice();
+    let of_files = source.files().as_slice();
+    let of_headers = source.headers().as_slice();
+    let templates = read_templates(alloc, disk, directory, of_files, of_headers)?;
+    let files = places_of(alloc, linted, templates.as_slice(), of_files, found)?;
+    let headers = places_of(alloc, linted, templates.as_slice(), of_headers, found)?;
+    let read = sheets_in(alloc, directory, templates)?;
+    Ok(Sheets {
+        read,
+        files,
+        headers,
+    })
 }

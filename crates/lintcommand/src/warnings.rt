@@ -1,6 +1,6 @@
 //! The warnings about a source and its templates.
 
-use crate::sheets::{Sheet, Sheets};
+use crate::sheets::Sheets;
 use deftable::SubstList;
 use findings::Finding;
 use sourcecalls::CallAt;
@@ -9,23 +9,43 @@ use std::alloc::{AllocError, Global};
 use syntax::Source;
 use templatewarnings::{Given, add_listed, warn_of_file, warn_of_header, warn_of_unlisted};
 
-/// Appends the warnings about templates, which are counted from 1: those of files, and then those of headers.
+/// Appends the warnings about the template of this number.
+fn add_of_sheet(
+    alloc: Global,
+    given: &Given,
+    sheets: &Sheets,
+    number: usize,
+    found: &mut Vec<Finding>,
+) -> Result<(), AllocError> {
+    let Some(sheet) = sheets.get(number) else {
+        return Ok(());
+    };
+    let text = sheet.text.as_slice();
+    if number <= sheets.files() {
+        return warn_of_file(alloc, given, number, text, found);
+    }
+    warn_of_header(alloc, given, number, text, found)
+}
+
+/// Appends the warnings about templates.
 fn add_of_sheets(
     alloc: Global,
     given: &Given,
     sheets: &Sheets,
     found: &mut Vec<Finding>,
 ) -> Result<(), AllocError> {
-    let mut number: usize = 0;
-    for sheet in &sheets.files {
-        number = number.saturating_add(1);
-        warn_of_file(alloc, given, number, sheet.text.as_slice(), found)?;
-    }
-    for sheet in &sheets.headers {
-        number = number.saturating_add(1);
-        warn_of_header(alloc, given, number, sheet.text.as_slice(), found)?;
+    for index in 0..sheets.count() {
+        add_of_sheet(alloc, given, sheets, index.saturating_add(1), found)?;
     }
     Ok(())
+}
+
+/// Adds what the template of this number lists.
+fn add_listed_in(list: &mut SubstList, sheets: &Sheets, number: usize) -> Result<(), AllocError> {
+    match sheets.get(number) {
+        Some(sheet) => add_listed(list, sheet.text.as_slice()),
+        None => Ok(()),
+    }
 }
 
 /// Appends the warnings about definitions that no template of a header has, if there is such a template.
@@ -33,15 +53,15 @@ fn add_unlisted(
     alloc: Global,
     given: &Given,
     text: &[u8],
-    headers: &[Sheet],
+    sheets: &Sheets,
     found: &mut Vec<Finding>,
 ) -> Result<(), AllocError> {
-    if headers.is_empty() {
+    if sheets.count() == sheets.files() {
         return Ok(());
     }
     let mut listed = SubstList::new(alloc);
-    for sheet in headers {
-        add_listed(&mut listed, sheet.text.as_slice())?;
+    for index in sheets.files()..sheets.count() {
+        add_listed_in(&mut listed, sheets, index.saturating_add(1))?;
     }
     warn_of_unlisted(alloc, given, text, &listed, found)
 }
@@ -59,5 +79,5 @@ pub(crate) fn add_warnings(
     warn_of_source(alloc, text, calls, source, found)?;
     warn_of_compiler(alloc, text, calls, found)?;
     add_of_sheets(alloc, &given, sheets, found)?;
-    add_unlisted(alloc, &given, text, sheets.headers.as_slice(), found)
+    add_unlisted(alloc, &given, text, sheets, found)
 }

@@ -1,7 +1,7 @@
 -- What is said of a call of one kind, for a call of another kind.
-use Rattle.std.specs.Prelude.{◌≡◌, ℕ, List, refl}
-use Rattle.std.proofs.Common.{◌≢◌, ◌≤◌, arith, subst}
-use Rattle.invocation.specs.Calls.{Call, Why, Help, IfFilter, IfStandIn, IfConfigure, IfStatus, IfRecheck, IfWhy, IfHelp}
+use Rattle.std.specs.Prelude.{◌≡◌, ◌⊎◌, ℕ, List, length, refl}
+use Rattle.std.proofs.Common.{◌≢◌, ◌≤◌, ◌<◌, ◌∙◌, arith, inr, subst, sym}
+use Rattle.invocation.specs.Calls.{Call, Why, Help, Lint, IfFilter, IfStandIn, IfConfigure, IfStatus, IfRecheck, IfWhy, IfHelp, IfLint}
 use Rattle.invocation.specs.Lent.{call_seen}
 use Rattle.invocation.specs.declared.call.Call as lent
 use Rattle.invocation.specs.declared.call.Call.TheVariants as lends
@@ -30,6 +30,13 @@ pub failed_why : (n : ℕ) (P : Type 0) (seen : Call) → n ≡ 2 → IfWhy seen
 failed_why n P (Why words) e = (omega (arith, e), λ ne. absurd (ne e))
 failed_why n P call e = tt
 
-pub any_help : (seen : Call) (P : List (List ℕ) → Type 0) → ((words : List (List ℕ)) → P words) → IfHelp seen P
-any_help (Help words) P p = p words
-any_help call P p = tt
+pub failed_lint : (n : ℕ) (P : Type 0) (seen : Call) → n ≡ 2 → IfLint seen (λ words. (n ≤ 2) × (n ≢ 2 → P))
+failed_lint n P (Lint words) e = (omega (arith, e), λ ne. absurd (ne e))
+failed_lint n P call e = tt
+
+pub failed_help : (n : ℕ) (P : Type 0) (seen : Call) → n ≡ 2 → IfHelp seen (λ words. ((n ≡ 0) ⊎ (n ≡ 2)) × (1 < length words → n ≡ 2) × (n ≡ 0 → P))
+failed_help n P (Help words) e = (inr e, λ more. e, λ z. absurd (not_both n z e))
+  where
+    not_both : (n : ℕ) → n ≡ 0 → n ≡ 2 → ⊥
+    not_both n z e = let c : 0 ≡ 2 = sym z ∙ e in cc
+failed_help n P call e = tt

@@ -20,7 +20,6 @@ fn why_of(is_asked: bool, text: &[u8]) -> Why<'_> {
         path: b"standard input",
         text,
         args: &[],
-        env: &[],
     }
 }
 

@@ -1,13 +1,13 @@
 //! The program's commands, over its streams, its files and a crew.
 
-ghost use Rattle.std.specs.Prelude.{◌≡◌, false, ◌∷◌, ◌≢◌, ◌⊎◌, ◌≤◌, ℕ, List, [], None, IfSome};
+ghost use Rattle.std.specs.Prelude.{◌≡◌, false, ◌∷◌, ◌≢◌, ◌⊎◌, ◌≤◌, ◌<◌, ℕ, List, [], length, None, IfSome};
 ghost use Rattle.std.specs.Io.KnownBytes.{Appends};
 ghost use Rattle.commands.specs.MadeAgain.{IsMadeAgain};
 ghost use Rattle.configuring.specs.Configures.{IsConfigured, IsRechecked, MayRun};
 ghost use Rattle.crew_trait.specs.Events.{IsIdle};
 ghost use Rattle.diskfiles.specs.Held.{fresh};
 ghost use Rattle.filtering.specs.Filtered.{IsFiltered};
-ghost use Rattle.invocation.specs.Calls.{call_of, Unknown, IfFilter, IfStandIn, IfConfigure, IfStatus, IfRecheck, IfWhy, IfHelp, HasNoRun, HasNoInput, HasNoOutput};
+ghost use Rattle.invocation.specs.Calls.{call_of, Unknown, Version, IfFilter, IfStandIn, IfConfigure, IfStatus, IfRecheck, IfWhy, IfHelp, IfLint, HasNoRun, HasNoInput, HasNoOutput};
 ghost use Rattle.invocation.specs.Errors.{AreTold};
 ghost use Rattle.runner.specs.Puts.{HasNoPuts};
 ghost use Rattle.standin.specs.Standin.{IsAnswered};
@@ -23,7 +23,7 @@ use diskfiles::FileOutputs;
 use explaining::asks_why;
 use faultlines::explain_usage;
 use helptext::{run_help, run_version};
-use invocation::{Call, FAULT, call_of, tell_usage};
+use invocation::{Call, FAULT, Terminal, call_of, tell_usage};
 use lintcommand::{may_colour, run_lint};
 use portcommand::run_port;
 use shown::Shown;
@@ -46,29 +46,32 @@ fn tell_unknown<E: Write>(alloc: Global, is_asked: bool, words: &[Bytes], errors
 /// Runs the command that the words name, if it is one that explains something, and returns its exit status. Any other words are
 /// reported as no command.
 fn explain<F: Files, D: Disk, R: Read, W: Write, E: Write>(
-    alloc: Global,
+    terminal: &mut Terminal<'_, D, R, W, E>,
     files: &F,
-    disk: &D,
     words: &[Bytes],
     has_colours: bool,
-    is_asked: bool,
-    input: &mut R,
-    output: &mut W,
-    errors: &mut E,
 ) -> u8
-    ensures explained { IfWhy (call_of words.now) (λ asked. (result ≤ 2) × (result ≢ 2 → errors.new ≡ errors.old)) }
-    ensures help { IfHelp (call_of words.now) (λ asked. (result ≡ 0) ⊎ (result ≡ 2)) }
+    ensures explained { IfWhy (call_of words.now) (λ asked. (result ≤ 2) × (result ≢ 2 → terminal.new.errors ≡ terminal.old.errors)) }
+    ensures help { IfHelp (call_of words.now) (λ asked. ((result ≡ 0) ⊎ (result ≡ 2)) × (1 < length asked → result ≡ 2) × (result ≡ 0 → terminal.new.errors ≡ terminal.old.errors)) }
+    ensures version { call_of words.now ≡ Version → ((result ≡ 0) ⊎ (result ≡ 2)) × (result ≡ 0 → terminal.new.errors ≡ terminal.old.errors) }
+    ensures linted { IfLint (call_of words.now) (λ asked. (result ≤ 2) × (result ≢ 2 → terminal.new.errors ≡ terminal.old.errors)) }
     ensures unknown { call_of words.now ≡ Unknown → result ≡ 2 }
-    ensures input { HasNoInput (call_of words.now) → input.new ≡ input.old }
-    ensures output { HasNoOutput (call_of words.now) → output.new ≡ output.old }
+    ensures input { HasNoInput (call_of words.now) → terminal.new.input ≡ terminal.old.input }
+    ensures output { HasNoOutput (call_of words.now) → terminal.new.output ≡ terminal.old.output }
+    ensures files { terminal.new.outputs ≡ terminal.old.outputs }
 {
+    let alloc = terminal.alloc;
+    let disk = terminal.outputs.disk();
+    let input = &mut terminal.input;
+    let output = &mut terminal.output;
+    let errors = &mut terminal.errors;
     match call_of(words) {
         Call::Help(words) => run_help(words, output, errors),
         Call::Version => run_version(output, errors),
         Call::Why(words) => run_why(alloc, files, words, output, errors),
         Call::Port(words) => run_port(alloc, disk, words, input, output, errors),
         Call::Lint(words) => run_lint(alloc, disk, words, has_colours, input, output, errors),
-        _ => tell_unknown(alloc, is_asked, words, errors),
+        _ => tell_unknown(alloc, terminal.is_asked, words, errors),
     }
 }
 
@@ -81,85 +84,84 @@ fn explain<F: Files, D: Disk, R: Read, W: Write, E: Write>(
 /// says why a check has its answer, and `help` how commands are called. There is no other command. If anything is wrong, also with the words, the status is 2
 /// (own). `is_terminal` is whether standard output is a terminal, for colours.
 ///
-/// Each error is reported as one line on standard error. If that can't be written, only the status reports it. If `why` is set, further lines
-/// may follow such a line, which say why; otherwise none do.
+/// Each error is reported as one line on standard error. If that can't be written, only the status reports it. If the terminal's
+/// `is_asked` is true, further lines may follow such a line, which say why; otherwise none do.
 pub fn run<F: Files, D: Disk, C: Crew + Causes, R: Read, W: Write, E: Write>(
-    alloc: Global,
+    terminal: &mut Terminal<'_, D, R, W, E>,
     files: &F,
-    outputs: &mut FileOutputs<D>,
     words: &[Bytes],
-    env: &[(Bytes, Bytes)],
     crew: &mut C,
-    why: bool,
     is_terminal: bool,
-    input: &mut R,
-    output: &mut W,
-    errors: &mut E,
 ) -> u8
     requires may_run { MayRun (C.account crew.old) }
-    requires fresh { outputs.old ≡ fresh outputs.old.disk }
+    requires fresh { terminal.old.outputs ≡ fresh terminal.old.outputs.disk }
     // Without words: unless the status is 2, what is written and the status are those of the source's meaning.
-    ensures filter { IfFilter (call_of words.now) ((result ≡ 2) ⊎ IfSome (R.remaining input.old)
-        (λ text. (out : List ℕ) × (said : List ℕ) × IsFiltered text out said result × Appends (W.contents output.old) (W.contents output.new) out
-        × (said ≡ [] → errors.new ≡ errors.old) × AreTold (E.contents errors.old) (E.contents errors.new) (said ∷ []))) }
+    ensures filter { IfFilter (call_of words.now) ((result ≡ 2) ⊎ IfSome (R.remaining terminal.old.input)
+        (λ text. (out : List ℕ) × (said : List ℕ) × IsFiltered text out said result × Appends (W.contents terminal.old.output) (W.contents terminal.new.output) out
+        × (said ≡ [] → terminal.new.errors ≡ terminal.old.errors) × AreTold (E.contents terminal.old.errors) (E.contents terminal.new.errors) (said ∷ []))) }
     // The stand-in's status is its answer for the texts of its files, unless memory runs out. If it accepts the conftest, it writes nothing.
-    ensures standin { IfStandIn (call_of words.now) (λ others. (result ≡ 2) ⊎ IsAnswered (D.known outputs.old.disk) others result) }
-    ensures silent { IfStandIn (call_of words.now) (λ others. result ≡ 0 → errors.new ≡ errors.old) }
+    ensures standin { IfStandIn (call_of words.now) (λ others. (result ≡ 2) ⊎ IsAnswered (D.known terminal.old.outputs.disk) others result) }
+    ensures silent { IfStandIn (call_of words.now) (λ others. result ≡ 0 → terminal.new.errors ≡ terminal.old.errors) }
     // Unless the status is 2, the crew made the run of the source that the arguments name, with
     // these arguments, this environment, its cache and its templates; the status is that of its
     // outcome, its messages and the lines on its outputs are printed, and what it hands over and
-    // its log are written, and nothing else. If `why` isn't set, standard error gets its messages for
+    // its log are written, and nothing else. If it isn't asked why, standard error gets its messages for
     // standard error, as far as it takes them, and nothing else.
     ensures configure { IfConfigure (call_of words.now) (λ window args. result ≢ 2 → (out : List ℕ) × (said : List (List ℕ))
-        × IsConfigured window args env.now (C.account crew.old) (C.account crew.new)
-        (D.known outputs.old.disk) (D.known outputs.new.disk) out said result
-        × Appends (W.contents output.old) (W.contents output.new) out
-        × (why ≡ false → AreTold (E.contents errors.old) (E.contents errors.new) said)) }
+        × IsConfigured window args terminal.old.env.now (C.account crew.old) (C.account crew.new)
+        (D.known terminal.old.outputs.disk) (D.known terminal.new.outputs.disk) out said result
+        × Appends (W.contents terminal.old.output) (W.contents terminal.new.output) out
+        × (terminal.old.is_asked ≡ false → AreTold (E.contents terminal.old.errors) (E.contents terminal.new.errors) said)) }
     // Unless the status is 2, it is 0, and the outputs of the record with these names are made, and
     // nothing else.
     ensures status { IfStatus (call_of words.now) (λ tags. result ≢ 2 → (result ≡ 0) × (out : List ℕ)
-        × IsMadeAgain (D.known outputs.old.disk) (D.known outputs.new.disk) tags out
-        × Appends (W.contents output.old) (W.contents output.new) out) }
+        × IsMadeAgain (D.known terminal.old.outputs.disk) (D.known terminal.new.outputs.disk) tags out
+        × Appends (W.contents terminal.old.output) (W.contents terminal.new.output) out) }
+    // Then nothing is written on standard error.
+    ensures made_silently { IfStatus (call_of words.now) (λ tags. result ≢ 2 → terminal.new.errors ≡ terminal.old.errors) }
     // Unless the status is 2, the same holds of the run with the arguments of the record, and then
     // `--no-create`.
     ensures recheck { IfRecheck (call_of words.now) (result ≢ 2 → (out : List ℕ) × (said : List (List ℕ))
-        × IsRechecked env.now (C.account crew.old) (C.account crew.new)
-        (D.known outputs.old.disk) (D.known outputs.new.disk) out said result
-        × Appends (W.contents output.old) (W.contents output.new) out
-        × (why ≡ false → AreTold (E.contents errors.old) (E.contents errors.new) said)) }
+        × IsRechecked terminal.old.env.now (C.account crew.old) (C.account crew.new)
+        (D.known terminal.old.outputs.disk) (D.known terminal.new.outputs.disk) out said result
+        × Appends (W.contents terminal.old.output) (W.contents terminal.new.output) out
+        × (terminal.old.is_asked ≡ false → AreTold (E.contents terminal.old.errors) (E.contents terminal.new.errors) said)) }
     // What explains something has no other status than these. Unless it is 2, `why` writes nothing on standard error.
-    ensures explained { IfWhy (call_of words.now) (λ asked. (result ≤ 2) × (result ≢ 2 → errors.new ≡ errors.old)) }
-    ensures help { IfHelp (call_of words.now) (λ asked. (result ≡ 0) ⊎ (result ≡ 2)) }
+    ensures explained { IfWhy (call_of words.now) (λ asked. (result ≤ 2) × (result ≢ 2 → terminal.new.errors ≡ terminal.old.errors)) }
+    ensures help { IfHelp (call_of words.now) (λ asked. ((result ≡ 0) ⊎ (result ≡ 2)) × (1 < length asked → result ≡ 2) × (result ≡ 0 → terminal.new.errors ≡ terminal.old.errors)) }
+    ensures version { call_of words.now ≡ Version → ((result ≡ 0) ⊎ (result ≡ 2)) × (result ≡ 0 → terminal.new.errors ≡ terminal.old.errors) }
+    ensures linted { IfLint (call_of words.now) (λ asked. (result ≤ 2) × (result ≢ 2 → terminal.new.errors ≡ terminal.old.errors)) }
     ensures unknown { call_of words.now ≡ Unknown → result ≡ 2 }
     // Only a run starts children, only the filter, `lint` and `port` read the input, and the stand-in
     // writes no output. Only a run, and outputs that are made again, change files through
     // `outputs`.
     ensures crew { HasNoRun (call_of words.now) → crew.new ≡ crew.old }
-    ensures input { HasNoInput (call_of words.now) → input.new ≡ input.old }
-    ensures output { HasNoOutput (call_of words.now) → output.new ≡ output.old }
-    ensures files { HasNoPuts (call_of words.now) → outputs.new ≡ outputs.old }
+    ensures input { HasNoInput (call_of words.now) → terminal.new.input ≡ terminal.old.input }
+    ensures output { HasNoOutput (call_of words.now) → terminal.new.output ≡ terminal.old.output }
+    ensures files { HasNoPuts (call_of words.now) → terminal.new.outputs ≡ terminal.old.outputs }
     // No child is left in flight.
     ensures idle { IsIdle (C.account crew.new).events }
 {
+    let alloc = terminal.alloc;
     match call_of(words) {
-        Call::Filter => run_filter(alloc, why, input, output, errors),
-        Call::StandIn(words) => run_standin(alloc, files, outputs.disk(), words, errors),
-        Call::Configure(window, args) => {
-            run_configure(alloc, outputs, why, window, args, env, crew, output, errors)
-        }
-        Call::Status(tags) => run_status(alloc, outputs, why, tags, output, errors),
-        Call::Recheck => run_recheck(alloc, outputs, why, env, crew, output, errors),
-        _ => explain(
+        Call::Filter => run_filter(
             alloc,
-            files,
-            outputs.disk(),
-            words,
-            may_colour(env, is_terminal),
-            why,
-            input,
-            output,
-            errors,
+            terminal.is_asked,
+            &mut terminal.input,
+            &mut terminal.output,
+            &mut terminal.errors,
         ),
+        Call::StandIn(words) => {
+            let disk = terminal.outputs.disk();
+            run_standin(alloc, files, disk, words, &mut terminal.errors)
+        }
+        Call::Configure(window, args) => run_configure(terminal, window, args, crew),
+        Call::Status(tags) => run_status(terminal, tags),
+        Call::Recheck => run_recheck(terminal, crew),
+        _ => {
+            let has_colours = may_colour(terminal.env, is_terminal);
+            explain(terminal, files, words, has_colours)
+        }
     }
 }
 
@@ -231,7 +233,9 @@ pub fn command<C: Crew + Causes + Children>(
     ensures recheck { IfRecheck (call_of words.now) (result ≢ 2 → (out : List ℕ) × (said : List (List ℕ))
         × IsRechecked env.now (C.account crew.old) (C.account crew.new) None None out said result) }
     ensures explained { IfWhy (call_of words.now) (λ asked. result ≤ 2) }
-    ensures help { IfHelp (call_of words.now) (λ asked. (result ≡ 0) ⊎ (result ≡ 2)) }
+    ensures help { IfHelp (call_of words.now) (λ asked. ((result ≡ 0) ⊎ (result ≡ 2)) × (1 < length asked → result ≡ 2)) }
+    ensures version { call_of words.now ≡ Version → (result ≡ 0) ⊎ (result ≡ 2) }
+    ensures linted { IfLint (call_of words.now) (λ asked. result ≤ 2) }
     ensures unknown { call_of words.now ≡ Unknown → result ≡ 2 }
     ensures crew { HasNoRun (call_of words.now) → crew.new ≡ crew.old }
     ensures idle { IsIdle (C.account crew.new).events }
@@ -240,24 +244,27 @@ pub fn command<C: Crew + Causes + Children>(
     let is_terminal = rt.stdout().is_terminal();
     let is_shown = is_terminal && shows_output(words);
     let begun = Instant::now(&rt);
-    let mut output = Counted::new(Shown::new(io::writer(&rt), is_shown));
-    let mut errors = Shown::new(rt.stderr(), is_seen);
-    let status = run(
+    let mut terminal = Terminal {
         alloc,
-        &rt,
-        &mut FileOutputs::new(alloc, Host::new(&rt)),
-        words,
+        is_asked: asks_why(env) || is_seen,
         env,
-        crew,
-        asks_why(env) || is_seen,
-        is_terminal,
-        &mut rt.reader(),
-        &mut output,
-        &mut errors,
-    );
+        outputs: FileOutputs::new(alloc, Host::new(&rt)),
+        input: rt.reader(),
+        output: Counted::new(Shown::new(io::writer(&rt), is_shown)),
+        errors: Shown::new(rt.stderr(), is_seen),
+    };
+    let status = run(&mut terminal, &rt, words, crew, is_terminal);
     let is_summed = is_seen && asks_run(words);
-    let tally = output.tally();
+    let tally = terminal.output.tally();
     let children = crew.children();
-    sum_up(&rt, alloc, is_summed, &begun, &tally, children, &mut errors);
+    sum_up(
+        &rt,
+        alloc,
+        is_summed,
+        &begun,
+        &tally,
+        children,
+        &mut terminal.errors,
+    );
     status
 }

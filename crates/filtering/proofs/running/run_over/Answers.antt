@@ -11,7 +11,7 @@ returns-then-is_empty-clause-ran c =
     let fresh = ap (λ a. a.events) c.requires.crew in
     let none = c.events.ensures.not_started (nothing_listed c.events.result.now (sym c.is_empty.ensures ∙ c.if-is_empty.true)) in
     let empty = ap (λ r. r.handed) c.requires.outputs in
-    is_reported _ _ c.args.crew.now.account c.configure.new.crew.account c.args.outputs.now.receipt c.configure.new.outputs.receipt c.in_ok-report.report fresh none empty
+    is_reported _ _ c.args.crew.now.account c.go.new.crew.account c.args.outputs.now.receipt c.go.new.outputs.receipt c.in_ok-report.report fresh none empty
     c.in_ok-report.ensures.accepted c.in_ok-report.ensures.meaning c.in_ok-report.ensures.artifacts
 
 pub returns-clause-refused : goal.returns-clause-refused

@@ -11,9 +11,9 @@ returns-in_err-templates-clause-refused c = memory_not_run _ c.from_residual.res
 pub returns-clause-refused : goal.returns-clause-refused
 returns-clause-refused c =
     let same = c.as_slice-given.ensures.value ∙ c.in_ok-templates.ensures ∙ ap (λ fs. templates_for fs c.args.template.now) (c.as_slice-files.ensures ∙ c.files.ensures) in
-    not_run_with c.args.text.now c.as_slice-given.result.now _ c.run_with.result same c.run_with.ensures.refused
+    not_run_with (script_of c.args.source.now) c.as_slice-given.result.now _ c.run_judged.result same c.run_judged.ensures.refused
 
 pub returns-clause-run : goal.returns-clause-run
 returns-clause-run c =
     let same = c.as_slice-given.ensures.value ∙ c.in_ok-templates.ensures ∙ ap (λ fs. templates_for fs c.args.template.now) (c.as_slice-files.ensures ∙ c.files.ensures) in
-    run_made c.args.text.now c.args.template.now (script_of c.args.source) c.as_slice-given.result.now c.run_with.result (λ a. a.text) (λ a. a.errors.items) (λ a. a.status) c.requires same c.run_with.ensures.run
+    run_made c.args.template.now (script_of c.args.source.now) c.as_slice-given.result.now c.run_judged.result (λ a. a.text) (λ a. a.errors.items) (λ a. a.status) same c.run_judged.ensures.run
