@@ -7,7 +7,17 @@ folder=$(mktemp -d) || exit 2
 trap 'rm -rf "$folder"' EXIT
 mkdir "$folder/source" "$folder/source/build"
 cp "$script" "$folder/source/configure"
-printf '#!/bin/sh\nprintf "[%%s]" "$@"\n' > "$folder/acrun"
+# If a file has a page of help, this acrun prints that page, and ends as it says.
+cat > "$folder/acrun" << 'END'
+#!/bin/sh
+if [ -f ../help ] && [ "$3" = --help ]; then
+    printf '[%s]' "$@" > ../asked
+    cat ../help
+    exit "$(cat ../status)"
+fi
+printf '[%s]' "$@"
+if [ -n "${build+y}" ]; then printf ' build=%s srcdir=%s name=%s' "$build" "$srcdir" "$name"; fi
+END
 chmod +x "$folder/acrun" "$folder/source/configure"
 cd "$folder/source" || exit 2
 PATH=$folder:$PATH
@@ -59,6 +69,23 @@ rows_of_one_shell() {
     row 'configure: error: acrun compiles for the machine that it runs on: --host=arm is not --build=' --host arm
     row 'configure: error: acrun compiles for the machine that it runs on: --target=b is not --build=a' --target=b --build=a
     row 'configure: error: acrun does not rename programs: --program-prefix=g' --program-prefix=g
+    # Variables that the source declares
+    printf 'usage: acrun configure\n  --host=x  a\n  build                 the system\n  host\n  targets  b\n' > ../help
+    echo 0 > ../status
+    row '[-j1][configure][host=a][build=a][-q][CC=b]' --build=a -q CC=b
+    [ "$(cat ../asked)" = '[-j1][configure][--help][-q][CC=b]' ] || { wrong=1; echo "$shell: asked: $(cat ../asked)"; }
+    row '[-j1][configure][host=a b][build=a b][host=c]' '--build=a b' --host 'a b' host=c
+    row '[-j1][configure]' --build= --host=
+    row '[-j1][configure][-q]' -q
+    row 'configure: error: acrun compiles for the machine that it runs on: --host=arm is not --build=a' --build=a --host=arm
+    printf 'usage: acrun configure\n  host_os  a\n  target' > ../help
+    row '[-j1][configure][target=a]' --build=a --target=a
+    row '[-j1][configure][target=a]' --build=a
+    echo 2 > ../status
+    row '[-j1][configure]' --build=a
+    rm ../help ../status ../asked
+    # The environment stays
+    build=1 srcdir=2 name=3 row '[-j1][configure] build=1 srcdir=2 name=3' --build=a --host=a
     # The number of children at once
     ACRUN_JOBS=4 row '[-j4][configure]'
     ACRUN_JOBS=400 row '[-j16][configure]'

@@ -55,8 +55,9 @@ const LINT: &str = "\
 Usage: acrun lint [--json] [FILE]..
 
 Reads each FILE, a configure.ac or a directory of one (by default ./configure.ac; - is standard input), and its templates. Runs nothing,
-writes nothing, and prints the first error that a run would report, each call of a macro that acrun does not know, each template that can't
-be read, and warnings, each with its place. --json prints an object a line.
+writes nothing, and prints the errors and warnings, each with its place: the first error that a run would report, each call of a macro that
+acrun does not know, all errors that are found by reading on after each of these, and each template that can't be read. --json prints an
+object a line.
 
 Exit status: 0 no error; 1 errors; 2 a file can't be read, or the words are wrong.
 ";

@@ -7,6 +7,7 @@ use acparse::{ParseFault, parse};
 use disk::Disk;
 use findings::{Finding, put_in_order};
 use sourcecalls::{CallAt, calls_of};
+use sourcefaults::all_errors;
 use sourcewarnings::warn_of_calls;
 use std::alloc::{AllocError, Global};
 use syntax::Source;
@@ -55,7 +56,7 @@ pub(crate) fn found_in<D: Disk>(
     linted: &Linted,
 ) -> Result<Found, AllocError> {
     let text = linted.text.as_slice();
-    let mut findings = linting::errors_of(alloc, text)?;
+    let mut findings = all_errors(alloc, text)?;
     let calls = calls_of(alloc, text)?;
     warn_of_calls(alloc, text, calls.as_slice(), &mut findings)?;
     let sheets = add_further(alloc, disk, linted, calls.as_slice(), &mut findings)?;

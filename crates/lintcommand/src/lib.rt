@@ -1,8 +1,7 @@
 //! The command `lint`: what is wrong with a configure.ac, and where, without a run.
 //!
-//! [`run_lint`] reads each source that is named, and prints what is found in it: the first error that a run would report, the source
-//! that is too long, the templates that are not there, each macro that is not known, and warnings, in order of place. It starts nothing and
-//! writes no file.
+//! [`run_lint`] reads each source that is named, and prints what is found in it: its errors, as far as reading on after each finds them, the
+//! templates that are not there, and warnings, in order of place. It starts nothing and writes no file.
 //!
 //! ```text
 //! run_lint(alloc, files, &[b"--json", b"configure.ac"], false, input, output, errors)   // 1 if there are errors

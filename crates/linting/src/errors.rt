@@ -92,25 +92,44 @@ fn ordered(
 }
 
 /// Returns the errors of a source that is refused with this fault.
-fn errors_refused(alloc: Global, text: &[u8], fault: ParseFault) -> Result<Vec<Finding>, AllocError>
+fn errors_refused(
+    alloc: Global,
+    index: &Index,
+    text: &[u8],
+    fault: ParseFault,
+) -> Result<Vec<Finding>, AllocError>
     ensures refused { IfOk result (λ v. specs.AreRefused text.now fault (calls_in text.now) v.items) }
     ensures ends { IfOk result (λ v. All (specs.EndsIn (length text.now)) v.items) }
 {
     let calls = calls_of(alloc, text)?;
-    let index = Index::new(alloc)?;
-    ordered(alloc, &index, text, fault, &calls)
+    ordered(alloc, index, text, fault, &calls)
 }
 
-/// Returns the errors of a source.
-fn find_errors(alloc: Global, text: &[u8]) -> Result<Vec<Finding>, AllocError>
+/// Returns the errors of a source, in order of their places, as [`errors_of`] does. The table of macros is made once for many sources.
+///
+/// # Errors
+///
+/// Fails only if memory runs out.
+pub fn errors_by(alloc: Global, index: &Index, text: &[u8]) -> Result<Vec<Finding>, AllocError>
+    // The errors are exactly these.
     ensures exact { IfOk result (λ v. specs.AreErrors text.now (source_of text.now) v.items) }
+    // Each ends in the text.
     ensures ends { IfOk result (λ v. All (specs.EndsIn (length text.now)) v.items) }
 {
     match parse(alloc, text) {
         Ok(source) => errors_read(alloc, &source),
         Err(ParseFault::OutOfMemory) => Err(AllocError),
-        Err(fault) => errors_refused(alloc, text, fault),
+        Err(fault) => errors_refused(alloc, index, text, fault),
     }
+}
+
+/// Returns the errors of a source, for which the table of macros is made.
+fn find_errors(alloc: Global, text: &[u8]) -> Result<Vec<Finding>, AllocError>
+    ensures exact { IfOk result (λ v. specs.AreErrors text.now (source_of text.now) v.items) }
+    ensures ends { IfOk result (λ v. All (specs.EndsIn (length text.now)) v.items) }
+{
+    let index = Index::new(alloc)?;
+    errors_by(alloc, &index, text)
 }
 
 /// Returns the errors of a source, in order of their places.

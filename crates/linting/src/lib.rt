@@ -7,6 +7,8 @@
 //! let findings = errors_of(alloc, b"AC_INIT([a],[1])\nAC_PROG_AWK\nif x; then\nAC_OUTPUT\n")?; // AC_PROG_AWK at 17; `if` is later
 //! ```
 //!
+//! `errors_by` does the same with a table of macros that was made before.
+//!
 //! Read `fault` (where a fault is), `statement` (where the statement at fault begins), `advice` (what to write in place
 //! of a call), `foreign` (calls), and then `errors`.
 //! `specs/Errors` has the definitions. Every function fails only if memory runs out.
@@ -18,4 +20,4 @@ mod fault;
 mod foreign;
 mod statement;
 
-pub use errors::errors_of;
+pub use errors::{errors_by, errors_of};

@@ -32,12 +32,11 @@ fn whole(text: Vec<u8>) -> Ported
     }
 }
 
-/// Returns the source with a comment at each error, of which these are the first.
-fn with_errors(alloc: Global, text: &[u8], errors: Vec<Finding>) -> Result<Ported, AllocError>
+/// Returns the source with a comment at each of these errors.
+fn with_errors(alloc: Global, text: &[u8], errors: &[Finding]) -> Result<Ported, AllocError>
     ensures { IfOk result (λ p. specs.IsCommented text.now (length text.now) p.text × (p.has_comments ≡ true)) }
 {
-    let errors = all_errors(alloc, text, errors)?;
-    let text = commented(alloc, text, errors.as_slice())?;
+    let text = commented(alloc, text, errors)?;
     Ok(Ported {
         text: Bytes::from_vec(text),
         has_comments: true,
@@ -48,11 +47,11 @@ fn with_errors(alloc: Global, text: &[u8], errors: Vec<Finding>) -> Result<Porte
 fn printed(alloc: Global, text: Vec<u8>) -> Result<Ported, AllocError>
     ensures { IfOk result (λ p. specs.IsPrinted text.items p.has_comments p.text) }
 {
-    let errors = errors_of(alloc, text.as_slice())?;
+    let errors = all_errors(alloc, text.as_slice())?;
     if errors.is_empty() {
         return Ok(whole(text));
     }
-    with_errors(alloc, text.as_slice(), errors)
+    with_errors(alloc, text.as_slice(), errors.as_slice())
 }
 
 /// Returns the source as it is rewritten.

@@ -1,6 +1,7 @@
 //! Tests of what `acrun lint` and `acrun why` report, and of how text is shown.
 //!
-//! `calls` has which calls are found in a source, `errors` which errors, and `shows` what is shown of them. `log_lines`
+//! `calls` has which calls are found in a source, `errors` which errors, `reading_on` those that are found by reading on after each,
+//! `warned` which warnings, and `shows` what is shown of them. `log_lines`
 //! has what each line of a log is, and `whys` the command why over files: no contract says what it prints, so a row
 //! compares the exit status and both streams. Each of these tests is a table of rows, in the form that the crate `testrows`
 //! reads. `offsets` has the places of offsets in a text, `terminal` a text as a terminal is given it, and `last_line` the last
@@ -20,8 +21,12 @@ mod offsets;
 #[cfg(test)]
 mod parts;
 #[cfg(test)]
+mod reading_on;
+#[cfg(test)]
 mod shows;
 #[cfg(test)]
 mod terminal;
+#[cfg(test)]
+mod warned;
 #[cfg(test)]
 mod whys;

@@ -1,4 +1,5 @@
-//! Finds the errors of a configure.ac that is refused: those that `lint` has, and those of the statements after its first fault.
+//! Finds the errors of a configure.ac that is refused: its first fault, the calls of macros that are not known, and the errors of the
+//! statements after these. So `lint` lists them, and `port` writes comments above them.
 //!
 //! A reader stops at the first fault. So a statement with a fault becomes blanks in a copy of the source, and the copy is read again.
 //! Most faults are found in a piece of the source that is read alone: some lines that no call, quote or statement goes beyond. Then
@@ -6,14 +7,15 @@
 //! errors too. If many errors are in one statement, some of them may not be found.
 //!
 //! ```text
-//! all_errors(alloc, text, errors_of(alloc, text)?)?   // in order of their places
+//! all_errors(alloc, b"AC_INIT([a],[1])\nx y\nAC_SUBST\nAC_OUTPUT\n")?   // `x y` at 17, and AC_SUBST at 21
 //! ```
 //!
 //! Read `scan` (what is open at a place), `pieces` (where a piece begins), `masking` (what becomes blanks), `rounds` (the errors of one
-//! piece, or of the whole), and then `runs` (all pieces) and `whole`. A call fails only if memory runs out. "own" marks a rule that no
-//! manual gives.
+//! piece, or of the whole), `joining` (each error once), and then `runs` (all pieces) and `whole`. `specs/Found` has the definitions.
+//! A call fails only if memory runs out. "own" marks a rule that no manual gives.
 #![tactic(auto)]
 
+mod joining;
 mod masking;
 mod pieces;
 mod rounds;

@@ -2,7 +2,7 @@
 
 use crate::scan::Scan;
 use sourcecalls::{CallAt, Extent};
-use textpieces::{from, part};
+use textpieces::{after_blanks, from, part};
 
 /// Writes a space for each byte between two offsets, but for newlines. Returns whether that changed anything.
 pub(crate) fn blank(text: &mut [u8], start: usize, end: usize) -> bool {
@@ -57,6 +57,15 @@ pub(crate) fn inner_start(text: &[u8], arg: &Extent) -> usize {
     }
 }
 
+/// Returns the offset after a call: after its line if it has no arguments, and a parenthesis is after blanks.
+fn end_of(text: &[u8], call: &CallAt) -> usize {
+    let rest = from(text, call.end);
+    if !call.args.is_empty() || !after_blanks(rest).starts_with(b"(") {
+        return call.end;
+    }
+    call.end.saturating_add(line_len(rest))
+}
+
 /// Blanks a call, but not the statements in it. Returns whether that changed anything.
 pub(crate) fn blank_call(text: &mut [u8], calls: &[CallAt], call: &CallAt) -> bool {
     let mut at = call.start;
@@ -69,7 +78,8 @@ pub(crate) fn blank_call(text: &mut [u8], calls: &[CallAt], call: &CallAt) -> bo
             at = end.max(at);
         }
     }
-    has_changed | blank(text, at, call.end)
+    let end = end_of(text, call);
+    has_changed | blank(text, at, end)
 }
 
 /// Returns where the text between calls that has the place ends: at the next call, at the end of the argument, or at the end.

@@ -1,11 +1,18 @@
 //! The errors of a text, one after the other.
 
+ghost use Rattle.std.specs.Prelude.{◌≡◌, ◌≤◌, All, IfOk, IfSome, OnOk};
+ghost use Rattle.findings.specs.declared.finding.Severity.TheVariants.{Error};
+ghost use Rattle.sourcefaults.specs.Found as specs;
+
 use crate::masking::{blank, blank_bare, blank_call, innermost};
-use findings::Finding;
-use linting::errors_of;
+use deftable::Bytes;
+use findings::{Finding, Severity};
+use linting::errors_by;
+use macrotable::Index;
 use sourcecalls::CallAt;
 use std::alloc::{AllocError, Global};
-use textpieces::part;
+use textpieces::{after_blanks, first_line, first_name, from, part};
+use wordtable::{Page, keys};
 
 /// A call that begins a source.
 pub(crate) const INIT: &[u8] = b"AC_INIT([a],[1])\n";
@@ -21,6 +28,15 @@ const ROUNDS: usize = 2000;
 
 /// What a reading counts for beside the length of what is read.
 const READING: usize = 1000;
+
+/// What is the same for all readings of a source.
+#[derive(Drop)]
+pub(crate) struct Reader<'a> {
+    /// The table of macros.
+    pub index: &'a Index,
+    /// The length of the source.
+    pub len: usize,
+}
 
 /// A text, with its calls and its offset in the source.
 #[derive(Clone, Copy)]
@@ -153,45 +169,139 @@ fn is_made(piece: Piece<'_>, code: &[u8]) -> bool {
         .any(|call| part(piece.text, call.start, call.name_end) == name)
 }
 
-/// Returns an error with its place in the source.
-fn placed(finding: Finding, place: usize) -> Finding {
+/// Returns the offset in the source of one in a copy of a piece.
+fn place_of(reader: &Reader<'_>, piece: Piece<'_>, base: usize, at: usize) -> usize
+    ensures { result ≤ reader.now.len }
+{
+    let inner = at.saturating_sub(base).min(piece.text.len());
+    piece.at.saturating_add(inner).min(reader.len)
+}
+
+/// Returns an error of the source, with these offsets.
+fn error_at(finding: Finding, start: usize, end: usize) -> Finding
+    ensures { (result.file ≡ 0) × (result.start ≡ start) × (result.end ≡ end) × (result.severity ≡ Error) }
+{
     let Finding {
-        file,
-        end: _end,
-        severity,
         code,
         message,
         help,
         ..
     } = finding;
     Finding {
-        file,
-        start: place,
-        end: place,
-        severity,
+        file: 0,
+        start,
+        end,
+        severity: Severity::Error,
         code,
         message,
         help,
     }
 }
 
+/// Returns an error of a copy of a piece with its place in the source.
+fn placed(reader: &Reader<'_>, piece: Piece<'_>, base: usize, finding: Finding) -> Finding
+    ensures { specs.IsErrorOf reader.now.len result }
+{
+    let start = place_of(reader, piece, base, finding.start);
+    let end = place_of(reader, piece, base, finding.end);
+    error_at(finding, start, end.max(start))
+}
+
+/// Returns the first error of a text, if it has one.
+fn first_error(
+    alloc: Global,
+    reader: &Reader<'_>,
+    text: &[u8],
+) -> Result<Option<Finding>, AllocError> {
+    let mut errors = errors_by(alloc, reader.index, text)?;
+    errors.truncate(1);
+    Ok(errors.pop())
+}
+
+/// Returns whether a line has nothing but a comment.
+fn is_idle(line: &[u8]) -> bool {
+    let line = after_blanks(line);
+    line.is_empty() || line.starts_with(b"#") || first_name(line) == b"dnl".as_slice()
+}
+
+/// Returns the offset of the first line of a text that has more than a comment.
+fn first_at(text: &[u8]) -> usize {
+    let mut at: usize = 0;
+    for line in text.split(|byte| *byte == b'\n') {
+        if !is_idle(line) {
+            return at;
+        }
+        at = at.saturating_add(line.len()).saturating_add(1);
+    }
+    0
+}
+
+/// Returns the error that a source has no AC_INIT. Its words don't speak of the copy, in which what is at the start may be blanks.
+fn without_init(alloc: Global, reader: &Reader<'_>, piece: Piece<'_>) -> Result<Finding, AllocError>
+    ensures { IfOk result (specs.IsErrorOf reader.now.len) }
+{
+    let at = first_at(piece.text);
+    let start = place_of(reader, piece, 0, at);
+    let line = first_line(from(piece.text, at));
+    let end = place_of(reader, piece, 0, at.saturating_add(line.len())).max(start);
+    let mut page = Page::new(alloc);
+    page.put(keys::INIT_NOT_FIRST, &[]);
+    let code = Bytes::from_slice(alloc, b"parse-8")?;
+    page.finding(code, start, end)
+}
+
+/// Returns an error of a copy of a piece as one of the source.
+fn of_source(
+    alloc: Global,
+    reader: &Reader<'_>,
+    piece: Piece<'_>,
+    base: usize,
+    error: Finding,
+) -> Result<Finding, AllocError>
+    ensures { IfOk result (specs.IsErrorOf reader.now.len) }
+{
+    if error.code.as_slice() == b"parse-8".as_slice() {
+        return without_init(alloc, reader, piece);
+    }
+    Ok(placed(reader, piece, base, error))
+}
+
+/// Appends an error of a copy, unless it is that a call is missing which was taken out.
+fn push_error(
+    alloc: Global,
+    reader: &Reader<'_>,
+    piece: Piece<'_>,
+    base: usize,
+    error: Finding,
+    found: &mut Vec<Finding>,
+) -> Result<(), AllocError>
+    ensures { OnOk result (specs.KeepsErrors reader.now.len found.old.items found.new.items) }
+{
+    if is_made(piece, error.code.as_slice()) {
+        return Ok(());
+    }
+    let error = of_source(alloc, reader, piece, base, error)?;
+    found.push(error)?;
+    Ok(())
+}
+
 /// Appends the first error of the copy, and takes out what it is about. Returns whether there may be further ones.
 fn add_first(
     alloc: Global,
+    reader: &Reader<'_>,
     piece: Piece<'_>,
     copy: &mut Copy,
     found: &mut Vec<Finding>,
-) -> Result<bool, AllocError> {
-    let mut errors = errors_of(alloc, copy.text.as_slice())?;
-    errors.truncate(1);
-    let Some(first) = errors.pop() else {
+) -> Result<bool, AllocError>
+    ensures { OnOk result (specs.KeepsErrors reader.now.len found.old.items found.new.items) }
+{
+    let Some(first) = first_error(alloc, reader, copy.text.as_slice())? else {
         return Ok(false);
     };
-    let place = first.start.saturating_sub(copy.base).min(piece.text.len());
+    let base = copy.base;
+    let place = first.start.saturating_sub(base).min(piece.text.len());
     let goes_on = take_out(alloc, piece, copy, first.code.as_slice(), place)?;
-    if !is_made(piece, first.code.as_slice()) {
-        found.push(placed(first, piece.at.saturating_add(place)))?;
-    }
+    push_error(alloc, reader, piece, base, first, found)?;
     Ok(goes_on)
 }
 
@@ -207,13 +317,16 @@ fn spend(copy: &Copy, left: &mut usize) -> bool {
 /// the copy.
 pub(crate) fn add_rounds(
     alloc: Global,
+    reader: &Reader<'_>,
     piece: Piece<'_>,
     copy: &mut Copy,
     left: &mut usize,
     found: &mut Vec<Finding>,
-) -> Result<(), AllocError> {
+) -> Result<(), AllocError>
+    ensures { OnOk result (specs.KeepsErrors reader.now.len found.old.items found.new.items) }
+{
     for _ in 0..ROUNDS {
-        if !add_first(alloc, piece, copy, found)? || !spend(copy, left) {
+        if !add_first(alloc, reader, piece, copy, found)? || !spend(copy, left) {
             break;
         }
     }

@@ -1,7 +1,10 @@
 //! The errors of the pieces of a source.
 
+ghost use Rattle.std.specs.Prelude.{OnOk};
+ghost use Rattle.sourcefaults.specs.Found as specs;
+
 use crate::pieces::starts_of;
-use crate::rounds::{ALL, Copy, INIT, OUTPUT, Piece, add_rounds};
+use crate::rounds::{ALL, Copy, INIT, OUTPUT, Piece, Reader, add_rounds};
 use acparse::parse;
 use acstatement::ParseFault;
 use findings::Finding;
@@ -92,19 +95,22 @@ fn is_read(alloc: Global, copy: &Copy) -> Result<bool, AllocError> {
 /// Appends the errors of a text at an offset, and makes blanks of what they are about in its copy.
 fn add_copied(
     alloc: Global,
+    reader: &Reader<'_>,
     text: &[u8],
     at: usize,
     copy: &mut Copy,
     left: &mut usize,
     found: &mut Vec<Finding>,
-) -> Result<(), AllocError> {
+) -> Result<(), AllocError>
+    ensures { OnOk result (specs.KeepsErrors reader.now.len found.old.items found.new.items) }
+{
     let calls = calls_of(alloc, text)?;
     let piece = Piece {
         text,
         calls: calls.as_slice(),
         at,
     };
-    add_rounds(alloc, piece, copy, left, found)
+    add_rounds(alloc, reader, piece, copy, left, found)
 }
 
 /// Writes what a copy has in the place of a text back to an offset.
@@ -157,18 +163,22 @@ impl Next {
 /// Appends the errors of one piece, and makes blanks of what they are about.
 fn add_piece(
     alloc: Global,
+    reader: &Reader<'_>,
     text: &mut Vec<u8>,
     pieces: &Pieces,
     next: &mut Next,
     left: &mut usize,
     found: &mut Vec<Finding>,
-) -> Result<(), AllocError> {
+) -> Result<(), AllocError>
+    ensures { OnOk result (specs.KeepsErrors reader.now.len found.old.items found.new.items) }
+{
     let start = pieces.start(next.first);
     let end = pieces.start(next.first.saturating_add(1)).min(text.len());
     let before = found.len();
     let mut copy = run_copy(alloc, text.as_slice(), pieces, start, end)?;
     add_copied(
         alloc,
+        reader,
         part(text.as_slice(), start, end),
         start,
         &mut copy,
@@ -210,19 +220,22 @@ fn read_run(
 /// Goes on by some pieces.
 fn go_on(
     alloc: Global,
+    reader: &Reader<'_>,
     text: &mut Vec<u8>,
     pieces: &Pieces,
     next: &mut Next,
     left: &mut usize,
     found: &mut Vec<Finding>,
-) -> Result<(), AllocError> {
+) -> Result<(), AllocError>
+    ensures { OnOk result (specs.KeepsErrors reader.now.len found.old.items found.new.items) }
+{
     if pieces.is_frame(next.first) {
         next.restart(next.first.saturating_add(1));
         return Ok(());
     }
     let end = pieces.run_end(next.first, next.size);
     if end <= next.first.saturating_add(1) {
-        add_piece(alloc, text, pieces, next, left, found)
+        add_piece(alloc, reader, text, pieces, next, left, found)
     } else {
         read_run(alloc, text.as_slice(), pieces, next, end)
     }
@@ -232,11 +245,14 @@ fn go_on(
 /// finds them. What they are about becomes blanks.
 pub(crate) fn add_pieces(
     alloc: Global,
+    reader: &Reader<'_>,
     text: &mut Vec<u8>,
     calls: &[CallAt],
     left: &mut usize,
     found: &mut Vec<Finding>,
-) -> Result<(), AllocError> {
+) -> Result<(), AllocError>
+    ensures { OnOk result (specs.KeepsErrors reader.now.len found.old.items found.new.items) }
+{
     let pieces = Pieces {
         starts: starts_of(alloc, text.as_slice(), calls)?,
         len: text.len(),
@@ -252,7 +268,7 @@ pub(crate) fn add_pieces(
         if next.first >= pieces.starts.len() {
             break;
         }
-        go_on(alloc, text, &pieces, &mut next, left, found)?;
+        go_on(alloc, reader, text, &pieces, &mut next, left, found)?;
     }
     Ok(())
 }

@@ -1,10 +1,19 @@
 //! The errors of a source.
 
+ghost use Rattle.std.specs.Prelude.{◌≡◌, [], ◌↔◌, length, All, IfOk, OnOk};
+ghost use Rattle.std.specs.List.Sorted.{IsSorted};
+ghost use Rattle.findings.specs.Order.{place_cmp};
+ghost use Rattle.linting.specs.Errors.{AreErrors, EndsIn, IsAccepted};
+ghost use Rattle.sourcefaults.specs.Found as specs;
+
+use crate::joining::joined;
 use crate::masking::{blank, inner_start};
-use crate::rounds::{Copy, Piece, add_rounds};
+use crate::rounds::{Copy, Piece, Reader, add_rounds};
 use crate::runs::add_pieces;
 use crate::scan::Scan;
 use findings::{Finding, put_in_order};
+use linting::errors_of;
+use macrotable::Index;
 use sourcecalls::{CallAt, calls_of};
 use std::alloc::{AllocError, Global};
 
@@ -63,56 +72,101 @@ fn blank_unknown(alloc: Global, text: &mut [u8], calls: &[CallAt]) -> Result<(),
     Ok(())
 }
 
+/// Returns a copy of a source in which the calls whose macro isn't known are blanks.
+fn copy_of(alloc: Global, text: &[u8], calls: &[CallAt]) -> Result<Copy, AllocError> {
+    let mut copy = Copy::new(alloc, b"", text, b"")?;
+    blank_unknown(alloc, copy.text.as_mut_slice(), calls)?;
+    Ok(copy)
+}
+
 /// Appends the errors of a source that are found in its pieces, and then those of the whole.
 fn add_others(
     alloc: Global,
     text: &[u8],
     calls: &[CallAt],
+    reader: &Reader<'_>,
     found: &mut Vec<Finding>,
-) -> Result<(), AllocError> {
-    let mut copy = Copy::new(alloc, b"", text, b"")?;
-    blank_unknown(alloc, copy.text.as_mut_slice(), calls)?;
+) -> Result<(), AllocError>
+    ensures { OnOk result (specs.KeepsErrors reader.now.len found.old.items found.new.items) }
+{
+    let mut copy = copy_of(alloc, text, calls)?;
     let mut left = budget_of(text.len());
-    add_pieces(alloc, &mut copy.text, calls, &mut left, found)?;
+    add_pieces(alloc, reader, &mut copy.text, calls, &mut left, found)?;
     let mut left = budget_of(text.len());
     let piece = Piece { text, calls, at: 0 };
-    add_rounds(alloc, piece, &mut copy, &mut left, found)
+    add_rounds(alloc, reader, piece, &mut copy, &mut left, found)
 }
 
-/// Returns whether one of the last of the errors has the same place and the same code.
-fn is_there(errors: &[Finding], error: &Finding) -> bool {
+/// Returns errors of a source with these calls that are found by reading on after each of them, in no order.
+fn others_of(alloc: Global, text: &[u8], calls: &[CallAt]) -> Result<Vec<Finding>, AllocError>
+    ensures { IfOk result (λ v. All (specs.IsErrorOf (length text.now)) v.items) }
+{
+    let index = Index::new(alloc)?;
+    let reader = Reader {
+        index: &index,
+        len: text.len(),
+    };
+    let mut found = Vec::new(alloc);
+    add_others(alloc, text, calls, &reader, &mut found)?;
+    Ok(found)
+}
+
+/// Returns whether the errors are that of the quotes of a source. Then no call is found, and nothing is read on.
+fn is_of_quotes(errors: &[Finding]) -> bool {
     errors
         .iter()
-        .rev()
-        .take_while(|other| other.start == error.start)
-        .any(|other| other.code.as_slice() == error.code.as_slice())
+        .any(|error| error.code.as_slice().starts_with(b"parse-1."))
 }
 
-/// Returns errors that are in order, without those whose place and code an earlier one has.
-fn without_repeated(alloc: Global, errors: Vec<Finding>) -> Result<Vec<Finding>, AllocError> {
-    let mut out = Vec::new(alloc);
-    for error in errors {
-        if !is_there(out.as_slice(), &error) {
-            out.push(error)?;
-        }
+/// Returns errors of a source that are found by reading on after each of these.
+fn others_after(alloc: Global, text: &[u8], errors: &[Finding]) -> Result<Vec<Finding>, AllocError>
+    ensures { IfOk result (λ v. All (specs.IsErrorOf (length text.now)) v.items) }
+{
+    if is_of_quotes(errors) {
+        return Ok(Vec::new(alloc));
     }
-    Ok(out)
+    let calls = calls_of(alloc, text)?;
+    others_of(alloc, text, calls.as_slice())
 }
 
-/// Returns the errors of a source that is refused: those that `lint` has, and those of further statements, in order of their places
-/// (own).
+/// Returns these errors of a source and those that are found by reading on after each of them, in order of their places.
+fn with_others(alloc: Global, text: &[u8], errors: Vec<Finding>) -> Result<Vec<Finding>, AllocError>
+    requires { All (specs.IsErrorOf (length text.now)) errors.items }
+    ensures among { IfOk result (λ v. specs.AreAmong errors.items v.items) }
+    ensures errors { IfOk result (λ v. All (specs.IsErrorOf (length text.now)) v.items) }
+    ensures sorted { IfOk result (λ v. IsSorted place_cmp v.items) }
+{
+    let others = others_after(alloc, text, errors.as_slice())?;
+    let mut found = joined(alloc, text, errors, others)?;
+    put_in_order(&mut found)?;
+    Ok(found)
+}
+
+/// Returns the errors of a source, in order of their places: those of [`errors_of`], and those that are found by reading on after each
+/// (own). So that all errors are found is not promised: if a statement has several, one may hide another. If the quotes of the source
+/// have an error, that is the only one.
+///
+/// An error of a word such as `fi`, which goes on with a construct of the shell or ends it, is there only if it is one of
+/// [`errors_of`].
 ///
 /// # Errors
 ///
 /// Fails only if memory runs out.
-pub fn all_errors(
-    alloc: Global,
-    text: &[u8],
-    errors: Vec<Finding>,
-) -> Result<Vec<Finding>, AllocError> {
-    let calls = calls_of(alloc, text)?;
-    let mut found = errors;
-    add_others(alloc, text, calls.as_slice(), &mut found)?;
-    put_in_order(&mut found)?;
-    without_repeated(alloc, found)
+pub fn all_errors(alloc: Global, text: &[u8]) -> Result<Vec<Finding>, AllocError>
+    // Each error that a first reading finds is there.
+    ensures first { IfOk result (λ v. specs.HasFirst text.now v.items) }
+    // There is none exactly if the source is read and has a plan.
+    ensures no_error { IfOk result (λ v. (v.items ≡ []) ↔ IsAccepted text.now) }
+    // Each is an error, and one of the source.
+    ensures errors { IfOk result (λ v. All specs.IsError v.items) }
+    // Each ends in the text.
+    ensures ends { IfOk result (λ v. All (EndsIn (length text.now)) v.items) }
+    // They are in order of their places.
+    ensures sorted { IfOk result (λ v. IsSorted place_cmp v.items) }
+{
+    let errors = errors_of(alloc, text)?;
+    if errors.is_empty() {
+        return Ok(errors);
+    }
+    with_others(alloc, text, errors)
 }

@@ -1,8 +1,10 @@
 //! Warnings about calls.
 
-use crate::extent::{Named, assigns, bare, text_at, warn_of_part};
+use crate::extent::{Named, assigns, bare, is_given, text_at, warn_of_part};
 use crate::foreign::warn_of_texts;
+use crate::includes::warn_of_includes;
 use crate::rows::{EMPTY, FUNCTIONS, HELD, LIBRARY_ACTION, NAMES, SILENT};
+use crate::shellwords::warn_of_shell_words;
 use bstr::ByteSlice;
 use findings::Finding;
 use macrotable::Index;
@@ -88,11 +90,6 @@ fn warn_of_places(
         warn_if(alloc, text, argument, has_blanks, keys::BLANK_IN_NAME, out)?;
     }
     Ok(())
-}
-
-/// Returns whether an argument is there and isn't empty.
-fn is_given(text: &[u8], argument: Option<&Extent>) -> bool {
-    !bare(text_at(text, argument.copied())).is_empty()
 }
 
 /// Warns of arguments of AC_CHECK_PROG and AS_CASE that are empty.
@@ -182,7 +179,8 @@ fn warn_of_each(
 }
 
 /// Adds the warnings about calls: arguments that mean something else here than with Autoconf, or
-/// than they seem to, and names of macros in texts (own).
+/// than they seem to, names of macros in texts, names that the default includes don't declare, and
+/// words that a shell reads otherwise (own).
 ///
 /// # Errors
 ///
@@ -194,5 +192,7 @@ pub fn warn_of_calls(
     out: &mut Vec<Finding>,
 ) -> Result<(), AllocError> {
     let index = Index::new(alloc)?;
-    warn_of_each(alloc, &index, text, calls, out)
+    warn_of_each(alloc, &index, text, calls, out)?;
+    warn_of_includes(alloc, text, calls, out)?;
+    warn_of_shell_words(alloc, text, calls, out)
 }

@@ -21,6 +21,11 @@ pub(crate) fn bare(argument: &[u8]) -> &[u8] {
     argument.trim_with(|c| c == '[' || c == ']' || c == ' ' || c == '\t' || c == '\n')
 }
 
+/// Returns whether an argument is there and isn't empty.
+pub(crate) fn is_given(text: &[u8], argument: Option<&Extent>) -> bool {
+    !bare(text_at(text, argument.copied())).is_empty()
+}
+
 /// Returns whether a text seems to assign to a variable: the name is in it, with a `=` after it and no `$` before it.
 pub(crate) fn assigns(text: &[u8], name: &[u8]) -> bool {
     let mut at: usize = 0;

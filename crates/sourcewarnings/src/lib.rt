@@ -11,17 +11,24 @@
 //! "own" marks a rule that no manual gives.
 //!
 //! `extent` has the parts of a call, and `rows` what is looked for in arguments. `calls` and
-//! `foreign` read the calls of the source, `compiler` their order, and `texts` its text and its
-//! statements. `order` finds the first statement that can't be resumed.
+//! `foreign` read the calls of the source, `includes` those that look for declarations, `compiler`
+//! their order, and `texts` its text and its statements. `shellwords` finds words that a shell reads
+//! otherwise. `names` has the variables of a source, and `variables` those that acrun doesn't set.
+//! `order` finds the first statement that can't be resumed.
 #![tactic(auto)]
 
 mod calls;
 mod compiler;
 mod extent;
 mod foreign;
+mod includes;
+mod lines;
+mod names;
 mod order;
 mod rows;
+mod shellwords;
 mod texts;
+mod variables;
 
 pub use calls::warn_of_calls;
 pub use compiler::warn_of_compiler;

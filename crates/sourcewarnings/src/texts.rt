@@ -2,6 +2,7 @@
 
 use crate::extent::warn_of_part;
 use crate::order::warn_of_order;
+use crate::variables::warn_of_variables;
 use bstr::ByteSlice;
 use findings::Finding;
 use sourcecalls::{CallAt, Extent};
@@ -11,10 +12,7 @@ use wordtable::{Key, keys};
 
 /// Texts that may not mean what they seem to, each with the key of the warning.
 #[rattlefmt::skip]
-const TEXTS: [(&[u8], Key); 4] = [
-    (b"$srcdir", keys::SCRIPT_VARIABLE),
-    (b"${srcdir}", keys::SCRIPT_VARIABLE),
-    (b"$ac_top_srcdir", keys::SCRIPT_VARIABLE),
+const TEXTS: [(&[u8], Key); 1] = [
     (b"[[AC_INCLUDES_DEFAULT", keys::QUOTED_INCLUDES),
 ];
 
@@ -34,7 +32,7 @@ fn warn_of_text(
 }
 
 /// Adds the warnings about the text and the statements of a source: texts that may not mean what
-/// they seem to, and the first statement after which a run that is cut can't be resumed (own). The
+/// they seem to, variables that a configure script sets and acrun doesn't, and the first statement after which a run that is cut can't be resumed (own). The
 /// calls are those of the source.
 ///
 /// # Errors
@@ -50,6 +48,7 @@ pub fn warn_of_source(
     for row in &TEXTS {
         warn_of_text(alloc, text, row.0, row.1, out)?;
     }
+    warn_of_variables(alloc, text, calls, source, out)?;
     if source.is_resumable() {
         return Ok(());
     }

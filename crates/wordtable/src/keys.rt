@@ -415,224 +415,290 @@ pub const SEMICOLON_AFTER_CALL: Key = Key((12981, 13001), (13002, 13090), (13091
 /// SHELL is the login shell of whoever runs this, or empty; in Autoconf it is the shell that runs configure
 pub const LOGIN_SHELL: Key = Key((13138, 13149), (13150, 13254), (13255, 13289));
 
-/// a variable of configure scripts is an ordinary one here, and empty until it is set
-pub const SCRIPT_VARIABLE: Key = Key((13290, 13305), (13306, 13388), (13389, 13432));
+/// nothing here sets NAME; a configure script of Autoconf does, and here it is empty
+pub const SCRIPT_VARIABLE: Key = Key((13290, 13305), (13306, 13384), (13385, 13385));
+
+/// write before it, after AC_PROG_CC
+pub const CHECK_GNU: Key = Key((13385, 13394), (13395, 13395), (13395, 13727));
+
+/// acrun makes checks of C alone
+pub const NO_OTHER_LANGUAGE: Key = Key((13728, 13745), (13746, 13746), (13746, 13775));
+
+/// write before it
+pub const DECLARE_HOST: Key = Key((13776, 13788), (13789, 13789), (13789, 13979));
+
+/// write before it
+pub const DECLARE_BUILD: Key = Key((13980, 13993), (13994, 13994), (13994, 14173));
+
+/// write before it
+pub const DECLARE_TARGET: Key = Key((14174, 14188), (14189, 14189), (14189, 14398));
+
+/// declare host by AC_ARG_VAR, and compare it with patterns, as in AS_CASE([$host], [*-linux*], ..)
+pub const TEST_HOST: Key = Key((14399, 14408), (14409, 14409), (14409, 14505));
+
+/// declare build by AC_ARG_VAR, and compare it with patterns, as in AS_CASE([$build], [*-linux*], ..)
+pub const TEST_BUILD: Key = Key((14506, 14516), (14517, 14517), (14517, 14615));
+
+/// declare target by AC_ARG_VAR, and compare it with patterns, as in AS_CASE([$target], [*-linux*], ..)
+pub const TEST_TARGET: Key = Key((14616, 14627), (14628, 14628), (14628, 14728));
+
+/// acrun compiles for the machine that it runs on; leave it out, or write before it
+pub const NO_CROSS: Key = Key((14729, 14737), (14738, 14738), (14738, 14839));
+
+/// write before it
+pub const SET_PACKAGE: Key = Key((14840, 14851), (14852, 14852), (14852, 14909));
+
+/// write before it
+pub const SET_VERSION: Key = Key((14910, 14921), (14922, 14922), (14922, 14979));
+
+/// leave it out, or use @srcdir@ in a template
+pub const USE_SRCDIR: Key = Key((14980, 14990), (14991, 14991), (14991, 15034));
+
+/// leave it out, or set it before
+pub const LEAVE_OUT: Key = Key((15035, 15044), (15045, 15045), (15045, 15075));
+
+/// no check of this source answers it: make that check, or leave it out
+pub const MAKE_CHECK: Key = Key((15076, 15086), (15087, 15087), (15087, 15155));
+
+/// the `~` stays here; a shell replaces it by the home directory
+pub const TILDE: Key = Key((15156, 15161), (15162, 15223), (15224, 15276));
+
+/// the `$` before the quote stays here; some shells drop it, or read the quote otherwise
+pub const DOLLAR_QUOTE: Key = Key((15277, 15289), (15290, 15375), (15376, 15393));
+
+/// WORD is one word of the test here; a shell makes no word of it if it is empty, and several if it has blanks
+pub const UNQUOTED_WORD: Key = Key((15394, 15407), (15408, 15512), (15513, 15522));
+
+/// ; the same holds at line NUMBER
+pub const SAME_AT_LINE: Key = Key((15523, 15535), (15536, 15536), (15536, 15562));
+
+/// , NUMBER
+pub const AND_LINE: Key = Key((15563, 15571), (15572, 15572), (15572, 15575));
+
+///  and further lines
+pub const AND_MORE_LINES: Key = Key((15576, 15590), (15591, 15591), (15591, 15609));
+
+/// Autoconf's default includes have <HEADER>, and so NAMES; acrun's do not
+pub const FEWER_INCLUDES: Key = Key((15610, 15624), (15625, 15687), (15688, 15716));
+
+/// :
+pub const INCLUDES_OF: Key = Key((15717, 15728), (15729, 15729), (15729, 15769));
 
 /// AC_INCLUDES_DEFAULT in two pairs of brackets is read here; in Autoconf it is text
-pub const QUOTED_INCLUDES: Key = Key((13433, 13448), (13449, 13530), (13531, 13561));
+pub const QUOTED_INCLUDES: Key = Key((15770, 15785), (15786, 15867), (15868, 15898));
 
 /// the name of this macro is text here; Autoconf expands it
-pub const MACRO_IN_TEXT: Key = Key((13562, 13575), (13576, 13632), (13633, 13633));
+pub const MACRO_IN_TEXT: Key = Key((15899, 15912), (15913, 15969), (15970, 15970));
 
 /// write AS_HELP_STRING
-pub const WRITE_HELP_STRING: Key = Key((13633, 13650), (13651, 13651), (13651, 13671));
+pub const WRITE_HELP_STRING: Key = Key((15970, 15987), (15988, 15988), (15988, 16008));
 
 /// write $VARIABLE in AC_DEFINE_UNQUOTED
-pub const WRITE_IN_UNQUOTED: Key = Key((13672, 13689), (13690, 13690), (13690, 13720));
+pub const WRITE_IN_UNQUOTED: Key = Key((16009, 16026), (16027, 16027), (16027, 16057));
 
 /// write the text that is meant, or put it in two pairs of brackets
-pub const WRITE_TEXT: Key = Key((13721, 13731), (13732, 13732), (13732, 13796));
+pub const WRITE_TEXT: Key = Key((16058, 16068), (16069, 16069), (16069, 16133));
 
 /// nothing before this check looks for a compiler, so CC has no value unless the user gives one
-pub const NO_COMPILER: Key = Key((13797, 13808), (13809, 13901), (13902, 13930));
+pub const NO_COMPILER: Key = Key((16134, 16145), (16146, 16238), (16239, 16267));
 
 /// nothing before this check tries whether the compiler works; with a misspelt flag in CFLAGS each check says no
-pub const COMPILER_NOT_TRIED: Key = Key((13931, 13949), (13950, 14059), (14060, 14437));
+pub const COMPILER_NOT_TRIED: Key = Key((16268, 16286), (16287, 16396), (16397, 16774));
 
 /// after `STATEMENT`, a run of this source that is cut and started again may end otherwise than one that is not cut
-pub const NOT_RESUMABLE: Key = Key((14438, 14451), (14452, 14556), (14557, 14677));
+pub const NOT_RESUMABLE: Key = Key((16775, 16788), (16789, 16893), (16894, 17014));
 
 /// a run of this source that is cut and started again may end otherwise than one that is not cut
-pub const NOT_RESUMABLE_ANYWHERE: Key = Key((14678, 14700), (14701, 14794), (14557, 14677));
+pub const NOT_RESUMABLE_ANYWHERE: Key = Key((17015, 17037), (17038, 17131), (16894, 17014));
 
 /// no statement sets @NAME@, so it stays as it is
-pub const UNSET_VARIABLE: Key = Key((14795, 14809), (14810, 14853), (14854, 14854));
+pub const UNSET_VARIABLE: Key = Key((17132, 17146), (17147, 17190), (17191, 17191));
 
 /// did you mean @NAME@?
-pub const NEAR_VARIABLE: Key = Key((14854, 14867), (14868, 14868), (14868, 14885));
+pub const NEAR_VARIABLE: Key = Key((17191, 17204), (17205, 17205), (17205, 17222));
 
 /// its value begins with ${datarootdir}, which this template does not set: files would go to /man, /doc and the like
-pub const NO_DATAROOTDIR: Key = Key((14886, 14900), (14901, 15014), (15015, 15057));
+pub const NO_DATAROOTDIR: Key = Key((17223, 17237), (17238, 17351), (17352, 17394));
 
 /// config.status is a record here, and no script that can be run
-pub const CONFIG_STATUS_SCRIPT: Key = Key((15058, 15078), (15079, 15140), (15141, 15240));
+pub const CONFIG_STATUS_SCRIPT: Key = Key((17395, 17415), (17416, 17477), (17478, 17577));
 
 /// the last line has no newline, and so has that of the file that is made; Autoconf adds one
-pub const NO_NEWLINE_AT_END: Key = Key((15241, 15258), (15259, 15348), (15349, 15389));
+pub const NO_NEWLINE_AT_END: Key = Key((17578, 17595), (17596, 17685), (17686, 17726));
 
 /// no statement defines NAME
-pub const NEVER_DEFINED: Key = Key((15390, 15403), (15404, 15426), (15427, 15427));
+pub const NEVER_DEFINED: Key = Key((17727, 17740), (17741, 17763), (17764, 17764));
 
 /// did you mean NAME?
-pub const NEAR_DEFINITION: Key = Key((15427, 15442), (15443, 15443), (15443, 15458));
+pub const NEAR_DEFINITION: Key = Key((17764, 17779), (17780, 17780), (17780, 17795));
 
 /// Autoconf checks its default headers by itself; write
-pub const DEFAULT_HEADERS: Key = Key((15459, 15474), (15475, 15475), (15475, 15551));
+pub const DEFAULT_HEADERS: Key = Key((17796, 17811), (17812, 17812), (17812, 17888));
 
 /// no header template has NAME, so its definition goes nowhere
-pub const NOT_IN_HEADER: Key = Key((15552, 15565), (15566, 15622), (15623, 15681));
+pub const NOT_IN_HEADER: Key = Key((17889, 17902), (17903, 17959), (17960, 18018));
 
 /// write in configure.ac
-pub const SET_SHELL: Key = Key((15682, 15691), (15692, 15692), (15692, 15744));
+pub const SET_SHELL: Key = Key((18019, 18028), (18029, 18029), (18029, 18081));
 
 /// there is no config header; write the definitions into a header of AC_CONFIG_HEADERS, or build DEFS by hand with AC_SUBST
-pub const SET_DEFS: Key = Key((15745, 15753), (15754, 15754), (15754, 15874));
+pub const SET_DEFS: Key = Key((18082, 18090), (18091, 18091), (18091, 18211));
 
 /// leave it out: each make sets MAKE
-pub const SET_MAKE: Key = Key((15875, 15883), (15884, 15884), (15884, 15917));
+pub const SET_MAKE: Key = Key((18212, 18220), (18221, 18221), (18221, 18254));
 
 /// write in configure.ac
-pub const SET_INSTALL: Key = Key((15918, 15929), (15930, 15930), (15930, 15989));
+pub const SET_INSTALL: Key = Key((18255, 18266), (18267, 18267), (18267, 18326));
 
 /// write in configure.ac
-pub const SET_INSTALL_PROGRAM: Key = Key((15990, 16009), (16010, 16010), (16010, 16077));
+pub const SET_INSTALL_PROGRAM: Key = Key((18327, 18346), (18347, 18347), (18347, 18414));
 
 /// write in configure.ac
-pub const SET_INSTALL_SCRIPT: Key = Key((16078, 16096), (16097, 16097), (16097, 16163));
+pub const SET_INSTALL_SCRIPT: Key = Key((18415, 18433), (18434, 18434), (18434, 18500));
 
 /// write in configure.ac
-pub const SET_INSTALL_DATA: Key = Key((16164, 16180), (16181, 16181), (16181, 16252));
+pub const SET_INSTALL_DATA: Key = Key((18501, 18517), (18518, 18518), (18518, 18589));
 
 /// write in configure.ac
-pub const SET_MKDIR_P: Key = Key((16253, 16264), (16265, 16265), (16265, 16322));
+pub const SET_MKDIR_P: Key = Key((18590, 18601), (18602, 18602), (18602, 18659));
 
 /// write in configure.ac
-pub const SET_LN_S: Key = Key((16323, 16331), (16332, 16332), (16332, 16383));
+pub const SET_LN_S: Key = Key((18660, 18668), (18669, 18669), (18669, 18720));
 
 /// write in configure.ac
-pub const SET_RANLIB: Key = Key((16384, 16394), (16395, 16395), (16395, 16458));
+pub const SET_RANLIB: Key = Key((18721, 18731), (18732, 18732), (18732, 18795));
 
 /// write in configure.ac
-pub const SET_AR: Key = Key((16459, 16465), (16466, 16466), (16466, 16516));
+pub const SET_AR: Key = Key((18796, 18802), (18803, 18803), (18803, 18853));
 
 /// write in configure.ac
-pub const SET_AWK: Key = Key((16517, 16524), (16525, 16525), (16525, 16592));
+pub const SET_AWK: Key = Key((18854, 18861), (18862, 18862), (18862, 18929));
 
 /// write in configure.ac
-pub const SET_CPP: Key = Key((16593, 16600), (16601, 16601), (16601, 16652));
+pub const SET_CPP: Key = Key((18930, 18937), (18938, 18938), (18938, 18989));
 
 /// it is empty on this system; write in configure.ac
-pub const SET_EXEEXT: Key = Key((16653, 16663), (16664, 16664), (16664, 16738));
+pub const SET_EXEEXT: Key = Key((18990, 19000), (19001, 19001), (19001, 19075));
 
 /// write in configure.ac
-pub const SET_OBJEXT: Key = Key((16739, 16749), (16750, 16750), (16750, 16797));
+pub const SET_OBJEXT: Key = Key((19076, 19086), (19087, 19087), (19087, 19134));
 
 /// write in configure.ac
-pub const SET_LIBOBJS: Key = Key((16798, 16809), (16810, 16810), (16810, 16853));
+pub const SET_LIBOBJS: Key = Key((19135, 19146), (19147, 19147), (19147, 19190));
 
 /// acrun renames no programs; write in configure.ac
-pub const SET_TRANSFORM_NAME: Key = Key((16854, 16872), (16873, 16873), (16873, 16968));
+pub const SET_TRANSFORM_NAME: Key = Key((19191, 19209), (19210, 19210), (19210, 19305));
 
 /// use @srcdir@, or `cd` and `pwd` in the rule
-pub const SET_ABS_SRCDIR: Key = Key((16969, 16983), (16984, 16984), (16984, 17027));
+pub const SET_ABS_SRCDIR: Key = Key((19306, 19320), (19321, 19321), (19321, 19364));
 
 /// use @top_srcdir@, or `cd` and `pwd` in the rule
-pub const SET_ABS_TOP_SRCDIR: Key = Key((17028, 17046), (17047, 17047), (17047, 17094));
+pub const SET_ABS_TOP_SRCDIR: Key = Key((19365, 19383), (19384, 19384), (19384, 19431));
 
 /// use @top_builddir@, or `cd` and `pwd` in the rule
-pub const SET_ABS_TOP_BUILDDIR: Key = Key((17095, 17115), (17116, 17116), (17116, 17165));
+pub const SET_ABS_TOP_BUILDDIR: Key = Key((19432, 19452), (19453, 19453), (19453, 19502));
 
 /// libtool checks it; write
-pub const DEFINE_DLFCN_H: Key = Key((17166, 17180), (17181, 17181), (17181, 17235));
+pub const DEFINE_DLFCN_H: Key = Key((19503, 19517), (19518, 19518), (19518, 19572));
 
 /// every compiler of this century has them; write
-pub const DEFINE_STDC_HEADERS: Key = Key((17236, 17255), (17256, 17256), (17256, 17335));
+pub const DEFINE_STDC_HEADERS: Key = Key((19573, 19592), (19593, 19593), (19593, 19672));
 
 /// the option OPTION is not known
-pub const UNKNOWN_OPTION: Key = Key((17336, 17350), (17351, 17376), (17377, 17377));
+pub const UNKNOWN_OPTION: Key = Key((19673, 19687), (19688, 19713), (19714, 19714));
 
 /// write it before the command: acrun -j8 configure
-pub const OPTION_BEFORE_COMMAND: Key = Key((17377, 17398), (17399, 17399), (17399, 17447));
+pub const OPTION_BEFORE_COMMAND: Key = Key((19714, 19735), (19736, 19736), (19736, 19784));
 
 /// a similar option is OPTION
-pub const NEAR_OPTION: Key = Key((17448, 17459), (17460, 17460), (17460, 17481));
+pub const NEAR_OPTION: Key = Key((19785, 19796), (19797, 19797), (19797, 19818));
 
 /// acrun configure --help shows the options of the source, and man acrun all others
-pub const SEE_OPTIONS: Key = Key((17482, 17493), (17494, 17494), (17494, 17574));
+pub const SEE_OPTIONS: Key = Key((19819, 19830), (19831, 19831), (19831, 19911));
 
 /// an argument is an option or NAME=VALUE; man acrun has all options
-pub const NO_OPTION: Key = Key((17575, 17584), (17585, 17585), (17585, 17650));
+pub const NO_OPTION: Key = Key((19912, 19921), (19922, 19922), (19922, 19987));
 
 /// OPTION names no feature or package
-pub const NO_OPTION_NAME: Key = Key((17651, 17665), (17666, 17695), (17696, 17773));
+pub const NO_OPTION_NAME: Key = Key((19988, 20002), (20003, 20032), (20033, 20110));
 
 /// NAME is no name of a variable
-pub const NO_ASSIGNED_NAME: Key = Key((17774, 17790), (17791, 17817), (17818, 17885));
+pub const NO_ASSIGNED_NAME: Key = Key((20111, 20127), (20128, 20154), (20155, 20222));
 
 /// the option OPTION needs a value
-pub const OPTION_WITHOUT_VALUE: Key = Key((17886, 17906), (17907, 17933), (17934, 17973));
+pub const OPTION_WITHOUT_VALUE: Key = Key((20223, 20243), (20244, 20270), (20271, 20310));
 
 /// the source declares no option OPTION
-pub const UNDECLARED_OPTION: Key = Key((17974, 17991), (17992, 18023), (18024, 18134));
+pub const UNDECLARED_OPTION: Key = Key((20311, 20328), (20329, 20360), (20361, 20471));
 
 /// there is no command, and no line of the input is `%%`
-pub const NO_CALL: Key = Key((18135, 18142), (18143, 18196), (18197, 18197));
+pub const NO_CALL: Key = Key((20472, 20479), (20480, 20533), (20534, 20534));
 
 /// OPTION takes no other word
-pub const WORD_AFTER_OPTION: Key = Key((18197, 18214), (18215, 18236), (18237, 18274));
+pub const WORD_AFTER_OPTION: Key = Key((20534, 20551), (20552, 20573), (20574, 20611));
 
 /// -j is no number of children
-pub const NO_NUMBER_OF_CHILDREN: Key = Key((18275, 18296), (18297, 18324), (18325, 18400));
+pub const NO_NUMBER_OF_CHILDREN: Key = Key((20612, 20633), (20634, 20661), (20662, 20737));
 
 /// WORD is no command
-pub const NO_COMMAND: Key = Key((18401, 18411), (18412, 18427), (18428, 18428));
+pub const NO_COMMAND: Key = Key((20738, 20748), (20749, 20764), (20765, 20765));
 
 /// a similar name is NAME
-pub const NEAR_NAME: Key = Key((18428, 18437), (18438, 18438), (18438, 18457));
+pub const NEAR_NAME: Key = Key((20765, 20774), (20775, 20775), (20775, 20794));
 
 /// acrun help lists the commands
-pub const SEE_COMMANDS: Key = Key((18458, 18470), (18471, 18500), (18501, 18501));
+pub const SEE_COMMANDS: Key = Key((20795, 20807), (20808, 20837), (20838, 20838));
 
 /// --recheck is the only word after status
-pub const WORD_AFTER_STATUS: Key = Key((18501, 18518), (18519, 18558), (18559, 18559));
+pub const WORD_AFTER_STATUS: Key = Key((20838, 20855), (20856, 20895), (20896, 20896));
 
 /// -jN is followed by configure, and N is from 1 to 16
-pub const WINDOW_WITHOUT_CONFIGURE: Key = Key((18559, 18583), (18584, 18635), (18636, 18636));
+pub const WINDOW_WITHOUT_CONFIGURE: Key = Key((20896, 20920), (20921, 20972), (20973, 20973));
 
 /// the line LINE is none of a cache
-pub const NO_CACHE_LINE: Key = Key((18636, 18649), (18650, 18679), (18680, 18742));
+pub const NO_CACHE_LINE: Key = Key((20973, 20986), (20987, 21016), (21017, 21079));
 
 /// the line LINE sets what is no cached value
-pub const NO_CACHE_NAME: Key = Key((18743, 18756), (18757, 18796), (18797, 18883));
+pub const NO_CACHE_NAME: Key = Key((21080, 21093), (21094, 21133), (21134, 21220));
 
 /// the cache file has more than 4,194,304 bytes
-pub const CACHE_TOO_LARGE: Key = Key((18884, 18899), (18900, 18944), (18945, 18976));
+pub const CACHE_TOO_LARGE: Key = Key((21221, 21236), (21237, 21281), (21282, 21313));
 
 /// NAME was VALUE in the run that made the cache CACHE
-pub const WAS_SET: Key = Key((18977, 18984), (18985, 19025), (19026, 19109));
+pub const WAS_SET: Key = Key((21314, 21321), (21322, 21362), (21363, 21446));
 
 /// NAME was not set in the run that made the cache CACHE
-pub const WAS_UNSET: Key = Key((19110, 19119), (19120, 19166), (19167, 19237));
+pub const WAS_UNSET: Key = Key((21447, 21456), (21457, 21503), (21504, 21574));
 
 /// , and is now VALUE
-pub const IS_SET: Key = Key((19238, 19244), (19245, 19259), (19260, 19260));
+pub const IS_SET: Key = Key((21575, 21581), (21582, 21596), (21597, 21597));
 
 /// , and is now not set
-pub const IS_UNSET: Key = Key((19260, 19268), (19269, 19289), (19290, 19290));
+pub const IS_UNSET: Key = Key((21597, 21605), (21606, 21626), (21627, 21627));
 
 /// CACHE may hold a wrong "no", as a program found no room: remove it
-pub const WRONG_NO: Key = Key((19290, 19298), (19299, 19361), (19362, 19362));
+pub const WRONG_NO: Key = Key((21627, 21635), (21636, 21698), (21699, 21699));
 
 /// the file is no record of a run: it begins with LINE
-pub const NO_RECORD: Key = Key((19362, 19371), (19372, 19420), (19421, 19510));
+pub const NO_RECORD: Key = Key((21699, 21708), (21709, 21757), (21758, 21847));
 
 /// the record has another version: LINE
-pub const OTHER_RECORD: Key = Key((19511, 19523), (19524, 19557), (19558, 19613));
+pub const OTHER_RECORD: Key = Key((21848, 21860), (21861, 21894), (21895, 21950));
 
 /// the line LINE is wrong in the record
-pub const WRONG_RECORD_LINE: Key = Key((19614, 19631), (19632, 19665), (19666, 19691));
+pub const WRONG_RECORD_LINE: Key = Key((21951, 21968), (21969, 22002), (22003, 22028));
 
 /// the record is cut off
-pub const CUT_RECORD: Key = Key((19692, 19702), (19703, 19724), (19725, 19750));
+pub const CUT_RECORD: Key = Key((22029, 22039), (22040, 22061), (22062, 22087));
 
 /// NAME is no output of this package
-pub const NO_OUTPUT_NAME: Key = Key((19751, 19765), (19766, 19796), (19797, 19797));
+pub const NO_OUTPUT_NAME: Key = Key((22088, 22102), (22103, 22133), (22134, 22134));
 
 /// configure.in is there, and is not read: give it the name configure.ac
-pub const OLD_SOURCE_NAME: Key = Key((19797, 19812), (19813, 19882), (19883, 19883));
+pub const OLD_SOURCE_NAME: Key = Key((22134, 22149), (22150, 22219), (22220, 22220));
 
 /// no compiler job of this run succeeded: see config.log
-pub const NO_COMPILER_WORKS: Key = Key((19883, 19900), (19901, 19954), (19955, 19955));
+pub const NO_COMPILER_WORKS: Key = Key((22220, 22237), (22238, 22291), (22292, 22292));
 
 /// The names, the messages and the help. A place is the byte 1, 2 or 3.
 #[rattlefmt::skip]
@@ -1017,8 +1083,71 @@ login-shell
 SHELL is the login shell of whoever runs this, or empty; in Autoconf it is the shell that runs configure
 write AC_SUBST([SHELL], [/bin/sh])
 script-variable
-a variable of configure scripts is an ordinary one here, and empty until it is set
+nothing here sets \x01; a configure script of Autoconf does, and here it is empty
+check-gnu
+write before it, after AC_PROG_CC
+  AC_CACHE_CHECK([whether the compiler is GNU C], [ac_cv_c_compiler_gnu],
+    [AC_COMPILE_IFELSE([AC_LANG_PROGRAM([[#ifndef __GNUC__
+  #error another compiler
+  #endif]], [])], [ac_cv_c_compiler_gnu=yes], [ac_cv_c_compiler_gnu=no])])
+  AS_IF([test \"$ac_cv_c_compiler_gnu\" = yes], [GCC=yes], [GCC=])
+no-other-language
+acrun makes checks of C alone
+declare-host
+write before it
+  AC_ARG_VAR([host], [the system that the programs run on, as CPU-VENDOR-OS])
+it is empty unless the user gives it; share/configure gives it what it gets by --host or --build
+declare-build
+write before it
+  AC_ARG_VAR([build], [the system that configure runs on, as CPU-VENDOR-OS])
+it is empty unless the user gives it; share/configure gives it what it gets by --build
+declare-target
+write before it
+  AC_ARG_VAR([target], [the system that the programs make code for, as CPU-VENDOR-OS])
+it is empty unless the user gives it; share/configure gives it what it gets by --target, --host or --build
+test-host
+declare host by AC_ARG_VAR, and compare it with patterns, as in AS_CASE([$host], [*-linux*], ..)
+test-build
+declare build by AC_ARG_VAR, and compare it with patterns, as in AS_CASE([$build], [*-linux*], ..)
+test-target
+declare target by AC_ARG_VAR, and compare it with patterns, as in AS_CASE([$target], [*-linux*], ..)
+no-cross
+acrun compiles for the machine that it runs on; leave it out, or write before it
+  cross_compiling=no
+set-package
+write before it
+  AC_SUBST([PACKAGE], [$PACKAGE_TARNAME])
+set-version
+write before it
+  AC_SUBST([VERSION], [$PACKAGE_VERSION])
+use-srcdir
 leave it out, or use @srcdir@ in a template
+leave-out
+leave it out, or set it before
+make-check
+no check of this source answers it: make that check, or leave it out
+tilde
+the `~` stays here; a shell replaces it by the home directory
+write \"$HOME\" in its place, or put the `~` in quotes
+dollar-quote
+the `$` before the quote stays here; some shells drop it, or read the quote otherwise
+leave the `$` out
+unquoted-word
+\x01 is one word of the test here; a shell makes no word of it if it is empty, and several if it has blanks
+write \"\x01\"
+same-at-line
+; the same holds at line \x01
+and-line
+, \x01
+and-more-lines
+ and further lines
+fewer-includes
+Autoconf's default includes have <\x01>, and so \x02; acrun's do not
+write as the fourth argument
+includes-of
+:
+  [AC_INCLUDES_DEFAULT
+  #include <\x01>]
 quoted-includes
 AC_INCLUDES_DEFAULT in two pairs of brackets is read here; in Autoconf it is text
 put it in one pair of brackets
