@@ -30,7 +30,7 @@ if test a = b^Jthen x=1^J  else^J  x=2^J  fi => AS_IF([test a = b], [x=1^J  ], [
 if^J  test a = b ; ^J then^J^Jx=1^J^Jfi => AS_IF([test a = b], [^J^Jx=1^J^J])
 if test a = b; then x=1; y=2 ; fi => AS_IF([test a = b], [x=1; y=2])
 if test a = b; then x=1;^Jfi => AS_IF([test a = b], [x=1;^J])
-if test a = b;then	x=1;fi => AS_IF([test a = b], [x=1])
+if test a = b;then^Ix=1;fi => AS_IF([test a = b], [x=1])
 if test a = b; then^M^J  x=1^M^Jfi^M^J => AS_IF([test a = b], [^J  x=1^M^J])^M^J
 // nested
 if a; then^J if test b; then^J  x=1^J fi^Jfi => if a; then^J AS_IF([test b], [^J  x=1^J ])^Jfi
