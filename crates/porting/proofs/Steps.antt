@@ -1,10 +1,9 @@
 -- What one step of writing comments makes.
 use Rattle.std.proofs.Common.{◌≡◌, ℕ, ◌≤◌, List, ◌++◌, length, Result, Ok, Err, OnOk, slice_range, sym, subst, Option, Some, None, true, false, arith}
 use Rattle.std.specs.Prelude.{IfSome, IfOk, MatchOption}
-use Rattle.porting.specs.Ported.{IsCommented, IsPorted, IsPrinted, is_line_start, comment}
+use Rattle.porting.specs.Ported.{IsCommented, IsMoved, IsPorted, IsPrinted, IsTurn, is_line_start, comment}
 use Rattle.porting.specs.Ported as specs
 use Rattle.porting.specs.declared.whole.Ported.{Ported}
-use Rattle.replacing.specs.Rewritten.{IsRewritten}
 use Rattle.linting.specs.Errors.{IsAccepted}
 
 pub commented_bound : (text : List ℕ) (at : ℕ) (out : List ℕ) → IsCommented text at out → at ≤ length text
@@ -29,6 +28,11 @@ words_put text at out new words before is more = subst (IsCommented text at) (sy
 pub same_ported : {E : Type 0} (r : Result (Option Ported) E) (text : List ℕ) → IsAccepted text
     → IfOk r (λ o. MatchOption o ⊥ (λ p. (p.text ≡ text) × (p.has_comments ≡ false))) → IfOk r (λ o. IfSome o (λ p. IsPorted text p.has_comments p.text))
 same_ported (Ok (Some p)) text accepted (same, none) =
-    record { mid = text; rewritten = IsRewritten.same; printed = subst (λ b. IsPrinted text b p.text) (sym none) (same, accepted) }
+    record { mid = text; rewritten = specs.IsMoved.same; printed = subst (λ b. IsPrinted text b p.text) (sym none) (same, accepted) }
 same_ported (Ok None) text accepted m = tt
 same_ported (Err e) text accepted m = tt
+
+pub turn_more : {V : Type 0} (items : V → List ℕ) (text mid now : List ℕ) (o : Option V) (next : V) → o ≡ Some next → now ≡ mid
+    → IfSome o (λ v. IsTurn now (items v)) → IsMoved text mid → IsMoved text (items next)
+turn_more items text mid now o next is same turn before =
+    specs.IsMoved.turned before (subst (λ m. IsTurn m (items next)) same (subst (λ o. IfSome o (λ v. IsTurn now (items v))) is turn))

@@ -3,6 +3,7 @@ use Rattle.std.specs.Prelude.{◌≡◌, ℕ, ◌-◌, ◌≤◌, ◌==◌, ◌|
 use Rattle.std.specs.List.{flat_map}
 use Rattle.linting.specs.Errors.{IsAccepted}
 use Rattle.replacing.specs.Rewritten.{IsRewritten}
+use Rattle.shellforms.specs.Formed.{IsFormed}
 use Rattle.textcut.specs.Cuts.{parts}
 
 -- ---- comments
@@ -32,8 +33,19 @@ abbrev pub IsPrinted : List ℕ → Bool → List ℕ → Type 0
 IsPrinted text false out = (out ≡ text) × IsAccepted text
 IsPrinted text true out = IsCommented text (length text) out × (IsAccepted text → ⊥)
 
+-- The calls of the text are rewritten, and then its statements of a shell.
+pub record IsTurn (text out : List ℕ) : Type 0 where
+  pub mid : List ℕ
+  pub calls : IsRewritten text mid
+  pub statements : IsFormed mid out
+
+-- The same as often as there is something to rewrite.
+pub data IsMoved : List ℕ → List ℕ → Type 0 where
+  same : {text : List ℕ} → IsMoved text text
+  turned : {text mid out : List ℕ} → IsMoved text mid → IsTurn mid out → IsMoved text out
+
 -- The text becomes this one, with comments or without.
 pub record IsPorted (text : List ℕ) (has_comments : Bool) (out : List ℕ) : Type 0 where
   pub mid : List ℕ
-  pub rewritten : IsRewritten text mid
+  pub rewritten : IsMoved text mid
   pub printed : IsPrinted mid has_comments out

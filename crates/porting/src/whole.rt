@@ -5,11 +5,11 @@ ghost use Rattle.linting.specs.Errors.{IsAccepted};
 ghost use Rattle.porting.specs.Ported as specs;
 
 use crate::comments::commented;
+use crate::moving::moved;
 use deftable::Bytes;
 use findings::Finding;
 use linting::errors_of;
 use m4quote::{QuoteFault, read_items};
-use replacing::replaced;
 use sourcefaults::all_errors;
 use std::alloc::{AllocError, Global};
 
@@ -58,7 +58,7 @@ fn printed(alloc: Global, text: Vec<u8>) -> Result<Ported, AllocError>
 fn rewritten(alloc: Global, text: &[u8]) -> Result<Option<Ported>, AllocError>
     ensures { IfOk result (λ o. IfSome o (λ p. specs.IsPorted text.now p.has_comments p.text)) }
 {
-    let mid = replaced(alloc, text)?;
+    let mid = moved(alloc, text)?;
     let ported = printed(alloc, mid)?;
     Ok(Some(ported))
 }
@@ -99,10 +99,10 @@ fn port_refused(alloc: Global, text: &[u8]) -> Result<Option<Ported>, AllocError
     Ok(None)
 }
 
-/// Returns a source in which each call that has an exact idiom is replaced by it, and what is still an error has a comment above it.
-/// Returns `None` if the source's quotes have an error, because then no call is found.
+/// Returns a source in which each call that has an exact idiom is replaced by it, and each statement of a shell by the call that means
+/// the same. What is still an error has a comment above it. Returns `None` if the source's quotes have an error, because then no call is found.
 pub fn port(alloc: Global, text: &[u8]) -> Result<Option<Ported>, AllocError>
-    // Calls that have to go may be replaced, and all else is copied. There are comments exactly if what is left is not accepted; they are
+    // Calls that have to go may be replaced, and an `if` by AS_IF with its parts. All else is copied. There are comments exactly if what is left is not accepted; they are
     // lines before lines of the text.
     ensures ported { IfOk result (λ o. IfSome o (λ p. specs.IsPorted text.now p.has_comments p.text)) }
     // A source that acrun accepts stays as it is.

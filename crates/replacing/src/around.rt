@@ -107,11 +107,20 @@ fn text_before(text: &[u8], spot: Spot, at: usize) -> &[u8] {
     }
 }
 
-/// Returns whether a statement may begin at a place: an argument begins there, or nothing is before
-/// it on its line, and no operator ends the line before.
+/// Returns whether a text ends in `then` or `else`.
+fn ends_in_word(text: &[u8]) -> bool {
+    let is_word = text.ends_with(b"then") || text.ends_with(b"else");
+    let before = text.len().checked_sub(5).and_then(|at| text.get(at));
+    is_word && !before.is_some_and(|byte| !is_blank(*byte) && *byte != b';')
+}
+
+/// Returns whether a statement may begin at a place: an argument begins there, `then` or `else` is before it on its line, or nothing
+/// is, and no operator ends the line before.
 pub(crate) fn begins_statement(text: &[u8], spot: Spot, at: usize) -> bool {
-    match without_end_blanks(text_before(text, spot, at)).last() {
+    let before = without_end_blanks(text_before(text, spot, at));
+    match before.last() {
         None => true,
+        Some(_) if !spot.is_first && ends_in_word(before) => true,
         Some(byte) => {
             let is_joined = matches!(*byte, b'&' | b'|' | b'\\' | b'!');
             matches!(*byte, b'[' | b'(' | b',') || spot.is_first && !is_joined

@@ -13,6 +13,8 @@ mod calls;
 #[cfg(test)]
 mod errors;
 #[cfg(test)]
+mod ifs;
+#[cfg(test)]
 mod last_line;
 #[cfg(test)]
 mod log_lines;

@@ -1,0 +1,17 @@
+-- What the statements of a shell in a text become. The offsets are those of the text that is read. All of this is own.
+use Rattle.std.specs.Prelude.{◌≡◌, ℕ, ◌≤◌, List, [], ◌++◌, length, slice_range, codes}
+use Rattle.shellforms.specs.Calls.{IsPut}
+use Rattle.shellforms.specs.Ifs.{IsIf}
+
+-- One pass over a text has read so much of it, and written this. Everything is copied, but an `if` may become the call of AS_IF with the
+-- same conditions and bodies in the same order.
+pub data IsPass (text : List ℕ) : ℕ → List ℕ → Type 0 where
+  begun : IsPass text 0 []
+  copied : {at : ℕ} {out : List ℕ} (next : ℕ) → IsPass text at out → at ≤ next → next ≤ length text → IsPass text next (out ++ slice_range text at next)
+  chosen : {at : ℕ} {out : List ℕ} (end : ℕ) (parts : List (List ℕ)) (put : List ℕ) → IsPass text at out → IsIf text at end parts
+      → IsPut (codes "AS_IF") parts put → IsPass text end (out ++ put)
+
+-- The one text becomes the other by passes, each of which reads what the one before it wrote.
+pub data IsFormed : List ℕ → List ℕ → Type 0 where
+  same : {text : List ℕ} → IsFormed text text
+  passed : {text mid out : List ℕ} → IsFormed text mid → IsPass mid (length mid) out → IsFormed text out

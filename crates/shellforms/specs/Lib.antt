@@ -1,0 +1,4 @@
+pub mod Calls
+pub mod Ifs
+pub mod Places
+pub mod Formed

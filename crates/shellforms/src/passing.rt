@@ -1,0 +1,131 @@
+//! One pass over a text, in which statements become calls.
+
+ghost use Rattle.std.specs.Prelude.{◌≡◌, ◌≤◌, ◌++◌, map, length, slice_range, codes, IfOk, IfSome, OnOk};
+ghost use Rattle.shellforms.specs.Calls.{IsPut};
+ghost use Rattle.shellforms.specs.Formed as specs;
+ghost use Rattle.shellforms.specs.Ifs.{IsIf};
+
+use crate::branches::parts_of;
+use crate::calls::accepted_call;
+use crate::cut::Cut;
+use crate::lists::cuts_of;
+use std::alloc::{AllocError, Global};
+
+/// A text that is written while another is read.
+#[derive(Drop)]
+struct Pass {
+    out: Vec<u8>,
+    /// How much was read.
+    at: usize,
+    /// Whether anything was rewritten.
+    has_changed: bool,
+}
+
+/// Copies what is before a statement, and writes what is put in its place.
+fn write_change(
+    text: &[u8],
+    start: usize,
+    end: usize,
+    put: &[u8],
+    pass: &mut Pass,
+) -> Result<(), AllocError>
+    requires { (pass.old.at ≤ start) × (start ≤ length text.now) }
+    ensures { OnOk result ((pass.new.at ≡ end) × (pass.new.out.items ≡ (pass.old.out.items ++ slice_range text.now pass.old.at start) ++ put.now)) }
+{
+    pass.out.extend_from_slice(&text[pass.at..start])?;
+    pass.out.extend_from_slice(put)?;
+    pass.at = end;
+    pass.has_changed = true;
+    Ok(())
+}
+
+/// Writes the call for an `if` with these parts, unless the `if` was in what was rewritten.
+fn put_found(
+    text: &[u8],
+    cut: &Cut,
+    parts: &[&[u8]],
+    put: &[u8],
+    pass: &mut Pass,
+) -> Result<(), AllocError>
+    requires parts { IsIf text.now cut.now.start cut.now.end (map (λ p. p.now) parts.now) }
+    requires put { IsPut (codes "AS_IF") (map (λ p. p.now) parts.now) put.now }
+    requires begun { specs.IsPass text.now pass.old.at pass.old.out.items }
+    ensures { OnOk result (specs.IsPass text.now pass.new.at pass.new.out.items) }
+{
+    if cut.start < pass.at || text.len() < cut.start {
+        return Ok(());
+    }
+    let _parts = parts;
+    write_change(text, cut.start, cut.end, put, pass)
+}
+
+/// Writes the call for an `if` with these parts, unless it is none, or acrun doesn't accept it.
+fn put_if(
+    alloc: Global,
+    text: &[u8],
+    cut: &Cut,
+    parts: &[&[u8]],
+    pass: &mut Pass,
+) -> Result<(), AllocError>
+    requires parts { IsIf text.now cut.now.start cut.now.end (map (λ p. p.now) parts.now) }
+    requires begun { specs.IsPass text.now pass.old.at pass.old.out.items }
+    ensures { OnOk result (specs.IsPass text.now pass.new.at pass.new.out.items) }
+{
+    match accepted_call(alloc, b"AS_IF", parts)? {
+        Some(put) => put_found(text, cut, parts, put.as_slice(), pass),
+        None => Ok(()),
+    }
+}
+
+/// Writes the call for an `if`, if there is one, unless it was in what was rewritten.
+fn pass_cut(alloc: Global, text: &[u8], cut: &Cut, pass: &mut Pass) -> Result<(), AllocError>
+    requires begun { specs.IsPass text.now pass.old.at pass.old.out.items }
+    ensures { OnOk result (specs.IsPass text.now pass.new.at pass.new.out.items) }
+{
+    if cut.start < pass.at {
+        return Ok(());
+    }
+    match parts_of(alloc, text, cut)? {
+        Some(parts) => put_if(alloc, text, cut, parts.as_slice(), pass),
+        None => Ok(()),
+    }
+}
+
+/// Goes over the statements that were found.
+fn pass_cuts(alloc: Global, text: &[u8], cuts: &[Cut], pass: &mut Pass) -> Result<(), AllocError>
+    requires begun { specs.IsPass text.now pass.old.at pass.old.out.items }
+    ensures { OnOk result (specs.IsPass text.now pass.new.at pass.new.out.items) }
+{
+    for i in 0..cuts.len() {
+        pass_cut(alloc, text, &cuts[i], pass)?;
+    }
+    Ok(())
+}
+
+/// Copies the rest of a text.
+fn finish(text: &[u8], pass: &mut Pass) -> Result<(), AllocError>
+    requires begun { specs.IsPass text.now pass.old.at pass.old.out.items }
+    ensures { OnOk result (specs.IsPass text.now (length text.now) pass.new.out.items) }
+{
+    pass.out.extend_from_slice(&text[pass.at..text.len()])
+}
+
+/// Returns the text with each statement rewritten that has no other one in it, or `None` if there is none.
+pub(crate) fn formed_once(alloc: Global, text: &[u8]) -> Result<Option<Vec<u8>>, AllocError>
+    ensures { IfOk result (λ o. IfSome o (λ v. specs.IsPass text.now (length text.now) v.items)) }
+{
+    let cuts = cuts_of(alloc, text)?;
+    let mut pass = Pass {
+        out: Vec::new(alloc),
+        at: 0,
+        has_changed: false,
+    };
+    pass_cuts(alloc, text, cuts.as_slice(), &mut pass)?;
+    finish(text, &mut pass)?;
+    let Pass {
+        out,
+        has_changed,
+        ..
+    } = pass;
+    if has_changed { Ok(Some(out)) } else { Ok(None) }
+}
