@@ -2,20 +2,23 @@
 use Rattle.std.specs.Prelude.{◌≡◌, ℕ, List, ◌++◌, Option, codes}
 use Rattle.cfglog.specs.Texts.{log_of}
 use Rattle.disk.specs.Known.{Known, Deed}
-use Rattle.diskfiles.specs.Done.{IsDone}
+use Rattle.diskfiles.specs.Done.{AreDone}
 use Rattle.diskfiles.specs.Held.{Held}
 use Rattle.diskfiles.specs.Steps.{IsReplaced}
+use Rattle.diskfiles.specs.declared.places.Guard.{Guard}
+use Rattle.diskfiles.specs.declared.places.Place.{Place}
 use Rattle.framing.specs.declared.report.Report.{Report}
 use Rattle.invocation.specs.Logged.{IsHeld, HasLogged}
 use Rattle.outputs.specs.declared.artifact.Artifact.{Artifact}
 
 -- All that was done to files is what was done for these artifacts, none of which was refused, with
--- these lines; and then the log was written, with this text. (own)
-pub record IsLeft (k : Known) (artifacts : List Artifact) (lines log : List ℕ) : Type 0 where
+-- these lines, while these names were guarded; and then the log was written, with this text. (own)
+pub record IsLeft (k : Known) (guards : List Guard) (artifacts : List Artifact) (lines log : List ℕ) : Type 0 where
+  pub places : List Place
   pub before : List Deed
   pub logged : List Deed
   pub deeds : k.deeds ≡ before ++ logged
-  pub done : IsDone k.files artifacts 0 lines before
+  pub done : AreDone k.files guards artifacts 0 lines places before
   pub written : IsReplaced (record { deeds = before; files = k.files }) (codes "config.log") log logged
 
 -- After a run with this report the log was written. (own)

@@ -1,9 +1,10 @@
 //! The command that makes the outputs of a record again.
 
-ghost use Rattle.std.specs.Prelude.{◌≡◌, ◌≢◌, ℕ, List, ◌++◌, Some, Ok, IsTrue, codes};
+ghost use Rattle.std.specs.Prelude.{◌≡◌, ◌≢◌, ℕ, List, ◌∷◌, ◌++◌, Some, Ok, OnOk, IsTrue, codes};
 ghost use Rattle.std.specs.Io.KnownBytes.{Appends};
 ghost use Rattle.commands.specs.MadeAgain.{IsMadeAgain, IsRecordFound};
 ghost use Rattle.diskfiles.specs.Held.{GuardsMore, IsUnused, fresh};
+ghost use Rattle.invocation.specs.Guarded.{AreGuarded, inputs_of};
 ghost use Rattle.invocation.specs.Supplies.{AreTemplates, ReadsWhole};
 
 use crate::errors::{tell_remake, tell_unread, tell_written};
@@ -70,7 +71,9 @@ fn keep_all<D: Disk>(
     templates: &[(Bytes, Bytes)],
 ) -> Result<(), AllocError>
     requires { IsUnused outputs.old }
-    ensures { GuardsMore outputs.old outputs.new }
+    ensures more { GuardsMore outputs.old outputs.new }
+    ensures guarded { OnOk result (AreGuarded (D.known outputs.new.disk) outputs.new.guards
+        (codes "config.status" ∷ inputs_of srcdir.now templates.now)) }
 {
     outputs.keep(RECORD)?;
     keep_inputs(alloc, outputs, srcdir, templates)
@@ -108,9 +111,9 @@ fn make_with<D: Disk, R: Read, W: Write, E: Write>(
 {
     let alloc = terminal.alloc;
     let srcdir = recorded.srcdir.as_slice();
-    if keep_all(alloc, &mut terminal.outputs, srcdir, templates).is_err() {
+    let Ok(()) = keep_all(alloc, &mut terminal.outputs, srcdir, templates) else {
         return tell_memory(&mut terminal.errors);
-    }
+    };
     let answer = remake_record(alloc, recorded, templates, why.args, &mut terminal.outputs);
     let lines = terminal.outputs.lines();
     let is_printed = print_made(

@@ -5,18 +5,21 @@ use Rattle.std.proofs.lemmas.List.{append-nil}
 use Rattle.acparse.specs.Profile.{source_of}
 use Rattle.crew_trait.specs.Events.{Account}
 use Rattle.cfglog.specs.Texts.{log_of}
+use Rattle.commandline.specs.Srcdir.{srcdir_of}
 use Rattle.commands.specs.Left.{IsLeft, Logs}
-use Rattle.commands.proofs.Remakes.{nothing_refused, all_done}
+use Rattle.commands.proofs.Remakes.{done_apart, guarded_before, nothing_refused, unguarded_too}
 use Rattle.disk.specs.Known.{Known, Does}
-use Rattle.diskfiles.specs.Done.{IsAllDone}
-use Rattle.diskfiles.specs.Held.{Held, IsUnused, receipt_of, closings}
+use Rattle.diskfiles.specs.Done.{IsDoneApart}
+use Rattle.diskfiles.specs.Held.{Held, AreUnguarded, IsUnused, receipt_of, closings}
 use Rattle.diskfiles.proofs.Unused.{unused_receipt}
 use Rattle.diskfiles.specs.Lines.{AreLines}
 use Rattle.diskfiles.specs.Steps.{IsReplaced}
+use Rattle.diskfiles.specs.declared.places.Guard.{Guard}
+use Rattle.diskfiles.specs.declared.places.Place.{Place}
 use Rattle.engine.specs.Configured.{IsAnswer, IfStarts, IfReport, IsMeant, artifacts}
 use Rattle.framing.specs.Faults.{◌>>=◌}
 use Rattle.framing.specs.Given.{Accepted, Starts, shows, started}
-use Rattle.framing.specs.Judging.{judgement, seen}
+use Rattle.framing.specs.Judging.{RunsBelow, judgement, seen}
 use Rattle.framing.specs.Needed.{Needed, script_in}
 use Rattle.framing.specs.Shown.{shown_report, shown_text}
 use Rattle.framing.specs.declared.starting.Start.{Start}
@@ -34,6 +37,7 @@ use Rattle.syntax.specs.Script.{Script}
 use Rattle.commands.specs.Printed.{printed}
 use Rattle.configuring.specs.Configures.{IsAsked, IsConfigured, IsRun, ReadsSource, shown, ran}
 use Rattle.invocation.specs.Errors.{errors_of}
+use Rattle.invocation.specs.Guarded.{AreGuarded, inputs_of}
 use Rattle.invocation.specs.Supplies.{AreGiven}
 
 -- ---- a text that is shown
@@ -59,11 +63,11 @@ is_shown window a e now old new source script found report status reads read is 
 
 -- A run that was made, by what was judged.
 pub is_run : (window : ℕ) (a : List (List ℕ)) (e : List (List ℕ × List ℕ)) (before now : Account) (old new : Option Known) (out : List ℕ) (said : List (List ℕ)) (source : List ℕ) (script : Script) (found : Found) (n : Needed) (status : ℕ)
-    → ReadsSource old a source → source_of source ≡ Ok script → judgement a e script ≡ Ok (seen found) → found ≡ founds.Runs n
+    → ReadsSource old a source → source_of source ≡ Ok script → judgement a e script ≡ Ok (seen found) → found ≡ founds.Runs n → RunsBelow (srcdir_of a) found
     → IsRun window n.arguments (script_in n) n.settings before now old new out said status → IsConfigured window a e before now old new out said status
-is_run window a e before now old new out said source script found n status reads read is kind made =
+is_run window a e before now old new out said source script found n status reads read is kind below made =
     let s = runs_as a e script found n is kind in
-    ran source script n.settings reads (record { read = read; settles = s.asks }) s.runs
+    ran source script n.settings reads (record { read = read; settles = s.asks }) s.runs (subst (RunsBelow (srcdir_of a)) kind below)
     (subst (λ x. IsRun window a x n.settings before now old new out said status) (sym s.script_is)
     (subst (λ x. IsRun window x (script_in n) n.settings before now old new out said status) (sym s.arguments) made))
 
@@ -75,13 +79,13 @@ is_read a e source script found n read is kind = (source, read ∙ ap Ok (runs_a
 -- ---- a run that returned a report
 
 -- What is left in files by a run that handed over these artifacts, and by its log.
-left_by : (mid fin : Option Known) (artifacts : List Artifact) (lines log : List ℕ) → IfSome mid (λ k. IsAllDone k artifacts 0 lines)
-    → Does mid fin (λ k deeds. IsReplaced k (codes "config.log") log deeds) → IfSome fin (λ k. IsLeft k artifacts lines log)
-left_by None None artifacts lines log done logged = tt
-left_by None (Some new) artifacts lines log done logged = absurd logged
-left_by (Some old) None artifacts lines log done logged = tt
-left_by (Some old) (Some new) artifacts lines log done logged =
-    subst (λ k. IsLeft k artifacts lines log) (sym logged.1) (record { before = old.deeds; logged = logged.0; deeds = refl; done = done; written = logged.2 })
+left_by : (mid fin : Option Known) (guards : List Guard) (artifacts : List Artifact) (lines log : List ℕ) (places : List Place) → IfSome mid (λ k. IsDoneApart k guards artifacts 0 lines places)
+    → Does mid fin (λ k deeds. IsReplaced k (codes "config.log") log deeds) → IfSome fin (λ k. IsLeft k guards artifacts lines log)
+left_by None None guards artifacts lines log places done logged = tt
+left_by None (Some new) guards artifacts lines log places done logged = absurd logged
+left_by (Some old) None guards artifacts lines log places done logged = tt
+left_by (Some old) (Some new) guards artifacts lines log places done logged =
+    subst (λ k. IsLeft k guards artifacts lines log) (sym logged.1) (record { places = places; before = old.deeds; logged = logged.0; deeds = refl; done = done; written = logged.2 })
 
 abbrev going_by : Script → Result Start Fault → Result Accepted Fault
 going_by script r = r >>= λ start. Ok (Starts script start)
@@ -89,18 +93,18 @@ going_by script r = r >>= λ start. Ok (Starts script start)
 -- What holds after a call of `go` over a receiver `before`, which is `mid` then, and `fin` after the
 -- log was written.
 end_of : {D : Type 0} (known : D → Option Known) (d : D) (before_puts mid fin : Held D) (r : Result Start Fault) (window : ℕ) (a : List (List ℕ)) (script : Script) (settings : Settings) (c : Option (List ℕ)) (t : List (List ℕ × List ℕ)) (before now : Account) (report : Report)
-    → IsUnused before_puts → AreGiven (known d) script settings.cache_name settings.srcdir settings.no_create c t
+    → IsUnused before_puts → before_puts.disk ≡ d → AreGuarded (known before_puts.disk) before_puts.guards (inputs_of settings.srcdir t) → mid.guards ≡ before_puts.guards → AreGiven (known d) script settings.cache_name settings.srcdir settings.no_create c t
     → started a c t script settings ≡ r → IsAnswer (going_by script r) (Ok report) → IfStarts (going_by script r) (λ script start. IsMeant window script start before now report)
     → IfStarts (going_by script r) (λ script start. receipt_of mid ≡ with_artifacts (receipt_of before_puts) (artifacts script start t report)) → Logs known mid fin report
     → IsRun window a script settings before now (known d) (known fin.disk) (printed settings.quiet report.messages mid.lines) (errors_of report.messages) (status_of report.outcome)
-end_of known d before_puts mid fin (Err OutOfMemory) window a script settings c t before now report new given is answer meant handed logs = absurd (cc)
-end_of known d before_puts mid fin (Err f) window a script settings c t before now report new given is answer meant handed logs = absurd (cc)
-end_of known d before_puts mid fin (Ok start) window a script settings c t before now report new given is answer meant handed logs =
+end_of known d before_puts mid fin (Err OutOfMemory) window a script settings c t before now report new disk guarded same_guards given is answer meant handed logs = absurd (cc)
+end_of known d before_puts mid fin (Err f) window a script settings c t before now report new disk guarded same_guards given is answer meant handed logs = absurd (cc)
+end_of known d before_puts mid fin (Ok start) window a script settings c t before now report new disk guarded same_guards given is answer meant handed logs =
     let empty : receipt_of before_puts ≡ record { handed = []; failures = 0 } = unused_receipt before_puts new in
     let all : mid.handed ≡ artifacts script start t report = ap (λ (r : Receipt). r.handed) handed ∙ ap (λ (r : Receipt). r.handed ++ artifacts script start t report) empty in
     let counted : mid.failures + closings mid.closed ≡ 0 = ap (λ (r : Receipt). r.failures) handed ∙ ap (λ (r : Receipt). r.failures) empty in
     let none = nothing_refused mid.failures mid.closed counted in
-    let done = all_done (known mid.disk) mid.handed (artifacts script start t report) mid.failures mid.lines mid.lines all none.0 refl (logs.held.done none.1) in
+    let done = done_apart (known mid.disk) mid.guards before_puts.guards mid.handed (artifacts script start t report) mid.failures mid.lines mid.lines mid.places same_guards all none.0 refl (logs.held.done none.1) in
     record {
       cache = c;
       templates = t;
@@ -111,7 +115,10 @@ end_of known d before_puts mid fin (Ok start) window a script settings c t befor
       starts = is;
       meant = meant;
       are_lines = subst (λ l. AreLines l mid.lines) all logs.held.lines;
-      left = left_by (known mid.disk) (known fin.disk) (artifacts script start t report) mid.lines (log_of report.log) done logs.log;
+      guards = before_puts.guards;
+      guarded = guarded_before known d before_puts.disk before_puts.guards (inputs_of settings.srcdir t) disk guarded;
+      unguarded = unguarded_too mid.guards before_puts.guards mid.handed (artifacts script start t report) same_guards all logs.held.unguarded;
+      left = left_by (known mid.disk) (known fin.disk) before_puts.guards (artifacts script start t report) mid.lines (log_of report.log) mid.places done logs.log;
       prints = refl;
       says = refl;
       exits = refl;
@@ -119,14 +126,14 @@ end_of known d before_puts mid fin (Ok start) window a script settings c t befor
 
 -- The same after a call of `go` that returned this report.
 pub run_done : {D : Type 0} (known : D → Option Known) (d : D) (before_puts mid fin : Held D) (window : ℕ) (a : List (List ℕ)) (script : Script) (settings : Settings) (c : Option (List ℕ)) (t : List (List ℕ × List ℕ)) (before now : Account) (answer : Result Report Fault) (report : Report) (quiet : Settings) (status : ℕ)
-    → IsUnused before_puts → AreGiven (known d) script settings.cache_name settings.srcdir settings.no_create c t
+    → IsUnused before_puts → before_puts.disk ≡ d → AreGuarded (known before_puts.disk) before_puts.guards (inputs_of settings.srcdir t) → mid.guards ≡ before_puts.guards → AreGiven (known d) script settings.cache_name settings.srcdir settings.no_create c t
     → IsAnswer (going_by script (started a c t script settings)) answer → IfStarts (going_by script (started a c t script settings)) (λ script start. IfReport answer (IsMeant window script start before now))
     → IfStarts (going_by script (started a c t script settings)) (λ script start. IfOk answer (λ report. receipt_of mid ≡ with_artifacts (receipt_of before_puts) (artifacts script start t report)))
     → quiet ≡ settings → answer ≡ Ok report → status ≡ status_of report.outcome → Logs known mid fin report
     → IsRun window a script settings before now (known d) (known fin.disk) (printed quiet.quiet report.messages mid.lines) (errors_of report.messages) status
-run_done known d before_puts mid fin window a script settings c t before now answer report quiet status new given accepted meant handed same is status_is logs =
+run_done known d before_puts mid fin window a script settings c t before now answer report quiet status new disk guarded same_guards given accepted meant handed same is status_is logs =
     let r = started a c t script settings in
-    let done = end_of known d before_puts mid fin r window a script settings c t before now report new given refl (subst (IsAnswer (going_by script r)) is accepted)
+    let done = end_of known d before_puts mid fin r window a script settings c t before now report new disk guarded same_guards given refl (subst (IsAnswer (going_by script r)) is accepted)
     (subst (λ x. IfStarts (going_by script r) (λ script start. IfReport x (IsMeant window script start before now))) is meant)
     (subst (λ x. IfStarts (going_by script r) (λ script start. IfOk x (λ report. receipt_of mid ≡ with_artifacts (receipt_of before_puts) (artifacts script start t report)))) is handed) logs in
     subst (λ n. IsRun window a script settings before now (known d) (known fin.disk) (printed quiet.quiet report.messages mid.lines) (errors_of report.messages) n) (sym status_is)

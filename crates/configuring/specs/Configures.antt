@@ -7,7 +7,9 @@ use Rattle.commands.specs.Left.{IsLeft}
 use Rattle.commands.specs.Printed.{printed}
 use Rattle.crew_trait.specs.Events.{Account}
 use Rattle.disk.specs.Known.{Known}
+use Rattle.diskfiles.specs.Held.{AreUnguarded}
 use Rattle.diskfiles.specs.Lines.{AreLines}
+use Rattle.diskfiles.specs.declared.places.Guard.{Guard}
 use Rattle.engine.specs.Configured.{IsMeant, artifacts}
 use Rattle.framing.specs.Given.{asked, shows, started}
 use Rattle.framing.specs.Rechecked as again
@@ -16,6 +18,7 @@ use Rattle.framing.specs.declared.starting.Start.{Start}
 use Rattle.framing.specs.declared.report.Report.{Report}
 use Rattle.framing.specs.Told.{status_of}
 use Rattle.invocation.specs.Errors.{errors_of}
+use Rattle.invocation.specs.Guarded.{AreGuarded, inputs_of}
 use Rattle.invocation.specs.Supplies.{ReadsLimited, ReadsWhole, AreGiven, path_of}
 use Rattle.options.specs.declared.settings.Settings.{Settings}
 pub use Rattle.proberun.specs.Ran.{MayRun}
@@ -34,8 +37,9 @@ pub record IsAsked (arguments : List (List ℕ)) (environment : List (List ℕ �
 
 -- The statements are run with these settings, with the cache and the templates as they are in
 -- files. The crew made the run in this way. What it hands over and its log are written, and nothing
--- else is done to files. This is printed on standard output, these messages are for standard error,
--- and this is the exit status. (own)
+-- else is done to files. The log, the source and the templates are guarded: nothing that it hands over
+-- has one of their names, and none is written at one of their places. This is printed on standard
+-- output, these messages are for standard error, and this is the exit status. (own)
 pub record IsRun (window : ℕ) (arguments : List (List ℕ)) (script : Script) (settings : Settings) (before now : Account) (old new : Option Known) (out : List ℕ) (said : List (List ℕ)) (status : ℕ) : Type 0 where
   pub cache : Option (List ℕ)
   pub templates : List (List ℕ × List ℕ)
@@ -46,19 +50,22 @@ pub record IsRun (window : ℕ) (arguments : List (List ℕ)) (script : Script) 
   pub starts : started arguments cache templates script settings ≡ Ok start
   pub meant : IsMeant window script start before now report
   pub are_lines : AreLines (artifacts script start templates report) lines
-  pub left : IfSome new (λ k. IsLeft k (artifacts script start templates report) lines (log_of report.log))
+  pub guards : List Guard
+  pub guarded : AreGuarded old guards (inputs_of settings.srcdir templates)
+  pub unguarded : AreUnguarded guards (artifacts script start templates report)
+  pub left : IfSome new (λ k. IsLeft k guards (artifacts script start templates report) lines (log_of report.log))
   pub prints : out ≡ printed settings.quiet report.messages lines
   pub says : said ≡ errors_of report.messages
   pub exits : status ≡ status_of report.outcome
 
 -- For the source that the arguments name, as it is in its file, the arguments and the environment
 -- ask for a text to be shown, and it is printed, and nothing else is done; or they ask for a run,
--- which is made. (own)
+-- which is made, with templates in the directory of the source. (own)
 pub data IsConfigured (window : ℕ) (arguments : List (List ℕ)) (environment : List (List ℕ × List ℕ)) (before now : Account) (old new : Option Known) (out : List ℕ) (said : List (List ℕ)) : ℕ → Type 0 where
   shown : (source : List ℕ) (script : Script) (settings : Settings) → ReadsSource old arguments source → IsAsked arguments environment source script settings
       → shows settings ≡ true → now ≡ before → new ≡ old → out ≡ shown_text script settings → said ≡ [] → IsConfigured window arguments environment before now old new out said 0
   ran : (source : List ℕ) (script : Script) (settings : Settings) {status : ℕ} → ReadsSource old arguments source → IsAsked arguments environment source script settings
-      → shows settings ≡ false → IsRun window arguments script settings before now old new out said status → IsConfigured window arguments environment before now old new out said status
+      → shows settings ≡ false → settings.srcdir ≡ srcdir_of arguments → IsRun window arguments script settings before now old new out said status → IsConfigured window arguments environment before now old new out said status
 
 -- For the record that is the text of config.status, and is of the second version, the program does
 -- what it does if it is asked to run a configure.ac with the arguments of the record and then

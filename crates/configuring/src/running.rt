@@ -78,9 +78,10 @@ fn run_supplied<D: Disk, C: Crew + Causes, R: Read, W: Write, E: Write>(
     let alloc = terminal.alloc;
     let templates = supplies.templates.as_slice();
     let outputs = &mut terminal.outputs;
-    if keep_inputs(alloc, outputs, why.srcdir, templates).is_err() {
+    let srcdir = needs.settings().srcdir.as_slice();
+    let Ok(()) = keep_inputs(alloc, outputs, srcdir, templates) else {
         return tell_memory(&mut terminal.errors);
-    }
+    };
     let cache = cache_of(supplies);
     let answer = go(alloc, needs, cache, templates, crew, outputs, window);
     let given = given_of(needs, cache);

@@ -94,6 +94,7 @@ fn hand_over<O: Outputs>(ready: Ready, outputs: &mut O) -> Result<Report, Fault>
     requires reported { ready.report.handed ≡ length ready.artifacts }
     ensures handed_over { IfOk result (λ report. (report ≡ ready.report) × (O.receipt outputs.new ≡ with_artifacts (O.receipt outputs.old) ready.artifacts)) }
     ensures cut { IfErr result (λ f. IsRefusedPut ready.report ready.artifacts (O.receipt outputs.old) (O.receipt outputs.new) f) }
+    ensures lasting { O.kept outputs.new ≡ O.kept outputs.old }
 {
     let Ready {
         mut report,
@@ -125,6 +126,7 @@ fn configured<C: Crew, O: Outputs>(
     ensures landed { in_flight (C.account crew.new).events ≡ in_flight (C.account crew.old).events }
     ensures done { IsDone window (script_in needs.now) start templates.now (C.account crew.old) (C.account crew.new) (O.receipt outputs.old) (O.receipt outputs.new) result }
     ensures memory { result ≡ Err OutOfMemory → outputs.new ≡ outputs.old }
+    ensures lasting { O.kept outputs.new ≡ O.kept outputs.old }
 {
     let ready = run_ready(alloc, needs, start, templates, crew, window)?;
     hand_over(ready, outputs)
@@ -146,6 +148,7 @@ fn gone<C: Crew, O: Outputs>(
     ensures whole { IsWhole ((crew.new ≡ crew.old) × (outputs.new ≡ outputs.old)) window (going needs.now (option_map (λ c. c.now) cache.entry) templates.now)
         templates.now (C.account crew.old) (C.account crew.new) (O.receipt outputs.old) (O.receipt outputs.new) result }
     ensures memory { result ≡ Err OutOfMemory → outputs.new ≡ outputs.old }
+    ensures lasting { O.kept outputs.new ≡ O.kept outputs.old }
     ensures idle { IsIdle (C.account crew.new).events }
     ensures landed { in_flight (C.account crew.new).events ≡ in_flight (C.account crew.old).events }
 {
@@ -208,6 +211,8 @@ pub fn go<C: Crew, O: Outputs>(
     ensures remakes { IfStarts (going needs.now (option_map (λ c. c.now) cache.entry) templates.now) (λ script start.
         IfReport result (λ report. IfCompleted report.outcome (Remakes script start templates.now report))) }
     ensures memory { result ≡ Err OutOfMemory → outputs.new ≡ outputs.old }
+    // What no put changes of a receiver is as it was, such as the names that it guards.
+    ensures lasting { O.kept outputs.new ≡ O.kept outputs.old }
     // If memory runs out, nothing was started, or the starts so far, and their replies, are those of the run.
     ensures begun { IfStarts (going needs.now (option_map (λ c. c.now) cache.entry) templates.now) (λ script start.
         result ≡ Err OutOfMemory → HasRunPart window script start (C.account crew.old) (C.account crew.new)) }
@@ -236,6 +241,7 @@ fn whole<C: Crew, O: Outputs>(
     ensures whole { IsWhole ((crew.new ≡ crew.old) × (outputs.new ≡ outputs.old)) window (judged source.now args.now env.now (option_map (λ c. c.now) cache.entry) templates.now)
         templates.now (C.account crew.old) (C.account crew.new) (O.receipt outputs.old) (O.receipt outputs.new) result }
     ensures memory { result ≡ Err OutOfMemory → outputs.new ≡ outputs.old }
+    ensures lasting { O.kept outputs.new ≡ O.kept outputs.old }
     ensures idle { IsIdle (C.account crew.new).events }
     ensures landed { in_flight (C.account crew.new).events ≡ in_flight (C.account crew.old).events }
 {
@@ -305,6 +311,8 @@ pub fn configure<C: Crew, O: Outputs>(
     ensures remakes { IfStarts (judged source.now args.now env.now (option_map (λ c. c.now) cache.entry) templates.now) (λ script start.
         IfReport result (λ report. IfCompleted report.outcome (Remakes script start templates.now report))) }
     ensures memory { result ≡ Err OutOfMemory → outputs.new ≡ outputs.old }
+    // What no put changes of a receiver is as it was, such as the names that it guards.
+    ensures lasting { O.kept outputs.new ≡ O.kept outputs.old }
     // If memory runs out, nothing was started, or the starts so far, and their replies, are those of the run.
     ensures begun { IfStarts (judged source.now args.now env.now (option_map (λ c. c.now) cache.entry) templates.now) (λ script start.
         result ≡ Err OutOfMemory → HasRunPart window script start (C.account crew.old) (C.account crew.new)) }

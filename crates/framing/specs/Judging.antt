@@ -1,5 +1,5 @@
 -- What follows from a source, its arguments and its environment.
-use Rattle.std.specs.Prelude.{ℕ, List, Result, Ok, if◌then◌else◌}
+use Rattle.std.specs.Prelude.{◌≡◌, ℕ, List, Result, Ok, if◌then◌else◌}
 use Rattle.options.specs.declared.settings.Settings.{Settings}
 use Rattle.syntax.specs.Script.{Script}
 use Rattle.framing.specs.Faults.{◌>>=◌}
@@ -29,3 +29,8 @@ judgement arguments environment script = asked arguments environment script >>= 
 abbrev pub seen : found.Judged → Judged
 seen (founds.Shows report) = Shows report
 seen (founds.Runs needs) = Runs (script_in needs) needs.arguments needs.settings
+
+-- If the source is to be run, its templates are in this directory. (own)
+abbrev pub RunsBelow : List ℕ → found.Judged → Type 0
+RunsBelow directory (founds.Shows report) = Unit {0}
+RunsBelow directory (founds.Runs needs) = needs.settings.srcdir ≡ directory

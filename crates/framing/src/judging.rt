@@ -1,6 +1,7 @@
 //! What a source asks for by its arguments and its environment.
 
-ghost use Rattle.std.specs.Prelude.{nat_le, IfOk};
+ghost use Rattle.std.specs.Prelude.{◌≡◌, nat_le, IfOk};
+ghost use Rattle.commandline.specs.Srcdir.{srcdir_of};
 ghost use Rattle.options.specs.Opening.{opening};
 ghost use Rattle.outputlist.specs.Output.{AreOutputs};
 ghost use Rattle.plan.specs.Walk.{DoesWhat};
@@ -10,7 +11,7 @@ ghost use Rattle.syntax.specs.Lists.{lists_of};
 ghost use Rattle.syntax.specs.Script.{script_of};
 ghost use Rattle.framing.specs.Faults.{Gives, named, of_option, wants};
 ghost use Rattle.framing.specs.Given.{asked};
-ghost use Rattle.framing.specs.Judging.{judgement, seen};
+ghost use Rattle.framing.specs.Judging.{RunsBelow, judgement, seen};
 ghost use Rattle.framing.specs.declared.fault.Fault.TheVariants.{Plan as Unplanned};
 
 use crate::fault::Fault;
@@ -47,7 +48,8 @@ fn settled(
     args: &[Bytes],
     env: &[(Bytes, Bytes)],
 ) -> Result<Settings, Fault>
-    ensures { Gives (λ s. s) result (named of_option (opening (lists_of (script_of source.now)).features (lists_of (script_of source.now)).packages (lists_of (script_of source.now)).precious args.now env.now)) }
+    ensures exact { Gives (λ s. s) result (named of_option (opening (lists_of (script_of source.now)).features (lists_of (script_of source.now)).packages (lists_of (script_of source.now)).precious args.now env.now)) }
+    ensures directory { IfOk result (λ s. s.srcdir ≡ srcdir_of args.now) }
 {
     Ok(read_args(alloc, source, args, env)?)
 }
@@ -62,6 +64,7 @@ fn asked<'a>(
 ) -> Result<(Plan<'a>, Settings), Fault>
     ensures exact { Gives (λ r. r.1) result (asked args.now env.now (script_of source.now)) }
     ensures meaning { IfOk result (λ r. DoesWhat r.0 (script_of source.now)) }
+    ensures directory { IfOk result (λ r. r.1.srcdir ≡ srcdir_of args.now) }
 {
     let plan = planned(alloc, source)?;
     let settings = settled(alloc, source, args, env)?;
@@ -81,7 +84,9 @@ pub fn judge<'a>(
     env: &[(Bytes, Bytes)],
 ) -> Result<Judged<'a>, Fault>
     requires outputs { AreOutputs (lists_of (script_of source.now)).files (lists_of (script_of source.now)).headers }
-    ensures { Gives seen result (judgement args.now env.now (script_of source.now)) }
+    ensures exact { Gives seen result (judgement args.now env.now (script_of source.now)) }
+    // The directory of the source is the one that the arguments name, also before they are judged.
+    ensures directory { IfOk result (RunsBelow (srcdir_of args.now)) }
 {
     let (plan, settings) = asked(alloc, source, args, env)?;
     if settings.help || settings.version {

@@ -96,7 +96,8 @@ fn artifacts_of(
 /// Hands over artifacts.
 fn put_artifacts<O: Outputs>(outputs: &mut O, artifacts: &[Artifact]) -> Result<usize, RemakeFault>
     requires { (O.receipt outputs.old).failures < 2 ^ 62 }
-    ensures { words.IsPut artifacts.now (O.receipt outputs.old) (O.receipt outputs.new) result }
+    ensures put { words.IsPut artifacts.now (O.receipt outputs.old) (O.receipt outputs.new) result }
+    ensures lasting { O.kept outputs.new ≡ O.kept outputs.old }
 {
     match put_all(outputs, artifacts) {
         Ok(()) => Ok(artifacts.len()),
@@ -118,6 +119,7 @@ pub fn remake_record<O: Outputs>(
 ) -> Result<usize, RemakeFault>
     requires puts { (O.receipt outputs.old).failures + 256 ≤ 2 ^ 62 }
     ensures remade { words.IsRemade (words.made_again recorded.now templates.now tags.now) (outputs.new ≡ outputs.old) (O.receipt outputs.old) (O.receipt outputs.new) result }
+    ensures lasting { O.kept outputs.new ≡ O.kept outputs.old }
 {
     let artifacts = artifacts_of(alloc, recorded, templates, tags)?;
     put_artifacts(outputs, artifacts.as_slice())
@@ -141,6 +143,7 @@ pub fn remake<O: Outputs>(
 ) -> Result<usize, RemakeFault>
     requires puts { (O.receipt outputs.old).failures + 256 ≤ 2 ^ 62 }
     ensures remade { words.IsRemade (words.remade text.now templates.now tags.now) (outputs.new ≡ outputs.old) (O.receipt outputs.old) (O.receipt outputs.new) result }
+    ensures lasting { O.kept outputs.new ≡ O.kept outputs.old }
 {
     let recorded = read(alloc, text)?;
     remake_record(alloc, &recorded, templates, tags, outputs)

@@ -54,6 +54,10 @@ told_one old new n text appended = record {
   appended = subst (Appends old new) (sym (append-nil (take n text))) appended;
 }
 
+-- The same, of a front of some length.
+pub told_front : (old new : Option (List ℕ)) (text : List ℕ) → (n : ℕ) × Appends old new (take n text) → AreTold old new (text ∷ [])
+told_front old new text front = told_one old new front.0 text front.1
+
 -- One message more was printed.
 pub told_more : (old mid new : Option (List ℕ)) (notes : List Note) (i : ℕ) (note : Note) → i < length notes → note ≡ get_or notes i note
     → AreTold old mid (errors_of (take i notes)) → AreTold mid new (error_of note) → AreTold old new (errors_of (take (i + 1) notes))

@@ -1,5 +1,6 @@
 pub mod Appending
 pub mod Fronts
+pub mod Guards
 pub mod Quiet
 pub mod Runs
 pub mod Templates

@@ -25,6 +25,7 @@ mod process;
 mod progress;
 mod supplies;
 mod terminal;
+mod writes;
 
 pub use call::{Call, call_of};
 pub use errors::{FAULT, tell_file, tell_memory, tell_named, tell_precious, tell_put, tell_usage};

@@ -1,12 +1,13 @@
 //! What the program prints and writes of a run: its messages, the lines of its outputs, and its log.
 
-ghost use Rattle.std.specs.Prelude.{◌≡◌, [], ◌∷◌, ◌++◌, take, ◌≤◌, length, Ok, OnOk, IfOk, IfSome, IfNone, IsTrue, if◌then◌else◌};
+ghost use Rattle.std.specs.Prelude.{◌≡◌, ℕ, true, [], ◌∷◌, ◌++◌, take, Ok, OnOk, IfOk, IsTrue, if◌then◌else◌};
 ghost use Rattle.std.specs.Io.KnownBytes.{Appends};
-ghost use Rattle.cfglog.specs.Texts.{log_of, messages_of, shown};
+ghost use Rattle.cfglog.specs.Texts.{is_shown, log_of, messages_of, shown};
 ghost use Rattle.deftable.specs.declared.note.Stream.TheVariants as streams;
 ghost use Rattle.invocation.specs.Errors.{AreTold, error_of, errors_of};
 ghost use Rattle.invocation.specs.Logged.{HasLogged};
 
+use crate::writes::{Stopped, Writes};
 use cfglog::{log_text, messages_text};
 use crew_trait::Entry;
 use deftable::{Note, Stream};
@@ -18,37 +19,18 @@ use std::io::{self, ErrorKind, Write};
 /// The name of the log.
 pub const LOG: &str = "config.log";
 
-/// The largest number of writes of one text.
-const MOST_WRITES: usize = 1 << 32;
-
-/// Writes once, and returns how many bytes the stream took, or nothing if it takes no more. A write that a signal interrupts takes none.
-#[tactic(auto, using(crate::proofs::Fronts::nothing_more))]
-fn write_once<E: Write>(text: &[u8], errors: &mut E) -> Option<usize>
-    ensures within { IfSome result (λ n. n ≤ length text.now) }
-    ensures taken { IfSome result (λ n. Appends (E.contents errors.old) (E.contents errors.new) (take n text.now)) }
-    ensures nothing { IfNone result (Appends (E.contents errors.old) (E.contents errors.new) []) }
-{
-    match errors.write(text) {
-        Ok(0) => None,
-        Ok(n) => Some(n),
-        Err(e) if e.kind() == ErrorKind::Interrupted => Some(0),
-        Err(_) => None,
-    }
-}
-
-/// Writes a text, as far as the stream takes it, and returns the number of bytes that it took.
+/// Writes a text, as far as the stream takes it: all of it, unless no more of it can be written.
 #[tactic(auto, using(crate::proofs::Fronts::front_more, crate::proofs::Fronts::front_kept, crate::proofs::Fronts::front_none))]
-fn write_front<E: Write>(text: &[u8], errors: &mut E) -> usize
-    ensures { Appends (E.contents errors.old) (E.contents errors.new) (take result text.now) }
+fn write_front<E: Write>(text: &[u8], errors: &mut E) -> Result<(), Stopped>
+    ensures whole { OnOk result (Appends (E.contents errors.old) (E.contents errors.new) text.now) }
+    ensures front { (n : ℕ) × Appends (E.contents errors.old) (E.contents errors.new) (take n text.now) }
 {
     let mut taken = 0;
-    'writes: for _ in 0..MOST_WRITES {
-        match write_once(&text[taken..], errors) {
-            Some(n) => taken += n,
-            None => return taken,
-        }
+    let mut writes = Writes::new();
+    'writes: while taken < text.len() {
+        taken += writes.write(&text[taken..], errors)?;
     }
-    taken
+    Ok(())
 }
 
 /// Writes a text, unless it is empty.
@@ -134,13 +116,14 @@ fn print_next<W: Write>(
 
 /// Returns whether a piece is for standard error.
 fn is_error(note: &Note) -> bool
-    ensures { IsTrue result → note.now.stream ≡ streams.Err }
+    ensures value { result ≡ is_shown streams.Err true note.now.stream }
+    ensures stream { IsTrue result → note.now.stream ≡ streams.Err }
 {
     matches!(note.stream, Stream::Err)
 }
 
 /// Writes a text, as far as the stream takes it.
-#[tactic(auto, using(crate::proofs::Fronts::told_one))]
+#[tactic(auto, using(crate::proofs::Fronts::told_front))]
 pub fn tell_text<E: Write>(text: &[u8], errors: &mut E)
     ensures { AreTold (E.contents errors.old) (E.contents errors.new) (text.now ∷ []) }
 {

@@ -3,6 +3,7 @@
 ghost use Rattle.std.specs.Prelude.{◌≡◌, ℕ, List, [], ◌∷◌, ◌++◌, Option, IfOk, OnOk, option_copied, bytes_eq};
 ghost use Rattle.std.specs.List.{list_any};
 ghost use Rattle.diskfiles.specs.Held.{GuardsMore, IsUnused};
+ghost use Rattle.invocation.specs.Guarded.{AreGuarded, IsGuardedNow, inputs_of, paths_of};
 ghost use Rattle.invocation.specs.Supplies as given;
 ghost use Rattle.outputlist.specs.declared.output.Output as lists;
 ghost use Rattle.syntax.specs.Script.{script_of};
@@ -191,7 +192,7 @@ pub fn record_templates<D: Disk>(
 }
 
 /// Has puts to a file of the source directory refused.
-#[tactic(auto, using(diskfiles::proofs::Unused::guards_none))]
+#[tactic(auto, using(diskfiles::proofs::Unused::guards_none, crate::proofs::Guards::guarded_at))]
 fn keep_in<D: Disk>(
     alloc: Global,
     outputs: &mut FileOutputs<D>,
@@ -199,10 +200,31 @@ fn keep_in<D: Disk>(
     name: &[u8],
 ) -> Result<(), AllocError>
     requires { IsUnused outputs.old }
-    ensures { GuardsMore outputs.old outputs.new }
+    ensures more { GuardsMore outputs.old outputs.new }
+    ensures guarded { OnOk result
+        (IsGuardedNow D.known outputs.new (given.path_of srcdir.now name.now)) }
 {
     let path = path_in(alloc, srcdir, name)?;
     outputs.keep(path.as_slice())
+}
+
+/// Has puts to the templates of the source directory refused.
+#[tactic(auto, using(diskfiles::proofs::Unused::guards_then, diskfiles::proofs::Unused::more_unused))]
+fn keep_templates<D: Disk>(
+    alloc: Global,
+    outputs: &mut FileOutputs<D>,
+    srcdir: &[u8],
+    templates: &[(Bytes, Bytes)],
+) -> Result<(), AllocError>
+    requires { IsUnused outputs.old }
+    ensures more { GuardsMore outputs.old outputs.new }
+    ensures guarded { OnOk result
+        (AreGuarded (D.known outputs.new.disk) outputs.new.guards (paths_of srcdir.now templates.now)) }
+{
+    'templates: for template in templates {
+        keep_in(alloc, outputs, srcdir, template.0.as_slice())?;
+    }
+    Ok(())
 }
 
 /// Has puts to the files refused that a run reads, or writes by itself: the source, these templates, and the log. So no output of the
@@ -219,12 +241,11 @@ pub fn keep_inputs<D: Disk>(
     templates: &[(Bytes, Bytes)],
 ) -> Result<(), AllocError>
     requires { IsUnused outputs.old }
-    ensures { GuardsMore outputs.old outputs.new }
+    ensures more { GuardsMore outputs.old outputs.new }
+    ensures guarded { OnOk result
+        (AreGuarded (D.known outputs.new.disk) outputs.new.guards (inputs_of srcdir.now templates.now)) }
 {
     outputs.keep(LOG.as_bytes())?;
     keep_in(alloc, outputs, srcdir, b"configure.ac")?;
-    'templates: for template in templates {
-        keep_in(alloc, outputs, srcdir, template.0.as_slice())?;
-    }
-    Ok(())
+    keep_templates(alloc, outputs, srcdir, templates)
 }

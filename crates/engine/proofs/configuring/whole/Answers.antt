@@ -8,12 +8,12 @@ returns-in_err-source-clause-whole g c =
 
 pub returns-in_err-report-clause-whole : goal.returns-in_err-report-clause-whole
 returns-in_err-report-clause-whole g c =
-    fails_judged _ _ _ _ _ _ _ _ _ _ _ _ _ _ _ c.in_ok-source.ensures.exact c.in_err-report.ensures c.from_residual-in_err-report.ensures.1 (refl, refl)
+    fails_judged _ _ _ _ _ _ _ _ _ _ _ _ _ _ _ c.in_ok-source.ensures.exact c.in_err-report.ensures.exact c.from_residual-in_err-report.ensures.1 (refl, refl)
 
 pub returns-in-Shows-clause-whole : goal.returns-in-Shows-clause-whole
 returns-in-Shows-clause-whole g c =
-    shows_text _ _ _ _ _ _ _ _ _ _ _ _ _ _ _ c.in_ok-source.ensures.exact c.in_ok-report.ensures c.in-Shows.is (refl, refl)
+    shows_text _ _ _ _ _ _ _ _ _ _ _ _ _ _ _ c.in_ok-source.ensures.exact c.in_ok-report.ensures.exact c.in-Shows.is (refl, refl)
 
 pub returns-clause-whole : goal.returns-clause-whole
 returns-clause-whole g c =
-    same_whole _ _ _ _ _ _ _ _ _ _ (judged_runs _ _ _ _ _ _ _ c.in-Runs.needs c.in_ok-source.ensures.exact c.in_ok-report.ensures c.in-Runs.is) c.gone.ensures.whole
+    same_whole _ _ _ _ _ _ _ _ _ _ (judged_runs _ _ _ _ _ _ _ c.in-Runs.needs c.in_ok-source.ensures.exact c.in_ok-report.ensures.exact c.in-Runs.is) c.gone.ensures.whole

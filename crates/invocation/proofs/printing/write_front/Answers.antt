@@ -6,7 +6,7 @@ use Rattle.invocation.proofs.printing.write_front.Goals as goal
 
 pub writes-preserved : goal.writes-preserved
 writes-preserved g c = record {
-  within = omega (arith, c.writes.invariant.within, c.in-Some.ensures.within, length-drop c.writes.taken c.args.text.now);
+  within = omega (arith, c.writes.invariant.within, c.in_ok-taken.ensures.within, length-drop c.writes.taken c.args.text.now);
   written = front_more _ _ _ _ _ _ c.writes.invariant.written
-      (subst (λ rest. Appends (g.E.Write.contents c.writes.errors) (g.E.Write.contents c.write_once.new.errors) (take c.in-Some.n rest)) (take_rest c.args.text.now c.writes.taken) c.in-Some.ensures.taken);
+      (subst (λ rest. Appends (g.E.Write.contents c.writes.errors) (g.E.Write.contents c.write.new.errors) (take c.in_ok-taken.field-0 rest)) (take_rest c.args.text.now c.writes.taken) c.in_ok-taken.ensures.taken);
 }

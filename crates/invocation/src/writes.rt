@@ -1,0 +1,58 @@
+//! The writes of one text, which a stream takes as far as it can.
+
+ghost use Rattle.std.specs.Prelude.{◌≡◌, ◌<◌, ◌≤◌, [], length, take, IfErr, IfOk, OnErr, OnOk};
+ghost use Rattle.std.specs.Io.KnownBytes.{Appends};
+
+use std::io::{ErrorKind, Write};
+use std::marker::Model;
+
+/// The largest number of writes of one text.
+const MOST_WRITES: u64 = 1 << 32;
+
+/// Says that a text isn't written further: a write failed or took nothing, or there were too many of them. Only
+/// [`Writes::write`] makes one.
+#[derive(Drop)]
+pub(crate) struct Stopped {
+    _private: (),
+}
+
+/// Counts the writes of one text.
+#[derive(Drop)]
+pub(crate) struct Writes {
+    left: u64,
+}
+
+impl Model for Writes {
+    ghost use Rattle.std.specs.Prelude.{ℕ};
+
+    ghost Value = { ℕ };
+
+    ghost view = { λ w. w.left };
+}
+
+impl Writes {
+    /// Returns a count of no writes.
+    pub(crate) fn new() -> Writes {
+        Writes { left: MOST_WRITES }
+    }
+
+    /// Writes once, and returns how many bytes the stream took. A write that a signal interrupts takes none.
+    #[tactic(auto, using(crate::proofs::Fronts::nothing_more, crate::proofs::Fronts::nothing_appended))]
+    pub(crate) fn write<E: Write>(&mut self, text: &[u8], errors: &mut E) -> Result<usize, Stopped>
+        ensures counted { OnOk result (self.new < self.old) }
+        ensures within { IfOk result (λ n. n ≤ length text.now) }
+        ensures taken { IfOk result (λ n. Appends (E.contents errors.old) (E.contents errors.new) (take n text.now)) }
+        ensures nothing { OnErr result (Appends (E.contents errors.old) (E.contents errors.new) []) }
+    {
+        if self.left == 0 {
+            return Err(Stopped { _private: () });
+        }
+        self.left -= 1;
+        match errors.write(text) {
+            Ok(0) => Err(Stopped { _private: () }),
+            Ok(n) => Ok(n),
+            Err(e) if e.kind() == ErrorKind::Interrupted => Ok(0),
+            Err(_) => Err(Stopped { _private: () }),
+        }
+    }
+}
