@@ -1,0 +1,3 @@
+mod Flats
+mod Places
+mod Reruns
