@@ -5,7 +5,8 @@
 //! has what each line of a log is, and `whys` the command why over files: no contract says what it prints, so a row
 //! compares the exit status and both streams. Each of these tests is a table of rows, in the form that the crate `testrows`
 //! reads. `offsets` has the places of offsets in a text, `terminal` a text as a terminal is given it, and `last_line` the last
-//! line of a run on a terminal, and `parts` what is put in the places of words.
+//! line of a run on a terminal, and `parts` what is put in the places of words. `streams` has what is written to streams that take a
+//! part, are interrupted or fail.
 #![tactic(auto)]
 
 #[cfg(test)]
@@ -26,6 +27,8 @@ mod parts;
 mod reading_on;
 #[cfg(test)]
 mod shows;
+#[cfg(test)]
+mod streams;
 #[cfg(test)]
 mod terminal;
 #[cfg(test)]

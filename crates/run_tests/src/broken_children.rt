@@ -1,5 +1,6 @@
-//! Children whose pipe or end fails where a test says so.
+//! Children whose pipe or end fails where a test says so, or which can't be looked at.
 
+use crate::ended_children::put_ready;
 use std::alloc::Allocator;
 use std::cell::Cell;
 use std::fs::{Metadata, OpenOptions};
@@ -12,11 +13,13 @@ use testchildren::children::{Work, job_of, put_children};
 use testchildren::streams::{Pipe, pipe_of};
 use testrows::{Call, Page, cut, number_of, try_rows};
 
-/// Ends with a status as `waitpid` gives it, or fails if the text of the status is empty; its waits are counted.
+/// Ends with a status as `waitpid` gives it, or fails if the text of the status is empty; its waits are counted. If it is looked
+/// at, it has ended (`y`), it has not (`n`), or the look fails.
 #[derive(Drop)]
 struct Process<'a> {
     status: &'a [u8],
     waits: &'a Cell<u64>,
+    look: u8,
 }
 
 impl<'a> OpenProcess for Process<'a> {
@@ -37,15 +40,25 @@ impl<'a> OpenProcess for Process<'a> {
         }
         Ok(ExitStatus::from_raw(number_of(self.status).min(65_535) as i32))
     }
+
+    fn try_wait(&mut self) -> io::Result<Option<ExitStatus>> {
+        match self.look {
+            b'y' => Ok(Some(ExitStatus::from_raw(0))),
+            b'n' => Ok(None),
+            _ => Err(io::Error::from(ErrorKind::Other)),
+        }
+    }
 }
 
-/// The system, but each child that is started has this pipe and this status.
+/// The system, but each child that is started has this pipe and this status, and the next of these looks.
 #[derive(Drop)]
 struct System<'a> {
     rt: &'a HostRuntime,
     pipe: &'a [u8],
     status: &'a [u8],
     waits: &'a Cell<u64>,
+    looks: &'a [u8],
+    started: Cell<usize>,
 }
 
 impl<'a> Processes for System<'a> {
@@ -58,9 +71,12 @@ impl<'a> Processes for System<'a> {
         _stdout: &Stdio,
         _stderr: &Stdio,
     ) -> io::Result<Child<Process<'a>>> {
+        let number = self.started.get();
+        self.started.set(number.saturating_add(1));
         let process = Process {
             status: self.status,
             waits: self.waits,
+            look: *self.looks.get(number).unwrap_or(&b'e'),
         };
         Ok(Child::from_parts(process, None, None, pipe_of(self.pipe, b'a')))
     }
@@ -113,7 +129,7 @@ impl<'a> Files for System<'a> {
 }
 
 /// A child: its pipe, if it has one, and its status as `waitpid` gives it, if a wait doesn't fail. The answer says also how
-/// often it was waited for.
+/// often it was waited for. If there are looks, so many children are started, and one that has ended is taken first.
 #[derive(Drop)]
 struct Ends<'a> {
     rt: &'a HostRuntime,
@@ -121,20 +137,27 @@ struct Ends<'a> {
 
 impl Call for Ends<'_> {
     fn put(&self, page: &mut Page, given: &[u8]) {
-        let (pipe, status) = cut(given, b"|");
+        let (pipe, rest) = cut(given, b"|");
+        let (status, looks) = cut(rest, b"|");
         let waits = Cell::new(0);
         let system = System {
             rt: self.rt,
             pipe,
             status,
             waits: &waits,
+            looks,
+            started: Cell::new(0),
         };
         let job = job_of(page, b"true", b"");
         let work = Work {
-            count: 1,
+            count: looks.len().max(1),
             job: &job,
         };
-        put_children(page, system, &work);
+        if looks.is_empty() {
+            put_children(page, system, &work);
+        } else {
+            put_ready(page, system, &work);
+        }
         page.put(b", waits ");
         page.put_shown(&waits.get());
     }
@@ -168,6 +191,10 @@ const ENDS: &[u8] = b"\
 1 4|9 =>  0:256:aaaa, waits 1
 1 4|139 =>  0:256:aaaa, waits 1
 1 4| =>  0:E, waits 1
+// The first that has ended is taken first, and a look that fails is none at one that has. If none has, the oldest is taken.
+0 1|0|nyy =>  1:0: 2:0: 0:0:, waits 1
+0 1|0|ney =>  2:0: 0:0: 1:0:, waits 2
+0 1|0|een =>  0:0: 1:0: 2:0:, waits 3
 ";
 
 #[test]

@@ -1,17 +1,24 @@
 //! Real children of which one that has ended is taken before older ones.
 
 use crew::ReadyCrew;
+use std::process::Processes;
+use std::rt::Files;
 use std::test::Fail;
 use testchildren::children::{Work, job_of, put_work};
 use testrows::{Call, Page, cut, number_of, try_rows_in};
 
+/// Puts the work of the children of a system of which one that has ended is taken first.
+pub fn put_ready<R: Files + Processes + Drop>(page: &mut Page, rt: R, work: &Work) {
+    match &mut ReadyCrew::new(rt, page.alloc()) {
+        Ok(crew) => put_work(page, crew, work),
+        Err(_) => page.cut(),
+    }
+}
+
 /// Puts the work of real children of which one that has ended is taken first.
 fn put_ready_children(page: &mut Page, rt: &HostRuntime, work: &Work) {
-    let Ok(own) = rt.clone() else {
-        return page.cut();
-    };
-    match &mut ReadyCrew::new(own, page.alloc()) {
-        Ok(crew) => put_work(page, crew, work),
+    match rt.clone() {
+        Ok(own) => put_ready(page, own, work),
         Err(_) => page.cut(),
     }
 }
