@@ -1,3 +1,3 @@
-# Accepts a conftest that includes have.h, if there is nothing to read on standard input.
+# Accepts a conftest that includes have.h, if there is nothing to read on standard input, and the log of an earlier run is gone.
 for conftest; do :; done
-[ -z "$(cat)" ] && grep -q have "$conftest"
+[ -z "$(cat)" ] && [ ! -e config.log ] && grep -q have "$conftest"
