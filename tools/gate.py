@@ -1,6 +1,7 @@
 #!/usr/bin/env python3
 """The gate, `make check`: `rt ci`, then what no proof sees of the repository (`repository.py`), what comes of memory that runs out
-at each allocation (`refuse_each.py`), and runs of the built program over children that are it too (`examples/standin/run.sh`).
+at each allocation (`refuse_each.py`), and runs of the built program: over children that are it too (`examples/standin/run.sh`), and
+on a terminal (`try_terminal.py`).
 
 Its last line is 'N passed, M failed' over all of them, and the exit status is 1 if M is not 0.
 """
@@ -32,15 +33,25 @@ def prove():
     return passed, max(failed, int(gate.returncode != 0))
 
 
-def stand_in():
-    """Tries the program that `rt ci` built as the compiler of its own runs, and returns how many checks passed and failed."""
-    done = subprocess.run(["sh", "examples/standin/run.sh", "crates/acrun/out/acrun"], stdin=subprocess.DEVNULL)
+def tried(*command):
+    """Tries the program that `rt ci` built by a command, and returns how many checks passed and failed."""
+    done = subprocess.run([*command, "crates/acrun/out/acrun"], stdin=subprocess.DEVNULL)
     return int(done.returncode == 0), int(done.returncode != 0)
+
+
+def stand_in():
+    """Tries the program as the compiler of its own runs."""
+    return tried("sh", "examples/standin/run.sh")
+
+
+def on_terminal():
+    """Tries what the program shows on a terminal alone."""
+    return tried(sys.executable, "tools/try_terminal.py")
 
 
 def main():
     passed, failed = prove()
-    for more, wrong in (repository.check(), refuse_each.check(), stand_in()):
+    for more, wrong in (repository.check(), refuse_each.check(), stand_in(), on_terminal()):
         passed, failed = passed + more, failed + wrong
     print(f"{passed} passed, {failed} failed")
     return int(failed > 0)
