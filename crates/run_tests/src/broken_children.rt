@@ -22,6 +22,12 @@ struct Process<'a> {
     look: u8,
 }
 
+impl Process<'_> {
+    fn ended(&self) -> ExitStatus {
+        ExitStatus::from_raw(number_of(self.status).min(65_535) as i32)
+    }
+}
+
 impl<'a> OpenProcess for Process<'a> {
     type Stdin = Sink;
 
@@ -38,12 +44,12 @@ impl<'a> OpenProcess for Process<'a> {
         if self.status.is_empty() {
             return Err(io::Error::from(ErrorKind::Other));
         }
-        Ok(ExitStatus::from_raw(number_of(self.status).min(65_535) as i32))
+        Ok(self.ended())
     }
 
     fn try_wait(&mut self) -> io::Result<Option<ExitStatus>> {
         match self.look {
-            b'y' => Ok(Some(ExitStatus::from_raw(0))),
+            b'y' => Ok(Some(self.ended())),
             b'n' => Ok(None),
             _ => Err(io::Error::from(ErrorKind::Other)),
         }
@@ -195,6 +201,7 @@ const ENDS: &[u8] = b"\
 0 1|0|nyy =>  1:0: 2:0: 0:0:, waits 1
 0 1|0|ney =>  2:0: 0:0: 1:0:, waits 2
 0 1|0|een =>  0:0: 1:0: 2:0:, waits 3
+0 1|256|nyy =>  1:1: 2:1: 0:1:, waits 1
 ";
 
 #[test]
