@@ -6,6 +6,7 @@
 # make check    the gate: every proof, every test, every must-fail edit, each allocation refused, and the checks of tools/repository.py
 # make edits    tries the wrong bodies of every crate, or of those that NAMES names: make edits NAMES="crew plan"
 # make edits-test  tries the script that does it
+# make plants   tries the wrong bodies that tests alone refuse, of every crate, or of those that NAMES names
 # make install  puts the program, its manual page, completions and share/configure below $(DESTDIR)$(prefix)
 # make uninstall  removes them
 # make dist     makes an archive of the program for machines without the toolchain, out/acrun-VERSION-x86_64-linux.tar.gz
@@ -19,7 +20,7 @@ bashdir = $(datadir)/bash-completion/completions
 zshdir = $(datadir)/zsh/site-functions
 fishdir = $(datadir)/fish/vendor_completions.d
 
-.PHONY: all try demo ports compile check edits edits-test install install-files uninstall dist deb
+.PHONY: all try demo ports compile check edits edits-test plants install install-files uninstall dist deb
 
 # tools/build.sh looks at what has changed, and builds nothing anew if nothing has.
 all:
@@ -58,6 +59,9 @@ edits:
 
 edits-test:
 	@python3 tools/edits_together.py --selftest
+
+plants:
+	@python3 tools/plant_tested.py $(NAMES)
 
 install: all install-files
 

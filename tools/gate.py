@@ -1,7 +1,7 @@
 #!/usr/bin/env python3
 """The gate, `make check`: `rt ci`, then what no proof sees of the repository (`repository.py`), what comes of memory that runs out
-at each allocation (`refuse_each.py`), and runs of the built program: over children that are it too (`examples/standin/run.sh`), and
-on a terminal (`try_terminal.py`).
+at each allocation (`refuse_each.py`), and runs of the built program: over children that are it too (`examples/standin`), on a
+terminal (`try_terminal.py`), and of the commands whose words no clause has (`examples/help`, `examples/lint` and `examples/port`).
 
 Its last line is 'N passed, M failed' over all of them, and the exit status is 1 if M is not 0.
 """
@@ -39,19 +39,16 @@ def tried(*command):
     return int(done.returncode == 0), int(done.returncode != 0)
 
 
-def stand_in():
-    """Tries the program as the compiler of its own runs."""
-    return tried("sh", "examples/standin/run.sh")
-
-
-def on_terminal():
-    """Tries what the program shows on a terminal alone."""
-    return tried(sys.executable, "tools/try_terminal.py")
+def examples():
+    """Tries the program as the compiler of its own runs, on a terminal, and in commands that explain something."""
+    yield tried(sys.executable, "tools/try_terminal.py")
+    for name in ("standin", "help", "lint", "port"):
+        yield tried("sh", f"examples/{name}/run.sh")
 
 
 def main():
     passed, failed = prove()
-    for more, wrong in (repository.check(), refuse_each.check(), stand_in(), on_terminal()):
+    for more, wrong in (repository.check(), refuse_each.check(), *examples()):
         passed, failed = passed + more, failed + wrong
     print(f"{passed} passed, {failed} failed")
     return int(failed > 0)

@@ -165,10 +165,26 @@ def applied(edit):
 
 def edits_that_do_not_apply():
     """The text that an edit replaces is not in its file exactly once."""
-    for edit in sorted([*CRATES.glob("*/must-fail/*.edit"), *CRATES.glob("*/wrong-bodies/*.edit")]):
+    for edit in sorted(it for folder in ("must-fail", "wrong-bodies", "tested-bodies") for it in CRATES.glob(f"*/{folder}/*.edit")):
         wrong = applied(edit)
         if wrong:
             yield f"{edit}: {wrong}"
+
+
+def tested_bodies_that_are_not_told():
+    """A wrong body that tests alone refuse names no test, or docs/promises.md does not list it with that test: the name of the edit,
+    with blanks, in an item that has the test."""
+    text = pathlib.Path("docs/promises.md").read_text().partition("\n## Wrong bodies that would pass\n")[2].partition("\n## ")[0]
+    items = [" ".join(it.split()) for it in re.split(r"(?m)^- ", text)]
+    for edit in sorted(CRATES.glob("*/tested-bodies/*.edit")):
+        said = dict(line.split(": ", 1) for line in edit.read_text().splitlines() if line.startswith(("test: ", "fails: ")))
+        test, crate = said.get("test", ""), edit.parts[1]
+        files = [CRATES / "case_tests" / it if test.startswith("case_tests ") else pathlib.Path(it) for it in test.split()[1:]]
+        if not said.get("fails") or not test or test.split()[0] not in rows() or not all(it.is_file() for it in files):
+            yield f"{edit}: it names no test, or not what that says"
+        name = edit.stem.replace("-", " ")
+        if not any(f"`{crate}`" in it and name in it and f"`{test}`" in it for it in items):
+            yield f"docs/promises.md does not list, of {crate}: {name} (`{test}`)"
 
 
 def edits_over_the_budget():
@@ -313,6 +329,7 @@ CHECKS = [
     files_of_changes_that_are_old,
     heads_that_name_nothing,
     edits_that_do_not_apply,
+    tested_bodies_that_are_not_told,
     edits_over_the_budget,
     broken_links,
     macros_that_do_not_agree,
