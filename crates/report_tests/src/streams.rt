@@ -225,8 +225,6 @@ shown once|||ab^[c;^[c => 21yeso[ab]o[\\x1b]o[flush]
 shown once|part 1||ab;^[ => 11yeso[a]o[\\]o[x]o[1]o[b]o[flush]
 shown once|interrupted 1||ab;ab => no2yeso[ab]o[flush]
 shown once|fails 2||ab;cd;e => 2no1yeso[ab]o[e]o[flush]
-// A character that is cut between two writes, of which the first takes its front alone
-shown once|part 1||\xc3\x9b;\x9b => 11yeso[\xc3]o[\x9b]o[flush]
 plain|part 2||a^[b => yesyeso[a^[]o[b]o[flush]
 // Only what is taken is counted.
 counted|||checking a;checking (cached) b => yesyesyes11o[checking a]o[checking (cached) b]o[flush]
