@@ -16,12 +16,13 @@ if [ -f ../help ] && [ "$3" = --help ]; then
     exit "$(cat ../status)"
 fi
 printf '[%s]' "$@"
+if [ -f shows ]; then printf ' %s' "${ACRUN_PROGRESS-unset}"; fi
 if [ -n "${build+y}" ]; then printf ' build=%s srcdir=%s name=%s' "$build" "$srcdir" "$name"; fi
 END
 chmod +x "$folder/acrun" "$folder/source/configure"
 cd "$folder/source" || exit 2
 PATH=$folder:$PATH
-unset ACRUN ACRUN_JOBS MAKEFLAGS DEB_BUILD_OPTIONS
+unset ACRUN ACRUN_JOBS ACRUN_PROGRESS MAKEFLAGS DEB_BUILD_OPTIONS
 wrong=0 rows=0
 
 # row EXPECTED WORD..: the words with which acrun is started, each in brackets, or else the message.
@@ -95,6 +96,15 @@ rows_of_one_shell() {
     DEB_BUILD_OPTIONS='nocheck parallel=32' row '[-j16][configure]'
     DEB_BUILD_OPTIONS='parallel=7,nocheck' MAKEFLAGS=k row '[-j7][configure]'
     ACRUN_JOBS=2 MAKEFLAGS=' -j8' row '[-j2][configure]'
+    # A line for each child, if standard error is no terminal
+    touch shows
+    row '[-j1][configure] lines'
+    ACRUN_PROGRESS='' row '[-j1][configure] '
+    ACRUN_PROGRESS=no row '[-j1][configure] no'
+    DEB_BUILD_OPTIONS='nocheck terse' row '[-j1][configure] unset'
+    DEB_BUILD_OPTIONS='terse,parallel=2' row '[-j2][configure] unset'
+    DEB_BUILD_OPTIONS='terser' row '[-j1][configure] lines'
+    rm shows
     # In another directory
     cd build || exit 2
     said=$($shell ../configure -q)

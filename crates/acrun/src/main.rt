@@ -1,6 +1,6 @@
 //! The program: `runner`, called with the arguments, the environment and a crew of real children.
 //!
-//! If standard error is a terminal, the crew shows there how far it is. The log of an earlier run is removed before the
+//! If standard error is a terminal, or ACRUN_PROGRESS asks for lines, the crew shows its children there. The log of an earlier run is removed before the
 //! first child is started, so that a run that is interrupted leaves none that looks like its own.
 //!
 //! The gate runs it with the words in `args` on the files in `data`: a whole run of a configure.ac over real children,
@@ -8,7 +8,7 @@
 #![tactic(auto)]
 
 use crew::ReadyCrew;
-use runner::{FilterFault, LOG, command, environment, may_show_progress, tell, words};
+use runner::{FilterFault, LOG, command, environment, showing_of, tell, words};
 use std::alloc::AllocError;
 use std::io::IsTerminal;
 use std::process::ExitCode;
@@ -19,9 +19,9 @@ fn run(rt: HostRuntime) -> Result<u8, AllocError> {
     let words = words(rt.alloc(), &rt)?;
     let env = environment(rt.alloc(), &rt)?;
     let errors = rt.stderr();
-    let is_shown = may_show_progress(words.as_slice()) && errors.is_terminal();
+    let showing = showing_of(words.as_slice(), env.as_slice(), errors.is_terminal());
     let children = ReadyCrew::removing(rt, rt.alloc(), LOG)?;
-    let mut crew = Watched::new(children, errors, is_shown);
+    let mut crew = Watched::new(children, errors, showing);
     Ok(command(rt, rt.alloc(), words.as_slice(), env.as_slice(), &mut crew))
 }
 

@@ -13,7 +13,7 @@ use std::io::{Read, Write};
 use summary::Children;
 use testrows::Page;
 use testruns::given::{entries_of, replies_in};
-use watching::Watched;
+use watching::{Showing, Watched};
 
 /// What a command is given besides its words.
 #[derive(Clone, Copy)]
@@ -136,7 +136,7 @@ pub fn put_command(
                 page.put_shown(&command_over(rt, words, env.as_slice(), &mut crew));
                 return;
             }
-            let mut crew = Watched::new(crew, Vec::new(page.alloc()), true);
+            let mut crew = Watched::new(crew, Vec::new(page.alloc()), Showing::Line);
             page.put_shown(&command_over(rt, words, env.as_slice(), &mut crew));
             progress.put(crew.stream().as_slice());
         }

@@ -6,7 +6,7 @@
 //! returns [`FAULT`].
 //!
 //! ```text
-//! call_of(["-j4", "configure", "-q"])  // Configure(4, ["-q"]), for which may_show_progress is false
+//! call_of(["-j4", "configure", "-q"])  // Configure(4, ["-q"]), of which showing_of shows nothing
 //! tell_file(errors, b"config.status")  // acrun: file config.status
 //! ```
 //!
@@ -14,8 +14,8 @@
 //!
 //! In `specs`, read `Calls` (what the program is asked to do), `Errors` (what a run prints on standard error), `Supplies` (what a run is given, as it
 //! is in files), `Logged` and `Progress`; `Lent` is small. In
-//! `src`, read `call`, `supplies`, `printing` and `errors`; `process` reads what the process is given, and `progress` says whether
-//! the program may show its progress.
+//! `src`, read `call`, `supplies`, `printing` and `errors`; `process` reads what the process is given, and `progress` says what the
+//! program shows of its children.
 #![tactic(auto)]
 
 mod call;
@@ -31,6 +31,6 @@ pub use call::{Call, call_of};
 pub use errors::{FAULT, tell_file, tell_memory, tell_named, tell_precious, tell_put, tell_usage};
 pub use printing::{LOG, print_all, print_lines, tell_text, write_log};
 pub use process::{environment, words};
-pub use progress::may_show_progress;
+pub use progress::{Showing, showing_of};
 pub use supplies::{Supplies, keep_inputs, read_supplies, read_templates, record_templates};
 pub use terminal::Terminal;

@@ -15,29 +15,46 @@ use testchildren::children::{Work, job_of, put_work};
 use testchildren::replies::{order_in, replies_in};
 use testchildren::streams::Sheet;
 use testrows::{Call, Page, cut, number_of, try_rows};
-use watching::Watched;
+use watching::{Showing, Watched};
+
+/// Returns what is shown: a row says `lines`, `off`, or else the line of a terminal.
+fn showing_of(shown: &[u8]) -> Showing {
+    match shown {
+        b"lines" => Showing::Lines,
+        b"off" => Showing::Nothing,
+        _ => Showing::Line,
+    }
+}
 
 /// Puts the work of a crew that has done nothing, and what it shows on a sheet.
-fn put_watched<C: Crew + Drop>(page: &mut Page, crew: C, sheet: Sheet, is_on: bool, work: &Work)
+fn put_watched<C: Crew + Drop>(
+    page: &mut Page,
+    crew: C,
+    sheet: Sheet,
+    showing: Showing,
+    work: &Work,
+)
     requires fresh { C.account crew ≡ record { events = []; attempts = 0; failures = 0 } }
 {
-    let mut watched = Watched::new(crew, sheet, is_on);
+    let mut watched = Watched::new(crew, sheet, showing);
     put_work(page, &mut watched, work);
     page.put(b";");
     page.put(watched.stream().kept.text());
 }
 
-/// Puts the work of a crew in memory with these replies in this order, and what it shows on a sheet: nothing if `shown` is `off`.
-/// If it is `fails`, each write fails.
+/// Puts the work of a crew in memory with these replies in this order, and what it shows on a sheet. If `shown` begins with `fails `,
+/// each write fails.
 fn put_in_sight(page: &mut Page, shown: &[u8], replies: &[u8], order: &[u8], work: &Work) {
+    let (first, second) = cut(shown, b" ");
     let sheet = Sheet {
         kept: Page::new(page.alloc()),
-        fails: shown == b"fails".as_slice(),
+        fails: first == b"fails".as_slice(),
     };
+    let showing = showing_of(if second.is_empty() { first } else { second });
     let replies = replies_in(page, replies);
     let order = order_in(page, order);
     match MemoryCrew::new(page.alloc(), replies, order) {
-        Ok(crew) => put_watched(page, crew, sheet, shown != b"off".as_slice(), work),
+        Ok(crew) => put_watched(page, crew, sheet, showing, work),
         Err(_) => page.cut(),
     }
 }
@@ -77,7 +94,7 @@ fn test_job(page: &mut Page, words: &[u8], test: &[u8]) -> Job {
     Job { words, file }
 }
 
-/// A crew in memory: whether its progress is shown, how many children it starts, the words of each, its replies, its order, and the
+/// A crew in memory: what is shown of it, how many children it starts, the words of each, its replies, its order, and the
 /// test of each.
 struct Progress;
 
@@ -121,7 +138,23 @@ on|1|cc|0:|oldest|program return !alloca (1); =>  0:0:;^M^[[K^[[?7l1 started, 0 
 on|1|cc|0:|oldest|header ^[[2J =>  0:0:;^M^[[K^[[?7l1 started, 0 ended: header \\x1b[2J^[[?7h^M^[[K
 // Nothing is shown, and a write that fails changes nothing.
 off|2|true|0: 1:|oldest =>  0:0: 1:1:;
-fails|2|true|0: 1:|oldest =>  0:0: 1:1:;
+fails line|2|true|0: 1:|oldest =>  0:0: 1:1:;
+fails lines|2|true|0: 1:|oldest =>  0:0: 1:1:;
+// A line for each child, with its number, what it is for if the conftest shows that, and its words. Nothing follows an end.
+lines|1|cc,-c,conftest.c|0:|oldest|header sys/stat.h =>  0:0:;acrun: child 1, header sys/stat.h: cc -c conftest.c^J
+lines|3|true|0: 1:x 256:|youngest =>  2:256: 1:1:x 0:0:;acrun: child 1: true^Jacrun: child 2: true^Jacrun: child 3: true^J
+lines|1|cc|0:|oldest|declaration strlcpy =>  0:0:;acrun: child 1, declaration strlcpy: cc^J
+lines|1|cc|0:|oldest|second struct stat =>  0:0:;acrun: child 1, type struct stat: cc^J
+lines|1|cc|0:|oldest|program return !alloca (1); =>  0:0:;acrun: child 1: cc^J
+// A start that is refused has a number, and no line.
+lines|3|true|S 0: E|oldest =>  0:S 1:0: 2:E;acrun: child 2: true^Jacrun: child 3: true^J
+lines|3|true|0: S E|oldest =>  1:S 0:0: 2:E;acrun: child 1: true^Jacrun: child 3: true^J
+// What isn't printable ASCII is shown by its number.
+lines|1|sh,^[[2J,a^Jb\x7f\xc3\xa4|0:|oldest =>  0:0:;acrun: child 1: sh \\x1b[2J a\\x0ab\\x7f\\xc3\\xa4^J
+// 396 bytes are shown, and no number is cut. Three dots mark what isn't all.
+lines|1|aaaaaaaaaaaaaaaaaaaaaaaaaaaaaaaaaaaaaaaaaaaaaaaaaaaaaaaaaaaaaaaaaaaaaaaaaaaaaaaaaaaaaaaaaaaaaaaaaaaaaaaaaaaaaaaaaaaaaaaaaaaaaaaaaaaaaaaaaaaaaaaaaaaaaaaaaaaaaaaaaaaaaaaaaaaaaaaaaaaaaaaaaaaaaaaaaaaaaaaaaaaaaaaaaaaaaaaaaaaaaaaaaaaaaaaaaaaaaaaaaaaaaaaaaaaaaaaaaaaaaaaaaaaaaaaaaaaaaaaaaaaaaaaaaaaaaaaaaaaaaaaaaaaaaaaaaaaaaaaaaaaaaaaaaaaaaaaaaaaaaaaaaaaaaaaaaaaaaaaaaaaaaaaaaaaaaaaaaaaa|0:|oldest =>  0:0:;acrun: child 1: aaaaaaaaaaaaaaaaaaaaaaaaaaaaaaaaaaaaaaaaaaaaaaaaaaaaaaaaaaaaaaaaaaaaaaaaaaaaaaaaaaaaaaaaaaaaaaaaaaaaaaaaaaaaaaaaaaaaaaaaaaaaaaaaaaaaaaaaaaaaaaaaaaaaaaaaaaaaaaaaaaaaaaaaaaaaaaaaaaaaaaaaaaaaaaaaaaaaaaaaaaaaaaaaaaaaaaaaaaaaaaaaaaaaaaaaaaaaaaaaaaaaaaaaaaaaaaaaaaaaaaaaaaaaaaaaaaaaaaaaaaaaaaaaaaaaaaaaaaaaaaaaaaaaaaaaaaaaaaaaaaaaaaaaaaaaaaaaaaaaaaaaaaaaaaaaaaaaaaaaaaaaaaaaaaaaaaaaaaaa^J
+lines|1|aaaaaaaaaaaaaaaaaaaaaaaaaaaaaaaaaaaaaaaaaaaaaaaaaaaaaaaaaaaaaaaaaaaaaaaaaaaaaaaaaaaaaaaaaaaaaaaaaaaaaaaaaaaaaaaaaaaaaaaaaaaaaaaaaaaaaaaaaaaaaaaaaaaaaaaaaaaaaaaaaaaaaaaaaaaaaaaaaaaaaaaaaaaaaaaaaaaaaaaaaaaaaaaaaaaaaaaaaaaaaaaaaaaaaaaaaaaaaaaaaaaaaaaaaaaaaaaaaaaaaaaaaaaaaaaaaaaaaaaaaaaaaaaaaaaaaaaaaaaaaaaaaaaaaaaaaaaaaaaaaaaaaaaaaaaaaaaaaaaaaaaaaaaaaaaaaaaaaaaaaaaaaaaaaaaaaaaaaaaab|0:|oldest =>  0:0:;acrun: child 1: aaaaaaaaaaaaaaaaaaaaaaaaaaaaaaaaaaaaaaaaaaaaaaaaaaaaaaaaaaaaaaaaaaaaaaaaaaaaaaaaaaaaaaaaaaaaaaaaaaaaaaaaaaaaaaaaaaaaaaaaaaaaaaaaaaaaaaaaaaaaaaaaaaaaaaaaaaaaaaaaaaaaaaaaaaaaaaaaaaaaaaaaaaaaaaaaaaaaaaaaaaaaaaaaaaaaaaaaaaaaaaaaaaaaaaaaaaaaaaaaaaaaaaaaaaaaaaaaaaaaaaaaaaaaaaaaaaaaaaaaaaaaaaaaaaaaaaaaaaaaaaaaaaaaaaaaaaaaaaaaaaaaaaaaaaaaaaaaaaaaaaaaaaaaaaaaaaaaaaaaaaaaaaaaaaaaaaaaaaaa...^J
+lines|1|aaaaaaaaaaaaaaaaaaaaaaaaaaaaaaaaaaaaaaaaaaaaaaaaaaaaaaaaaaaaaaaaaaaaaaaaaaaaaaaaaaaaaaaaaaaaaaaaaaaaaaaaaaaaaaaaaaaaaaaaaaaaaaaaaaaaaaaaaaaaaaaaaaaaaaaaaaaaaaaaaaaaaaaaaaaaaaaaaaaaaaaaaaaaaaaaaaaaaaaaaaaaaaaaaaaaaaaaaaaaaaaaaaaaaaaaaaaaaaaaaaaaaaaaaaaaaaaaaaaaaaaaaaaaaaaaaaaaaaaaaaaaaaaaaaaaaaaaaaaaaaaaaaaaaaaaaaaaaaaaaaaaaaaaaaaaaaaaaaaaaaaaaaaaaaaaaaaaaaaaaaaaaaaaaaaaaaaaaa^[,-c|0:|oldest =>  0:0:;acrun: child 1: aaaaaaaaaaaaaaaaaaaaaaaaaaaaaaaaaaaaaaaaaaaaaaaaaaaaaaaaaaaaaaaaaaaaaaaaaaaaaaaaaaaaaaaaaaaaaaaaaaaaaaaaaaaaaaaaaaaaaaaaaaaaaaaaaaaaaaaaaaaaaaaaaaaaaaaaaaaaaaaaaaaaaaaaaaaaaaaaaaaaaaaaaaaaaaaaaaaaaaaaaaaaaaaaaaaaaaaaaaaaaaaaaaaaaaaaaaaaaaaaaaaaaaaaaaaaaaaaaaaaaaaaaaaaaaaaaaaaaaaaaaaaaaaaaaaaaaaaaaaaaaaaaaaaaaaaaaaaaaaaaaaaaaaaaaaaaaaaaaaaaaaaaaaaaaaaaaaaaaaaaaaaaaaaaaaaaaaaaa...^J
 ";
 
 #[test]

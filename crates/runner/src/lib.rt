@@ -19,5 +19,5 @@ mod program;
 pub use explaining::asks_why;
 pub use filtering::{FilterFault, Filtered, filter, tell};
 pub use framing::Fault;
-pub use invocation::{LOG, Terminal, environment, may_show_progress, words};
+pub use invocation::{LOG, Terminal, environment, showing_of, words};
 pub use program::{command, run};

@@ -16,45 +16,48 @@ use Rattle.watching.specs.Subject.{subject_of}
 use Rattle.watching.specs.Watch.{IsCounted}
 
 -- An account that has no event.
-pub counted_none : (account : Account) (command : List ℕ) → account.events ≡ [] → command ≡ [] → IsCounted account 0 0 command
-counted_none account command none empty = record {
+pub counted_none : (account : Account) (command : List ℕ) → account.events ≡ [] → account.attempts ≡ 0 → command ≡ [] → IsCounted account 0 0 0 command
+counted_none account command none tried empty = record {
   starts = ap started_in none;
   ends = ap ended_in none;
   latest = ap subject_in none ∙ sym empty;
-  attempted = omega arith;
+  tried = tried;
+  taken = omega arith;
   slots = [];
   lists = lists_none [] account.events refl none;
   flying = refl;
 }
 
 -- After a start that is taken.
-pub counted_start : (before now : Account) (started ended : ℕ) (command next : List ℕ) (slot : ℕ) (job : Job) → IsCounted before started ended command
+pub counted_start : (before now : Account) (attempts started ended : ℕ) (command next : List ℕ) (slot : ℕ) (job : Job) → IsCounted before attempts started ended command
     → busy slot before.events ≡ false → now.attempts ≡ before.attempts + 1 → now.events ≡ before.events ++ Started slot job (before.attempts + 1) ∷ [] → next ≡ subject_of job
-    → IsCounted now (started + 1) ended next
-counted_start before now started ended command next slot job h free attempts events next_is =
+    → IsCounted now (attempts + 1) (started + 1) ended next
+counted_start before now attempts started ended command next slot job h free number events next_is =
     let event : CrewEvent = Started slot job (before.attempts + 1) in
     record {
       starts = ap started_in events ∙ fold-append started_after 0 before.events (event ∷ []) ∙ ap (λ n. n + 1) h.starts;
       ends = ap ended_in events ∙ fold-append ended_after 0 before.events (event ∷ []) ∙ h.ends;
       latest = ap subject_in events ∙ fold-append subject_after [] before.events (event ∷ []) ∙ sym next_is;
-      attempted = let a = h.attempted in omega (arith, attempts);
+      tried = number ∙ ap (λ n. n + 1) h.tried;
+      taken = let a = h.taken in omega arith;
       slots = h.slots ++ slot ∷ [];
       lists = lists_start h.slots _ before.events now.events slot job _ h.lists free refl events;
       flying = let f = h.flying in omega (arith, length_push h.slots slot);
     }
 
 -- After the end of a child that is in flight.
-pub counted_end : (before now : Account) (started ended : ℕ) (command : List ℕ) (slot : ℕ) (reply : Reply) → IsCounted before started ended command
+pub counted_end : (before now : Account) (attempts started ended : ℕ) (command : List ℕ) (slot : ℕ) (reply : Reply) → IsCounted before attempts started ended command
     → busy slot before.events ≡ true → now.attempts ≡ before.attempts → now.events ≡ before.events ++ Ended slot reply before.attempts ∷ []
-    → IsCounted now started (ended + 1) command
-counted_end before now started ended command slot reply h was attempts events =
+    → IsCounted now attempts started (ended + 1) command
+counted_end before now attempts started ended command slot reply h was number events =
     let event : CrewEvent = Ended slot reply before.attempts in
     let left = lists_left h.slots before.events now.events slot reply _ h.lists was events in
     record {
       starts = ap started_in events ∙ fold-append started_after 0 before.events (event ∷ []) ∙ h.starts;
       ends = ap ended_in events ∙ fold-append ended_after 0 before.events (event ∷ []) ∙ ap (λ n. n + 1) h.ends;
       latest = ap subject_in events ∙ fold-append subject_after [] before.events (event ∷ []) ∙ h.latest;
-      attempted = let a = h.attempted in omega (arith, attempts);
+      tried = number ∙ h.tried;
+      taken = h.taken;
       slots = left.rest;
       lists = left.lists;
       flying = let f = h.flying in let s = left.shorter in omega arith;
@@ -68,9 +71,9 @@ no_slots (x ∷ xs) none =
     absurd (let n = none x in omega (arith, one))
 
 -- If no child is in flight, what is written only erases the line.
-pub gone : (account : Account) (started ended : ℕ) (command : List ℕ) → IsCounted account started ended command → IsIdle account.events → text_after account.events ≡ erasure
+pub gone : (account : Account) (attempts started ended : ℕ) (command : List ℕ) → IsCounted account attempts started ended command → IsIdle account.events → text_after account.events ≡ erasure
 unfolding text_of
-gone account started ended command h idle =
+gone account attempts started ended command h idle =
     let empty = no_slots h.slots (λ slot. h.lists.each slot ∙ ap one_if (idle.free slot)) in
     let same : ended ≡ started = let f = h.flying in omega arith in
     let equal : ended_in account.events ≡ started_in account.events = h.ends ∙ same ∙ sym h.starts in

@@ -21,68 +21,85 @@ fitting_after n (x ∷ xs) ys le =
     ap (λ b. cond b (form ++ fitting (n - length form) (xs ++ ys)) []) first ∙ ap (λ v. form ++ v) (fitting_after (n - length form) xs ys (omega arith))
     ∙ sym (append_assoc form rest (fitting ((n - length form) - length rest) ys)) ∙ ap (λ m. (form ++ rest) ++ fitting m ys) left
 
+-- One more byte makes what is shown longer.
+shown_longer : (text : List ℕ) (byte : ℕ) → length (flat_map shown_byte (text ++ byte ∷ [])) ≡ length (flat_map shown_byte text) + length (shown_byte byte)
+shown_longer text byte =
+    ap length (flat_map-append shown_byte text (byte ∷ []) ∙ ap (λ v. flat_map shown_byte text ++ v) (append-nil (shown_byte byte)))
+    ∙ length-append (flat_map shown_byte text) (shown_byte byte)
+
 -- Once something didn't fit, nothing more is shown.
-pub put_after_cut : (line : List ℕ) (is_cut : Bool) (text : List ℕ) (byte : ℕ) → is_cut ≡ true → IsShowing line is_cut text → IsShowing line is_cut (text ++ byte ∷ [])
-put_after_cut line is_cut text byte is h = record {
+pub put_after_cut : (n : ℕ) (line : List ℕ) (is_cut : Bool) (text : List ℕ) (byte : ℕ) → is_cut ≡ true → IsShowing n line is_cut text → IsShowing n line is_cut (text ++ byte ∷ [])
+put_after_cut n line is_cut text byte is h = record {
   fits = h.fits;
   whole = λ no. absurd (true≢false (sym is ∙ no));
-  cut = λ yes more. ap (fitting 79) (append_assoc text (byte ∷ []) more) ∙ h.cut yes (byte ∷ more);
+  cut = λ yes more. ap (fitting n) (append_assoc text (byte ∷ []) more) ∙ h.cut yes (byte ∷ more);
+  over = λ yes. let was = h.over yes in omega (arith, shown_longer text byte);
 }
 
 -- A form for which there is no room.
-pub put_without_room : (line form : List ℕ) (was : Bool) (left : ℕ) (text : List ℕ) (byte : ℕ) → was ≡ false → left + length line ≡ 79 → left < length form → form ≡ shown_byte byte
-    → IsShowing line was text → IsShowing line true (text ++ byte ∷ [])
-put_without_room line form was left text byte was_is room lacks form_is h =
+pub put_without_room : (n : ℕ) (line form : List ℕ) (was : Bool) (left : ℕ) (text : List ℕ) (byte : ℕ) → was ≡ false → left + length line ≡ n → left < length form → form ≡ shown_byte byte
+    → IsShowing n line was text → IsShowing n line true (text ++ byte ∷ [])
+put_without_room n line form was left text byte was_is room lacks form_is h =
     let all : line ≡ flat_map shown_byte text = h.whole was_is in
     let len : length line ≡ length (flat_map shown_byte text) = ap length all in
-    let none : nat_le (length (shown_byte byte)) (79 - length (flat_map shown_byte text)) ≡ false =
-    lt-leb (length (shown_byte byte)) (79 - length (flat_map shown_byte text)) (omega (arith, len, ap length form_is)) in
+    let none : nat_le (length (shown_byte byte)) (n - length (flat_map shown_byte text)) ≡ false =
+    lt-leb (length (shown_byte byte)) (n - length (flat_map shown_byte text)) (omega (arith, len, ap length form_is)) in
     record {
       fits = h.fits;
       whole = λ no. absurd (true≢false no);
       cut = λ _ more.
-          ap (fitting 79) (append_assoc text (byte ∷ []) more) ∙ fitting_after 79 text (byte ∷ more) (omega (arith, len))
-          ∙ ap (λ b. flat_map shown_byte text ++ cond b (shown_byte byte ++ fitting ((79 - length (flat_map shown_byte text)) - length (shown_byte byte)) more) []) none
+          ap (fitting n) (append_assoc text (byte ∷ []) more) ∙ fitting_after n text (byte ∷ more) (omega (arith, len))
+          ∙ ap (λ b. flat_map shown_byte text ++ cond b (shown_byte byte ++ fitting ((n - length (flat_map shown_byte text)) - length (shown_byte byte)) more) []) none
           ∙ append-nil (flat_map shown_byte text) ∙ sym all;
+      over = λ _. omega (arith, len, ap length form_is, shown_longer text byte);
     }
 
 -- A form for which there is room.
-pub put_with_room : {E : Type 0} (line next form : List ℕ) (was : Bool) (left : ℕ) (r : Result (Unit {0}) E) (text : List ℕ) (byte : ℕ) → was ≡ false → left + length line ≡ 79
-    → length form ≤ left → IsOk r ↔ (length line + length form ≤ 79) → OnOk r (next ≡ line ++ form) → form ≡ shown_byte byte → IsShowing line was text → IsShowing next was (text ++ byte ∷ [])
-put_with_room line next form was left (Err e) text byte was_is room fits variant next_is form_is h = absurd (false≢true (variant.1 (omega arith)))
-put_with_room line next form was left (Ok u) text byte was_is room fits variant next_is form_is h = record {
+pub put_with_room : {E : Type 0} (n : ℕ) (line next form : List ℕ) (was : Bool) (left : ℕ) (r : Result (Unit {0}) E) (text : List ℕ) (byte : ℕ) → was ≡ false → left + length line ≡ n
+    → length form ≤ left → IsOk r ↔ (length line + length form ≤ n) → OnOk r (next ≡ line ++ form) → form ≡ shown_byte byte → IsShowing n line was text → IsShowing n next was (text ++ byte ∷ [])
+put_with_room n line next form was left (Err e) text byte was_is room fits variant next_is form_is h = absurd (false≢true (variant.1 (omega arith)))
+put_with_room n line next form was left (Ok u) text byte was_is room fits variant next_is form_is h = record {
   fits = omega (arith, ap length next_is, length-append line form);
   whole = λ no. next_is ∙ ap (λ v. v ++ form) (h.whole was_is) ∙ ap (λ v. flat_map shown_byte text ++ v) (form_is ∙ sym (append-nil (shown_byte byte)))
       ∙ sym (flat_map-append shown_byte text (byte ∷ []));
   cut = λ yes. absurd (true≢false (sym yes ∙ was_is));
+  over = λ yes. absurd (true≢false (sym yes ∙ was_is));
 }
 
 -- One more turn of the loop over bytes.
-pub put_more : (line : List ℕ) (is_cut : Bool) (text more : List ℕ) (i : ℕ) → i < length more → IsShowing line is_cut ((text ++ take i more) ++ get_or more i 0 ∷ []) → IsShowing line is_cut (text ++ take (i + 1) more)
-put_more line is_cut text more i lt h =
-    subst (IsShowing line is_cut) (append_assoc text (take i more) (get_or more i 0 ∷ []) ∙ ap (λ v. text ++ v) (sym (take_more more i 0 lt))) h
+pub put_more : (n : ℕ) (line : List ℕ) (is_cut : Bool) (text more : List ℕ) (i : ℕ) → i < length more → IsShowing n line is_cut ((text ++ take i more) ++ get_or more i 0 ∷ []) → IsShowing n line is_cut (text ++ take (i + 1) more)
+put_more n line is_cut text more i lt h =
+    subst (IsShowing n line is_cut) (append_assoc text (take i more) (get_or more i 0 ∷ []) ∙ ap (λ v. text ++ v) (sym (take_more more i 0 lt))) h
 
-pub put_none : (line : List ℕ) (is_cut : Bool) (text more : List ℕ) → IsShowing line is_cut text → IsShowing line is_cut (text ++ take 0 more)
-put_none line is_cut text more h = subst (IsShowing line is_cut) (sym (append-nil text)) h
+pub put_none : (n : ℕ) (line : List ℕ) (is_cut : Bool) (text more : List ℕ) → IsShowing n line is_cut text → IsShowing n line is_cut (text ++ take 0 more)
+put_none n line is_cut text more h = subst (IsShowing n line is_cut) (sym (append-nil text)) h
 
-pub put_all : (line : List ℕ) (is_cut : Bool) (text more : List ℕ) (i : ℕ) → length more ≤ i → IsShowing line is_cut (text ++ take i more) → IsShowing line is_cut (text ++ more)
-put_all line is_cut text more i le h = subst (λ v. IsShowing line is_cut (text ++ v)) (take_all i more le) h
+pub put_all : (n : ℕ) (line : List ℕ) (is_cut : Bool) (text more : List ℕ) (i : ℕ) → length more ≤ i → IsShowing n line is_cut (text ++ take i more) → IsShowing n line is_cut (text ++ more)
+put_all n line is_cut text more i le h = subst (λ v. IsShowing n line is_cut (text ++ v)) (take_all i more le) h
 
-pub nothing_shown : (line : List ℕ) → line ≡ [] → IsShowing line false []
-nothing_shown line is = record { fits = omega (arith, ap length is); whole = λ _. is; cut = λ yes. absurd (true≢false (sym yes)) }
+pub nothing_shown : (n : ℕ) (line : List ℕ) (is_cut : Bool) → line ≡ [] → is_cut ≡ false → IsShowing n line is_cut []
+nothing_shown n line is_cut is whole = record {
+  fits = omega (arith, ap length is);
+  whole = λ _. is;
+  cut = λ yes. absurd (true≢false (sym yes ∙ whole));
+  over = λ yes. absurd (true≢false (sym yes ∙ whole));
+}
 
 -- What a line shows.
-pub shown_is : (line : List ℕ) (is_cut : Bool) (text : List ℕ) → IsShowing line is_cut text → line ≡ shown text
-unfolding shown
-shown_is line true text h = sym (h.cut refl []) ∙ ap (fitting 79) (append-nil text)
-shown_is line false text h =
+pub showing_is : (n : ℕ) (line : List ℕ) (is_cut : Bool) (text : List ℕ) → IsShowing n line is_cut text → line ≡ fitting n text
+showing_is n line true text h = sym (h.cut refl []) ∙ ap (fitting n) (append-nil text)
+showing_is n line false text h =
     let all : line ≡ flat_map shown_byte text = h.whole refl in
     let le = h.fits in
-    all ∙ sym (append-nil (flat_map shown_byte text)) ∙ sym (fitting_after 79 text [] (omega (arith, ap length all))) ∙ ap (fitting 79) (append-nil text)
+    all ∙ sym (append-nil (flat_map shown_byte text)) ∙ sym (fitting_after n text [] (omega (arith, ap length all))) ∙ ap (fitting n) (append-nil text)
+
+shown_is : (line : List ℕ) (is_cut : Bool) (text : List ℕ) → IsShowing 79 line is_cut text → line ≡ shown text
+unfolding shown
+shown_is line is_cut text h = showing_is 79 line is_cut text h
 
 -- A line that five texts were put on, one after the other.
 pub line_is : (line : List ℕ) (is_cut : Bool) (a b c d e : List ℕ) (started ended : ℕ) (subject : List ℕ) → a ≡ decimal started → b ≡ codes " started, " → c ≡ decimal ended → d ≡ codes " ended:" → e ≡ subject
-    → IsShowing line is_cut ((((([] ++ a) ++ b) ++ c) ++ d) ++ e) → line ≡ line_of started ended subject
+    → IsShowing 79 line is_cut ((((([] ++ a) ++ b) ++ c) ++ d) ++ e) → line ≡ line_of started ended subject
 unfolding line_of
 line_is line is_cut a b c d e started ended subject a_is b_is c_is d_is e_is h =
     shown_is line is_cut ((((([] ++ a) ++ b) ++ c) ++ d) ++ e) h

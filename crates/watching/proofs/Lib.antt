@@ -1,3 +1,4 @@
+mod Children
 mod Counts
 mod Cutting
 mod Parts

@@ -9,10 +9,9 @@ use Rattle.std.proofs.lemmas.Grind.{flat_map-append}
 use Rattle.std.proofs.lemmas.List.{take-append-le, take_more, take_min}
 use Rattle.std.proofs.lemmas.List.Sums.{suffix_len_is}
 use Rattle.std.proofs.Math.Seq.{take-append-add}
-use Rattle.arrayvec.specs.ArrayVec.{ArrayVec}
 use Rattle.memchr.specs.Find.{IsLastByte, is_byte}
 use Rattle.deftable.proofs.Fronts.{stripped}
-use Rattle.watching.specs.Subject.{before_end, after_front, last_line, line_front, command_of}
+use Rattle.watching.specs.Subject.{before_end, after_front, last_line, line_front, words_of}
 
 -- What `strip_suffix` and `strip_prefix` return.
 pub before_end_is : (back text : List ℕ) (r : Option (Bor (List ℕ)))
@@ -64,8 +63,8 @@ words_more next words i word lt is next_is =
     ∙ flat_map-append blank (take i words) (word ∷ []) ∙ ap (λ v. flat_map blank (take i words) ++ v) (append-nil (32 ∷ word)) in
     next_is ∙ ap line_front (sym more)
 
-pub words_all : (line : List ℕ) (words : List (List ℕ)) (i : ℕ) → length words ≤ i → line ≡ line_front (flat_map (λ w. 32 ∷ w) (take i words)) → line ≡ command_of words
-unfolding command_of
+pub words_all : (line : List ℕ) (words : List (List ℕ)) (i : ℕ) → length words ≤ i → line ≡ line_front (flat_map (λ w. 32 ∷ w) (take i words)) → line ≡ line_front (words_of words)
+unfolding words_of
 words_all line words i le is = is ∙ ap (λ ws. line_front (flat_map (λ w. 32 ∷ w) ws)) (take_all i words le)
 
 -- The last line, after the place of the last newline.
@@ -96,16 +95,19 @@ no_newline text rest none is =
     is ∙ ap (λ m. drop m text) start
 
 -- The one or the other, if something is told.
-abbrev pub items : ArrayVec ℕ → List ℕ
-items line = line.items
+abbrev Told : Type 0
+Told = Option (Bor (List ℕ) × Bor (List ℕ))
 
-either_items : (a b : Option (ArrayVec ℕ)) → option_map items (option_or a b) ≡ option_or (option_map items a) (option_map items b)
-either_items None b = refl
-either_items (Some line) b = refl
+abbrev text_told : Told → Option (List ℕ)
+text_told told = option_map (λ t. t.0.now ++ t.1.now) told
 
-pub either_told : (a b r : Option (ArrayVec ℕ)) (x y : Option (List ℕ)) → r ≡ option_or a b → option_map items a ≡ x → option_map items b ≡ y → option_map items r ≡ option_or x y
+either_text : (a b : Told) → text_told (option_or a b) ≡ option_or (text_told a) (text_told b)
+either_text None b = refl
+either_text (Some told) b = refl
+
+pub either_told : (a b r : Told) (x y : Option (List ℕ)) → r ≡ option_or a b → text_told a ≡ x → text_told b ≡ y → text_told r ≡ option_or x y
 either_told a b r x y is first second =
-    ap (option_map items) is ∙ either_items a b ∙ ap (λ v. option_or v (option_map items b)) first ∙ ap (option_or x) second
+    ap text_told is ∙ either_text a b ∙ ap (λ v. option_or v (text_told b)) first ∙ ap (option_or x) second
 
 -- Two texts that were put, one after the other.
 pub put_both : (line next : List ℕ) (first second word text : List ℕ) → line ≡ line_front (text ++ first) → second ≡ word → next ≡ line_front ((text ++ first) ++ second) → next ≡ line_front (text ++ (first ++ word))

@@ -1,3 +1,4 @@
+pub mod Child
 pub mod Progress
 pub mod Screen
 pub mod Subject

@@ -1,5 +1,5 @@
--- What a line of a terminal is given of a text. (own)
-use Rattle.std.specs.Prelude.{◌≡◌, ℕ, ◌-◌, ◌≤◌, ◌&&◌, nat_le, Bool, true, false, List, [], ◌∷◌, ◌++◌, flat_map, length, if◌then◌else◌}
+-- What is shown of a text in so many columns. (own)
+use Rattle.std.specs.Prelude.{◌≡◌, ℕ, ◌-◌, ◌≤◌, ◌<◌, ◌&&◌, nat_le, Bool, true, false, List, [], ◌∷◌, ◌++◌, flat_map, length, if◌then◌else◌}
 use Rattle.shown.specs.Form.{escape}
 
 -- The byte if it is printable ASCII, and otherwise `\x` and its two hexadecimal digits. (own)
@@ -12,12 +12,14 @@ fitting columns [] = []
 fitting columns (b ∷ bs) =
     if nat_le (length (shown_byte b)) columns then shown_byte b ++ fitting (columns - length (shown_byte b)) bs else []
 
--- A text in the columns of a line. (own)
+-- A text in the columns of the line of a terminal. (own)
 unfoldable pub shown : List ℕ → List ℕ
 shown text = fitting 79 text
 
--- The line shows this text: whole if it isn't cut, and if it is, so much of it that nothing more fits, whatever follows. (own)
-pub record IsShowing (line : List ℕ) (is_cut : Bool) (text : List ℕ) : Type 0 where
-  pub fits : length line ≤ 79
+-- A line of so many columns shows this text: whole if it isn't cut, and if it is, so much of it that nothing more fits, whatever
+-- follows. (own)
+pub record IsShowing (columns : ℕ) (line : List ℕ) (is_cut : Bool) (text : List ℕ) : Type 0 where
+  pub fits : length line ≤ columns
   pub whole : is_cut ≡ false → line ≡ flat_map shown_byte text
-  pub cut : is_cut ≡ true → (more : List ℕ) → fitting 79 (text ++ more) ≡ line
+  pub cut : is_cut ≡ true → (more : List ℕ) → fitting columns (text ++ more) ≡ line
+  pub over : is_cut ≡ true → columns < length (flat_map shown_byte text)

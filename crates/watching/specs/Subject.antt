@@ -1,4 +1,4 @@
--- What a line of progress says of a job. (own)
+-- What is said of a job. (own)
 use Rattle.std.specs.Prelude.{ℕ, ◌-◌, ◌==◌, List, ◌∷◌, ◌++◌, Option, Some, None, bytes_eq, codes, drop, flat_map, length, option_and_then, option_map, take, unwrap_or, if◌then◌else◌}
 use Rattle.std.specs.List.{after_last}
 use Rattle.std.specs.Option.{option_or}
@@ -21,13 +21,9 @@ last_line text = after_last (λ b. b == 10) text
 abbrev pub between : List ℕ → List ℕ → List ℕ → Option (List ℕ)
 between front back text = option_and_then (λ before. after_front front (last_line before)) (before_end back text)
 
--- As much of a text as a line can show. (own)
-abbrev pub line_front : List ℕ → List ℕ
-line_front text = take 79 text
-
 -- What is tested, after a word for its kind, if the text tests something between this front of a line and its end. (own)
 unfoldable pub named : List ℕ → List ℕ → List ℕ → List ℕ → Option (List ℕ)
-named kind front back text = option_map (λ name. line_front (kind ++ name)) (between front back text)
+named kind front back text = option_map (λ name. kind ++ name) (between front back text)
 
 -- The type whose size a text takes. In the second test of a type it is in parentheses. (own)
 abbrev pub type_told : List ℕ → Option (List ℕ)
@@ -56,9 +52,13 @@ told_by None = None
 told_by (Some file) = told file.1
 
 -- The words of a command, each after a blank. (own)
-unfoldable pub command_of : List (List ℕ) → List ℕ
-command_of words = line_front (flat_map (λ word. 32 ∷ word) words)
+unfoldable pub words_of : List (List ℕ) → List ℕ
+words_of words = flat_map (λ word. 32 ∷ word) words
 
--- What a line says of a job: what its conftest tests if the text shows that, and otherwise the words of the command. (own)
+-- As much of a text as the line of a terminal can show. (own)
+abbrev pub line_front : List ℕ → List ℕ
+line_front text = take 79 text
+
+-- What the line of a terminal says of a job: what its conftest tests if the text shows that, and otherwise the words of the command. (own)
 unfoldable pub subject_of : Job → List ℕ
-subject_of job = unwrap_or (told_by job.file) (command_of job.words)
+subject_of job = line_front (unwrap_or (told_by job.file) (words_of job.words))

@@ -1,12 +1,11 @@
-//! The line, and the text that is written for it.
+//! The line of a terminal, and the text that is written for it.
 
-ghost use Rattle.std.specs.Prelude.{◌≡◌, ℕ, List, ◌∷◌, ◌++◌, []};
+ghost use Rattle.std.specs.Prelude.{◌≡◌, ◌++◌};
 ghost use Rattle.watching.specs.Progress as progress;
-ghost use Rattle.watching.specs.Screen.{IsShowing, shown_byte};
 
+use crate::screen::{Text, empty, put};
 use arrayvec::ArrayVec;
 use itoa::Buffer;
-use shown::escape;
 
 /// The first column, and all that follows it erased (ECMA-48, CR and EL).
 const ERASURE: [u8; 4] = *b"\r\x1b[K";
@@ -20,62 +19,11 @@ const WRAPPING_ON: [u8; 5] = *b"\x1b[?7h";
 /// The text of a line, or a part of it.
 pub(crate) type Line = ArrayVec<u8, 79>;
 
-/// What is written at once: the erasure, and a line that isn't wrapped.
-pub(crate) type Text = ArrayVec<u8, 93>;
-
-/// A line that is written, and whether something that came last had no room.
-#[derive(Drop)]
-struct Screen {
-    line: Line,
-    is_cut: bool,
-}
-
-/// Appends the form of one byte, if there is room and there was room before.
-fn put_form(screen: &mut Screen, form: &[u8])
-    ensures { (text : List ℕ) (byte : ℕ) → form.now ≡ shown_byte byte → IsShowing screen.old.line.items screen.old.is_cut text
-        → IsShowing screen.new.line.items screen.new.is_cut (text ++ byte ∷ []) }
-{
-    if screen.is_cut {
-        return;
-    }
-    if screen.line.remaining_capacity() < form.len() {
-        screen.is_cut = true;
-        return;
-    }
-    let _fits = screen.line.try_extend_from_slice(form);
-}
-
-/// Appends a byte, if it fits.
-#[tactic(auto, unfolding(crate::specs::Screen::shown_byte))]
-fn put_byte(screen: &mut Screen, byte: u8)
-    ensures { (text : List ℕ) → IsShowing screen.old.line.items screen.old.is_cut text
-        → IsShowing screen.new.line.items screen.new.is_cut (text ++ byte ∷ []) }
-{
-    if byte >= b' ' && byte <= b'~' {
-        put_form(screen, &[byte]);
-    } else {
-        put_form(screen, &escape(byte));
-    }
-}
-
-/// Appends the bytes that fit.
-fn put(screen: &mut Screen, more: &[u8])
-    ensures { (text : List ℕ) → IsShowing screen.old.line.items screen.old.is_cut text
-        → IsShowing screen.new.line.items screen.new.is_cut (text ++ more.now) }
-{
-    for byte in more {
-        put_byte(screen, *byte);
-    }
-}
-
 /// Returns the line after so many starts and ends, with what it says of a job.
 fn line_of(started: u64, ended: u64, subject: &Line) -> Line
     ensures { result.items ≡ progress.line_of started ended subject.now.items }
 {
-    let mut screen = Screen {
-        line: Line::new(),
-        is_cut: false,
-    };
+    let mut screen = empty();
     let mut digits = Buffer::new();
     put(&mut screen, digits.format(started).as_bytes());
     put(&mut screen, b" started, ");

@@ -1,27 +1,35 @@
-//! A crew whose progress is shown.
+//! A crew whose children are shown.
 
-ghost use Rattle.std.specs.Prelude.{◌≡◌, ◌≢◌, ◌+◌, ◌^◌, ◌<◌, [], ◌∷◌, ◌++◌, false, true, IsTrue, OnOk, OnErr};
+ghost use Rattle.std.specs.Prelude.{◌≡◌, ◌≢◌, ◌+◌, ◌^◌, ◌<◌, ◌≤◌, [], ◌∷◌, ◌++◌, false, true, OnOk, OnErr, length};
 ghost use Rattle.std.specs.Io.KnownBytes.{Appends};
 ghost use Rattle.crew_trait.specs.Events.{busy, IsSomeBusy, IsIdle, failure_of};
 ghost use Rattle.crew_trait.specs.declared.event.CrewEvent.TheVariants.{Started, Ended};
-ghost use Rattle.watching.specs.Progress.{text_after, erasure};
+ghost use Rattle.invocation.specs.declared.progress.Showing.TheVariants.{Nothing, Line as line, Lines as lines};
+ghost use Rattle.watching.specs.Child as child;
+ghost use Rattle.watching.specs.Progress as progress;
 
-use crate::line::{Line, Text, text_of};
+use crate::child::child_line;
+use crate::line::{Line, text_of};
+use crate::screen::Text;
 use crate::subject::subject_of;
 use crew::{Crew, Refused, Reply};
+use invocation::Showing;
 use jobs::Job;
 use std::io::Write;
 use std::marker::Model;
 
-/// A crew that shows on a stream how far it is: the number of its children that were started, the number that have ended, and what
-/// was started last (own).
+/// A crew that shows its children on a stream (own): in the line of a terminal, which says how many were started, how many have ended
+/// and what was started last, or in a line of its own for each that is started, which has its number and its words.
 ///
-/// Each change is one write. If a write fails, no further one is tried. What a call returns never depends on it.
+/// Each line is one write. If a write fails, no further one is tried. What a call returns never depends on it.
 #[derive(Drop)]
 pub struct Watched<C: Crew + Drop, W: Write + Drop> {
     pub(crate) crew: C,
     stream: W,
-    is_on: bool,
+    showing: Showing,
+    // The starts that were tried.
+    attempts: u64,
+    // The starts that were taken.
     pub(crate) started: u64,
     ended: u64,
     command: Line,
@@ -32,29 +40,69 @@ impl<C: Crew + Drop, W: Write + Drop> Model for Watched<C, W> {
 
     ghost Value = { Watch C W };
 
-    ghost view = { λ w. record { crew = w.crew; stream = w.stream; is_on = w.is_on } };
+    ghost view = { λ w. record { crew = w.crew; stream = w.stream; showing = w.showing } };
 
-    ghost invariant = { λ w. IsCounted (C.account w.crew) w.started w.ended w.command.items };
+    ghost invariant = { λ w. IsCounted (C.account w.crew) w.attempts w.started w.ended w.command.items };
 }
 
-/// Writes a text, if progress is shown. Returns whether it is shown from then on.
-fn is_written<W: Write>(stream: &mut W, is_on: bool, text: &Text) -> bool
-    ensures off { is_on ≡ false → (result ≡ false) × (stream.new ≡ stream.old) }
-    ensures written { IsTrue result → Appends (W.contents stream.old) (W.contents stream.new) text.now.items }
+/// Returns what is written once a child was started: the text of the terminal's line, or the line of the child.
+fn text_at_start(
+    showing: Showing,
+    started: u64,
+    ended: u64,
+    command: &Line,
+    number: u64,
+    job: &Job,
+) -> Text
+    ensures line { showing ≡ line → result.items ≡ progress.text_of started ended command.now.items }
+    ensures lines { showing ≡ lines → result.items ≡ child.child_line number job.now }
 {
-    is_on && stream.write_all(text.as_slice()).is_ok()
+    match showing {
+        Showing::Nothing => Text::new(),
+        Showing::Line => text_of(started, ended, command),
+        Showing::Lines => child_line(number, job),
+    }
+}
+
+/// Writes a text, unless nothing is shown. Returns what is shown from then on.
+fn write_text<W: Write>(stream: &mut W, showing: Showing, text: &Text) -> Showing
+    ensures off { showing ≡ Nothing → (result ≡ Nothing) × (stream.new ≡ stream.old) }
+    ensures kept { result ≢ Nothing → result ≡ showing }
+    ensures written { result ≢ Nothing → Appends (W.contents stream.old) (W.contents stream.new) text.now.items }
+{
+    match showing {
+        Showing::Nothing => Showing::Nothing,
+        _ => match stream.write_all(text.as_slice()) {
+            Ok(()) => showing,
+            Err(_) => Showing::Nothing,
+        },
+    }
+}
+
+/// Writes the text of the terminal's line, if that is shown. Returns what is shown from then on.
+fn write_end<W: Write>(stream: &mut W, showing: Showing, text: &Text) -> Showing
+    ensures off { showing ≢ line → (result ≡ showing) × (stream.new ≡ stream.old) }
+    ensures kept { result ≢ Nothing → result ≡ showing }
+    ensures written { result ≡ line → Appends (W.contents stream.old) (W.contents stream.new) text.now.items }
+{
+    match showing {
+        Showing::Line => write_text(stream, showing, text),
+        _ => showing,
+    }
 }
 
 impl<C: Crew + Drop, W: Write + Drop> Watched<C, W> {
-    /// Returns a crew that shows its progress on the stream if `is_on` is true, and otherwise writes nothing.
-    pub fn new(crew: C, stream: W, is_on: bool) -> Watched<C, W>
-        requires { (C.account crew).events ≡ [] }
-        ensures { result ≡ record { crew = crew; stream = stream; is_on = is_on } }
+    /// Returns a crew that shows this of its children on the stream.
+    pub fn new(crew: C, stream: W, showing: Showing) -> Watched<C, W>
+        requires events { (C.account crew).events ≡ [] }
+        requires attempts { (C.account crew).attempts ≡ 0 }
+        ensures { result ≡ record { crew = crew; stream = stream; showing = showing } }
     {
         Watched {
             crew,
             stream,
-            is_on,
+            showing,
+            attempts: 0,
             started: 0,
             ended: 0,
             command: Line::new(),
@@ -72,6 +120,7 @@ impl<C: Crew + Drop, W: Write + Drop> Watched<C, W> {
 impl<C: Crew + Drop, W: Write + Drop> Crew for Watched<C, W> {
     ghost account = { λ w. C.account w.crew };
 
+    #[tactic(auto, using(crate::proofs::Children::short))]
     fn start(&mut self, slot: usize, job: Job) -> Result<(), Refused>
         requires slot { slot < 16 }
         requires free { busy slot (C.account self.old.crew).events ≡ false }
@@ -88,20 +137,35 @@ impl<C: Crew + Drop, W: Write + Drop> Crew for Watched<C, W> {
             ((C.account self.new.crew).events ≡ (C.account self.old.crew).events) }
         ensures refused_count { OnErr result
             ((C.account self.new.crew).failures ≡ (C.account self.old.crew).failures + 1) }
-        // If progress isn't shown, nothing is written, and it never is. Nor is anything written after a start that is refused.
-        ensures off { self.old.is_on ≡ false → self.new ≡ record self.old { crew = self.new.crew } }
+        // If nothing is shown, nothing is written, and it never is. Nor is anything written after a start that is refused.
+        ensures off { self.old.showing ≡ Nothing → self.new ≡ record self.old { crew = self.new.crew } }
         ensures untouched { OnErr result (self.new ≡ record self.old { crew = self.new.crew }) }
-        // Otherwise the text for all events so far is written, unless the write fails.
-        ensures written { OnOk result (IsTrue self.new.is_on
+        // What is shown stays the same, unless a write fails. Then nothing is.
+        ensures kept { self.new.showing ≢ Nothing → self.new.showing ≡ self.old.showing }
+        // On a terminal the text for all events so far is written, unless the write fails.
+        ensures written { OnOk result (self.new.showing ≡ line
             → Appends (W.contents self.old.stream) (W.contents self.new.stream)
-            (text_after (C.account self.new.crew).events)) }
+            (progress.text_after (C.account self.new.crew).events)) }
+        // If there are lines, the child's is written, under the number of this attempt, unless the write fails.
+        ensures told { OnOk result (self.new.showing ≡ lines
+            → Appends (W.contents self.old.stream) (W.contents self.new.stream)
+            (child.child_line (C.account self.new.crew).attempts job)) }
+        ensures short { length (child.child_line (C.account self.new.crew).attempts job) ≤ 400 }
     {
+        self.attempts += 1;
         let command = subject_of(&job);
+        let text = text_at_start(
+            self.showing,
+            self.started + 1,
+            self.ended,
+            &command,
+            self.attempts,
+            &job,
+        );
         self.crew.start(slot, job)?;
         self.started += 1;
         self.command = command;
-        let text = text_of(self.started, self.ended, &self.command);
-        self.is_on = is_written(&mut self.stream, self.is_on, &text);
+        self.showing = write_text(&mut self.stream, self.showing, &text);
         Ok(())
     }
 
@@ -116,20 +180,21 @@ impl<C: Crew + Drop, W: Write + Drop> Crew for Watched<C, W> {
         ensures reply { result.1 ≢ Reply.StartRefused }
         ensures count { (C.account self.new.crew).failures
             ≡ (C.account self.old.crew).failures + failure_of result.1 }
-        // If progress isn't shown, nothing is written, and it never is.
-        ensures off { self.old.is_on ≡ false → self.new ≡ record self.old { crew = self.new.crew } }
-        // Otherwise the text for all events so far is written, unless the write fails.
-        ensures written { IsTrue self.new.is_on
+        // If nothing is shown, or lines are, nothing is written.
+        ensures off { self.old.showing ≢ line → self.new ≡ record self.old { crew = self.new.crew } }
+        ensures kept { self.new.showing ≢ Nothing → self.new.showing ≡ self.old.showing }
+        // On a terminal the text for all events so far is written, unless the write fails.
+        ensures written { self.new.showing ≡ line
             → Appends (W.contents self.old.stream) (W.contents self.new.stream)
-            (text_after (C.account self.new.crew).events) }
+            (progress.text_after (C.account self.new.crew).events) }
         // If no child is left in flight, that text only erases the line.
         ensures gone { IsIdle (C.account self.new.crew).events
-            → text_after (C.account self.new.crew).events ≡ erasure }
+            → progress.text_after (C.account self.new.crew).events ≡ progress.erasure }
     {
         let (slot, reply) = self.crew.next();
         self.ended += 1;
         let text = text_of(self.started, self.ended, &self.command);
-        self.is_on = is_written(&mut self.stream, self.is_on, &text);
+        self.showing = write_end(&mut self.stream, self.showing, &text);
         (slot, reply)
     }
 }

@@ -1,10 +1,10 @@
-use Rattle.std.proofs.Common.{[], refl, ◌∙◌}
-use Rattle.watching.proofs.Cutting.{nothing_shown, line_is}
+use Rattle.std.proofs.Common.{refl, ◌∙◌}
+use Rattle.watching.proofs.Cutting.{line_is}
 use Rattle.watching.proofs.line.line_of.Goals as goal
 
 pub returns : goal.returns
 returns c =
-    let first = c.put.ensures [] (nothing_shown _ c.new.ensures) in
+    let first = c.put.ensures _ c.empty-screen.ensures in
     let second = c.put-2.ensures _ first in
     let third = c.put-3.ensures _ second in
     let fourth = c.put-4.ensures _ third in
