@@ -1,5 +1,7 @@
 //! What is written to streams that take a part of a text, are interrupted or fail, and in which order if two share a sink.
 
+ghost use Rattle.std.specs.Prelude.{◌≤◌, length};
+
 use deftable::{Bytes, Note, Notes, Stream};
 use invocation::{print_all, tell_text};
 use shown::Shown;
@@ -57,7 +59,9 @@ impl Side<'_> {
     }
 
     /// Keeps what it takes of a text, and returns how many bytes that are.
-    fn take(&self, text: &[u8]) -> usize {
+    fn take(&self, text: &[u8]) -> usize
+        ensures { result ≤ length text.now }
+    {
         let most = if self.word == b"part".as_slice() {
             self.number
         } else {
