@@ -1,11 +1,12 @@
 #!/usr/bin/env python3
-"""Runs `acrun why` on mutated logs, and reports each run that does not end as docs/running.md says.
+"""Runs `acrun why` on mutated logs, records and caches, and reports each run that does not end as docs/running.md says.
 
     tools/fuzz_why.py PROGRAM [--from N] [--count N] [--seconds N]
     tools/fuzz_why.py PROGRAM --replay N        shows log N, the word, and what comes of it
 
 A log is a function of its number. It is put together from lines of every form, in an order that a run would leave or in any
-other, and then some bytes are changed, lines are dropped, repeated or moved, or the end is cut off.
+other, and then some bytes are changed, lines are dropped, repeated or moved, or the end is cut off. Beside it may be a record
+with arguments, and a cache, which are mutated in the same way.
 
 A run is wrong if a signal ends it, its exit status is none of 0, 1 and 2, it writes to standard error exactly if the status isn't
 2, or it takes over a second of processor time or over 512 MB. The exit status of this script is 1 if a run is wrong.
@@ -24,6 +25,9 @@ import time
 NAMES = [b"sys/stat.h", b"getline", b"size_t", b"strlcpy", b"a", b"zlib.h", b"struct stat", b"", b"\xff\xfe", b"x\x1b[31m", b"m" * 300]
 WORDS = [b"sys/stat.h", b"HAVE_SYS_STAT_H", b"ac_cv_func_getline", b"HAVE_DECL_STRLCPY", b"ac_cv_lib_z_inflate", b"HAVE_LIBZ", b"nowhere", b"",
          b"for", b"HAVE_", b"ac_cv_search_", b"\xff", b"w" * 500]
+ARGS = [b"-C", b"--config-cache", b"--cache-file=config.cache", b"--cache-file", b"config.cache", b"--cache-file=", b"--cache-file=.", b"--prefix",
+        b"ac_cv_header_sys_stat_h=no", b"ac_cv_func_getline=a b", b"ac_cv_lib_z_inflate=", b"-q", b"=", b"", b"\\n", b"\xff=\xff"]
+SET = [b"ac_cv_header_sys_stat_h", b"ac_cv_func_getline", b"ac_cv_type_size_t", b"ac_cv_have_decl_strlcpy", b"ac_cv_func_", b"x", b""]
 FAULT = re.compile(rb"acrun: (usage|memory|file .*|log .*)\n", re.S)
 
 
@@ -87,6 +91,16 @@ def made(number):
     return b"".join(line + b"\n" for line in lines), pick.choice(WORDS)
 
 
+def beside(number):
+    """Returns the record and the cache of a number, or None for one that isn't there."""
+    pick = random.Random(f"beside {number}")
+    record = [b"acrun-record 2", b"srcdir ."] + [b"arg " + pick.choice(ARGS) for _ in range(pick.randrange(6))] + [b"end"]
+    forms = [b"%s=${%s=yes}", b"test ${%s+y} || %s=no", b'test "${%s+set}" = set || %s=no', b"%s=%s", b"# %s %s"]
+    cache = [pick.choice(forms).replace(b"%s", pick.choice(SET)) for _ in range(pick.randrange(6))]
+    texts = [b"".join(line + b"\n" for line in lines) if pick.random() < 0.7 else mutated(pick, lines) for lines in (record, cache)]
+    return [text if pick.random() < 0.9 else None for text in texts]
+
+
 def limit():
     resource.setrlimit(resource.RLIMIT_CPU, (2, 2))
     resource.setrlimit(resource.RLIMIT_CORE, (0, 0))
@@ -95,6 +109,10 @@ def limit():
 def run(program, number, folder):
     text, word = made(number)
     (folder / "config.log").write_bytes(text)
+    for name, other in zip(("config.status", "config.cache"), beside(number)):
+        (folder / name).unlink(missing_ok=True)
+        if other is not None:
+            (folder / name).write_bytes(other)
     before = resource.getrusage(resource.RUSAGE_CHILDREN)
     done = subprocess.run([program, b"why", word], cwd=folder, capture_output=True, preexec_fn=limit, check=False)
     after = resource.getrusage(resource.RUSAGE_CHILDREN)

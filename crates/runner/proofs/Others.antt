@@ -40,3 +40,7 @@ failed_help n P (Help words) e = (inr e, λ more. e, λ z. absurd (not_both n z 
     not_both : (n : ℕ) → n ≡ 0 → n ≡ 2 → ⊥
     not_both n z e = let c : 0 ≡ 2 = sym z ∙ e in cc
 failed_help n P call e = tt
+
+pub unanswered_why : (n : ℕ) (P : List (List ℕ) → Type 0) (seen : Call) → n ≡ 2 → IfWhy seen (λ words. n ≢ 2 → P words)
+unanswered_why n P (Why words) e = λ ne. absurd (ne e)
+unanswered_why n P call e = tt

@@ -11,6 +11,7 @@ ghost use Rattle.invocation.specs.Calls.{call_of, Unknown, Version, IfFilter, If
 ghost use Rattle.invocation.specs.Errors.{AreTold};
 ghost use Rattle.runner.specs.Puts.{HasNoPuts};
 ghost use Rattle.standin.specs.Standin.{IsAnswered};
+ghost use Rattle.whycommand.specs.Why.{IsWhy};
 
 use crate::inputs::run_filter;
 use causes::Causes;
@@ -45,13 +46,14 @@ fn tell_unknown<E: Write>(alloc: Global, is_asked: bool, words: &[Bytes], errors
 
 /// Runs the command that the words name, if it is one that explains something, and returns its exit status. Any other words are
 /// reported as no command.
-fn explain<F: Files, D: Disk, R: Read, W: Write, E: Write>(
+fn explain<D: Disk, R: Read, W: Write, E: Write>(
     terminal: &mut Terminal<'_, D, R, W, E>,
-    files: &F,
     words: &[Bytes],
     has_colours: bool,
 ) -> u8
     ensures explained { IfWhy (call_of words.now) (λ asked. (result ≤ 2) × (result ≢ 2 → terminal.new.errors ≡ terminal.old.errors)) }
+    ensures why { IfWhy (call_of words.now) (λ asked. result ≢ 2 → (out : List ℕ) × IsWhy (D.known terminal.old.outputs.disk) asked out result
+        × Appends (W.contents terminal.old.output) (W.contents terminal.new.output) out) }
     ensures help { IfHelp (call_of words.now) (λ asked. ((result ≡ 0) ⊎ (result ≡ 2)) × (1 < length asked → result ≡ 2) × (result ≡ 0 → terminal.new.errors ≡ terminal.old.errors)) }
     ensures version { call_of words.now ≡ Version → ((result ≡ 0) ⊎ (result ≡ 2)) × (result ≡ 0 → terminal.new.errors ≡ terminal.old.errors) }
     ensures linted { IfLint (call_of words.now) (λ asked. (result ≤ 2) × (result ≢ 2 → terminal.new.errors ≡ terminal.old.errors)) }
@@ -68,7 +70,7 @@ fn explain<F: Files, D: Disk, R: Read, W: Write, E: Write>(
     match call_of(words) {
         Call::Help(words) => run_help(words, output, errors),
         Call::Version => run_version(output, errors),
-        Call::Why(words) => run_why(alloc, files, words, output, errors),
+        Call::Why(words) => run_why(alloc, disk, words, output, errors),
         Call::Port(words) => run_port(alloc, disk, words, input, output, errors),
         Call::Lint(words) => run_lint(alloc, disk, words, has_colours, input, output, errors),
         _ => tell_unknown(alloc, terminal.is_asked, words, errors),
@@ -128,6 +130,9 @@ pub fn run<F: Files, D: Disk, C: Crew + Causes, R: Read, W: Write, E: Write>(
         × (terminal.old.is_asked ≡ false → AreTold (E.contents terminal.old.errors) (E.contents terminal.new.errors) said)) }
     // What explains something has no other status than these. Unless it is 2, `why` writes nothing on standard error.
     ensures explained { IfWhy (call_of words.now) (λ asked. (result ≤ 2) × (result ≢ 2 → terminal.new.errors ≡ terminal.old.errors)) }
+    // Then what it writes is the answer for the words, by the log or the record.
+    ensures why { IfWhy (call_of words.now) (λ asked. result ≢ 2 → (out : List ℕ) × IsWhy (D.known terminal.old.outputs.disk) asked out result
+        × Appends (W.contents terminal.old.output) (W.contents terminal.new.output) out) }
     ensures help { IfHelp (call_of words.now) (λ asked. ((result ≡ 0) ⊎ (result ≡ 2)) × (1 < length asked → result ≡ 2) × (result ≡ 0 → terminal.new.errors ≡ terminal.old.errors)) }
     ensures version { call_of words.now ≡ Version → ((result ≡ 0) ⊎ (result ≡ 2)) × (result ≡ 0 → terminal.new.errors ≡ terminal.old.errors) }
     ensures linted { IfLint (call_of words.now) (λ asked. (result ≤ 2) × (result ≢ 2 → terminal.new.errors ≡ terminal.old.errors)) }
@@ -160,7 +165,7 @@ pub fn run<F: Files, D: Disk, C: Crew + Causes, R: Read, W: Write, E: Write>(
         Call::Recheck => run_recheck(terminal, crew),
         _ => {
             let has_colours = may_colour(terminal.env, is_terminal);
-            explain(terminal, files, words, has_colours)
+            explain(terminal, words, has_colours)
         }
     }
 }
@@ -233,6 +238,7 @@ pub fn command<C: Crew + Causes + Children>(
     ensures recheck { IfRecheck (call_of words.now) (result ≢ 2 → (out : List ℕ) × (said : List (List ℕ))
         × IsRechecked env.now (C.account crew.old) (C.account crew.new) None None out said result) }
     ensures explained { IfWhy (call_of words.now) (λ asked. result ≤ 2) }
+    ensures why { IfWhy (call_of words.now) (λ asked. result ≢ 2 → (out : List ℕ) × IsWhy None asked out result) }
     ensures help { IfHelp (call_of words.now) (λ asked. ((result ≡ 0) ⊎ (result ≡ 2)) × (1 < length asked → result ≡ 2)) }
     ensures version { call_of words.now ≡ Version → (result ≡ 0) ⊎ (result ≡ 2) }
     ensures linted { IfLint (call_of words.now) (λ asked. result ≤ 2) }

@@ -1,1 +1,4 @@
-mod Empty
+mod Ends
+mod Explained
+mod Nearness
+mod Records

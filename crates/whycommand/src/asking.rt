@@ -1,185 +1,232 @@
 //! The command.
 
-ghost use Rattle.std.specs.Prelude.{◌≡◌, ◌≢◌, ◌≤◌, ℕ, List, true, IfOk, IfSome};
-ghost use Rattle.logreading.specs.Log.{is_log};
+ghost use Rattle.std.specs.Prelude.{◌≡◌, ◌≢◌, ◌≤◌, ℕ, List, map, option_map, IfOk, IfSome};
+ghost use Rattle.std.specs.Io.KnownBytes.{Appends};
+ghost use Rattle.whycommand.specs.Shown.{printed, status_of};
+ghost use Rattle.whycommand.specs.Views.{check_seen, line_seen};
+ghost use Rattle.whycommand.specs.Sources.{IsSeenFor};
+ghost use Rattle.whycommand.specs.declared.seen.Seen.{Seen};
+ghost use Rattle.whycommand.specs.Why as specs;
 
-use crate::checks::{Check, checks_of};
-use crate::names::is_about;
-use crate::nearest::put_nearest;
+use crate::lines::{Check, LogLine, checks_of, counted, is_run};
 use crate::record::line_in;
-use crate::showing::put_check;
+use crate::seen::{RECORD, Seen, seen_for};
+use crate::showing::{FOUND, put_printed};
 use deftable::Bytes;
+use disk::Disk;
+use diskfiles::read_text;
 use invocation::{LOG, tell_file, tell_memory, tell_named, tell_usage};
-use logreading::{Line, read_log};
-use std::alloc::Global;
-use std::io::{self, ErrorKind, Read, Write};
-use std::rt::Files;
-use std::{fs, str};
+use logreading::read_log;
+use std::alloc::{AllocError, Global};
+use std::io::Write;
 
-/// The exit status if a check is shown.
-const FOUND: u8 = 0;
-
-/// The exit status if the word is about no check.
-const NONE: u8 = 1;
-
-/// The largest number of bytes of a file that is read, 4 GiB.
-const LARGEST: u64 = 4_294_967_296;
-
-/// The name of the record.
-const RECORD: &[u8] = b"config.status";
-
-/// Shows each check that the word is about. Returns whether there is one.
-fn show_matches<W: Write>(
-    alloc: Global,
-    lines: &[Line<'_>],
-    checks: &[Check<'_>],
-    word: &[u8],
-    output: &mut W,
-) -> io::Result<bool> {
-    let mut is_found = false;
-    for (index, check) in checks.iter().enumerate() {
-        if is_about(alloc, word, check.message)? {
-            let mut out = Vec::new(alloc);
-            put_check(alloc, &mut out, lines, checks, index, check)?;
-            output.write_all(out.as_slice())?;
-            is_found = true;
-        }
-    }
-    Ok(is_found)
+/// What is printed, and the exit status.
+#[derive(Drop)]
+struct Answer {
+    text: Vec<u8>,
+    status: u8,
 }
 
-/// Shows the checks that are nearest to the word, unless those that it is about were found, and
-/// returns the exit status.
-fn show_nearest<W: Write>(
+/// Returns what is printed for a word of the lines of a log with these checks.
+fn answer_with(
     alloc: Global,
+    seen: &Seen,
+    lines: &[LogLine<'_>],
     checks: &[Check<'_>],
     word: &[u8],
-    is_found: bool,
-    output: &mut W,
-) -> io::Result<u8>
-    ensures { IfOk result (λ status. status ≤ 1) }
+) -> Result<Answer, AllocError>
+    ensures text { IfOk result (λ answer. answer.text.items ≡ printed seen.now (map line_seen lines.now) word.now (map check_seen checks.now)) }
+    ensures status { IfOk result (λ answer. answer.status ≡ status_of word.now (map check_seen checks.now)) }
+    ensures bound { IfOk result (λ answer. answer.status ≤ 1) }
 {
-    if is_found {
-        return Ok(FOUND);
-    }
-    let mut out = Vec::new(alloc);
-    put_nearest(alloc, &mut out, word, checks)?;
-    output.write_all(out.as_slice())?;
-    Ok(NONE)
+    let mut text = Vec::new(alloc);
+    let status = put_printed(alloc, &mut text, seen, lines, word, checks)?;
+    Ok(Answer { text, status })
 }
 
-/// Returns whether a line is an error, a warning or a notice of a run.
-fn has_message(lines: &[Line<'_>]) -> bool {
-    lines
-        .iter()
-        .any(|line| line.text.starts_with(b"configure: "))
-}
-
-/// Shows the checks of a log that the word is about, or else the nearest ones, and returns the exit
-/// status, or `None` if the lines are those of no log: none begins a check, and none is an error, a
-/// warning or a notice.
-fn show_lines<W: Write>(
+/// Returns what is printed for a word of the lines of a log, or `None` if they have nothing of a run: none begins a check, and none
+/// is an error, a warning or a notice.
+#[tactic(auto, using(crate::proofs::Explained::answered))]
+fn answer_of(
     alloc: Global,
-    lines: &[Line<'_>],
+    seen: &Seen,
+    lines: &[LogLine<'_>],
     word: &[u8],
-    output: &mut W,
-) -> io::Result<Option<u8>>
-    ensures { IfOk result (λ o. IfSome o (λ status. status ≤ 1)) }
+) -> Result<Option<Answer>, AllocError>
+    ensures answer { IfOk result (λ o. IfSome o (λ answer. specs.IsAnswer seen.now word.now (map line_seen lines.now) answer.text.items answer.status)) }
+    ensures bound { IfOk result (λ o. IfSome o (λ answer. answer.status ≤ 1)) }
 {
     let checks = checks_of(alloc, lines)?;
-    if checks.is_empty() && !has_message(lines) {
-        return Ok(None);
-    }
     let checks = checks.as_slice();
-    let is_found = show_matches(alloc, lines, checks, word, output)?;
-    Ok(Some(show_nearest(alloc, checks, word, is_found, output)?))
+    if is_run(checks, lines) {
+        let answer = answer_with(alloc, seen, lines, checks, word)?;
+        return Ok(Some(answer));
+    }
+    Ok(None)
 }
 
-/// Shows what the word is about in a text, and returns the exit status, or `None` if the text is no log.
-fn show_text<W: Write>(
+/// Returns what is printed for a word of a log, or `None` if the text is no log of a run.
+fn answer_in(
     alloc: Global,
+    seen: &Seen,
     text: &[u8],
     word: &[u8],
-    output: &mut W,
-) -> io::Result<Option<u8>>
-    ensures status { IfOk result (λ o. IfSome o (λ status. status ≤ 1)) }
-    ensures log { IfOk result (λ o. IfSome o (λ _. is_log text.now ≡ true)) }
+) -> Result<Option<Answer>, AllocError>
+    ensures answer { IfOk result (λ o. IfSome o (λ answer. specs.IsInLog seen.now text.now word.now answer.text.items answer.status)) }
+    ensures bound { IfOk result (λ o. IfSome o (λ answer. answer.status ≤ 1)) }
 {
     match read_log(alloc, text)? {
-        Some(lines) => show_lines(alloc, lines.as_slice(), word, output),
+        Some(lines) => {
+            let lines = counted(alloc, lines.as_slice())?;
+            answer_of(alloc, seen, lines.as_slice(), word)
+        }
         None => Ok(None),
     }
 }
 
-/// Reads the text of a file. Only a regular file is opened, since a read of a pipe or of a device may wait.
-fn read_file<F: Files>(alloc: Global, files: &F, name: &[u8]) -> io::Result<Vec<u8>> {
-    let Ok(name) = str::from_utf8(name) else {
-        return Err(io::Error::from(ErrorKind::NotFound));
-    };
-    if !fs::metadata(files, name)?.is_file() {
-        return Err(io::Error::from(ErrorKind::Unsupported));
-    }
-    let mut file = fs::open(files, name)?;
-    let mut text = Vec::new(alloc);
-    (&mut file).take(LARGEST).read_to_end(&mut text)?;
-    Ok(text)
-}
-
-/// Reports that a file can't be read or written, or that memory ran out, and returns the exit status.
-fn tell_failure<E: Write>(errors: &mut E, error: &io::Error, name: &[u8]) -> u8
-    ensures { result ≡ 2 }
+/// Writes what is to be printed, and returns the exit status.
+fn put_text<W: Write, E: Write>(text: &[u8], status: u8, output: &mut W, errors: &mut E) -> u8
+    requires { status ≤ 1 }
+    ensures bound { result ≤ 2 }
+    ensures status { result ≢ 2 → result ≡ status }
+    ensures silent { result ≢ 2 → errors.new ≡ errors.old }
+    ensures put { result ≢ 2 → Appends (W.contents output.old) (W.contents output.new) text.now }
 {
-    if error.kind() == ErrorKind::OutOfMemory {
-        return tell_memory(errors);
+    match output.write_all(text) {
+        Ok(()) => status,
+        Err(_) => tell_file(errors, b"standard output"),
     }
-    tell_file(errors, name)
 }
 
-/// Explains the word by a log, and returns the exit status.
-fn explain_file<F: Files, W: Write, E: Write>(
+/// Explains the word by the text of a log, and returns the exit status.
+#[tactic(auto, using(crate::proofs::Explained::written))]
+fn explain_text<W: Write, E: Write>(
     alloc: Global,
-    files: &F,
-    word: &Bytes,
+    seen: &Seen,
+    text: &[u8],
+    word: &[u8],
     name: &[u8],
     output: &mut W,
     errors: &mut E,
 ) -> u8
     ensures status { result ≤ 2 }
     ensures silent { result ≢ 2 → errors.new ≡ errors.old }
-    ensures log { result ≢ 2 → (text : List ℕ) × (is_log text ≡ true) }
+    ensures answer { result ≢ 2 → (out : List ℕ) × specs.IsInLog seen.now text.now word.now out result × Appends (W.contents output.old) (W.contents output.new) out }
 {
-    let text = match read_file(alloc, files, name) {
-        Ok(text) => text,
-        Err(error) => return tell_failure(errors, &error, name),
-    };
-    match show_text(alloc, text.as_slice(), word.as_slice(), output) {
-        Ok(Some(status)) => status,
+    match answer_in(alloc, seen, text, word) {
+        Ok(Some(answer)) => put_text(answer.text.as_slice(), answer.status, output, errors),
         Ok(None) => tell_named(errors, &"log", name),
-        Err(error) => tell_failure(errors, &error, b"standard output"),
+        Err(_) => tell_memory(errors),
     }
 }
 
-/// Returns the line of the run that the record is of, or `None` if it can't be read.
-fn record_line<F: Files>(alloc: Global, files: &F) -> Option<Vec<u8>> {
-    match &read_file(alloc, files, RECORD) {
-        Ok(text) => line_in(alloc, text.as_slice()),
-        Err(_) => None,
-    }
-}
-
-/// Shows a line, and returns the exit status. If there is none, a word is missing.
-#[tactic(auto, using(crate::proofs::Empty::some_log))]
-fn show_line<W: Write, E: Write>(line: &Option<Vec<u8>>, output: &mut W, errors: &mut E) -> u8
+/// Explains the word by the text of the log of this name, and returns the exit status.
+#[tactic(auto, using(crate::proofs::Explained::by_seen))]
+fn explain_seen<D: Disk, W: Write, E: Write>(
+    alloc: Global,
+    disk: &D,
+    text: &[u8],
+    word: &[u8],
+    name: &[u8],
+    output: &mut W,
+    errors: &mut E,
+) -> u8
     ensures status { result ≤ 2 }
     ensures silent { result ≢ 2 → errors.new ≡ errors.old }
-    ensures log { result ≢ 2 → (text : List ℕ) × (is_log text ≡ true) }
+    ensures answer { result ≢ 2 → (seen : Seen) × IsSeenFor (D.known disk.now) name.now seen × ((out : List ℕ) × specs.IsInLog seen text.now word.now out result × Appends (W.contents output.old) (W.contents output.new) out) }
 {
-    let Some(line) = line else {
-        return tell_usage(errors);
-    };
-    match output.write_all(line.as_slice()) {
-        Ok(()) => FOUND,
-        Err(error) => tell_failure(errors, &error, b"standard output"),
+    match &seen_for(alloc, disk, name) {
+        Ok(seen) => explain_text(alloc, seen, text, word, name, output, errors),
+        Err(_) => tell_memory(errors),
+    }
+}
+
+/// Explains the word by a log, and returns the exit status.
+#[tactic(auto, using(crate::proofs::Explained::explained))]
+fn explain_file<D: Disk, W: Write, E: Write>(
+    alloc: Global,
+    disk: &D,
+    word: &[u8],
+    name: &[u8],
+    output: &mut W,
+    errors: &mut E,
+) -> u8
+    ensures status { result ≤ 2 }
+    ensures silent { result ≢ 2 → errors.new ≡ errors.old }
+    ensures answer { result ≢ 2 → (out : List ℕ) × specs.IsOfLog (D.known disk.now) name.now word.now out result × Appends (W.contents output.old) (W.contents output.new) out }
+{
+    match read_text(alloc, disk, name) {
+        Ok(Some(text)) => explain_seen(alloc, disk, text.as_slice(), word, name, output, errors),
+        Ok(None) => tell_file(errors, name),
+        Err(_) => tell_memory(errors),
+    }
+}
+
+/// Returns the name of the log, by the words after WORD, or `None` if there are more than one.
+fn log_named(more: &[Bytes]) -> Option<&[u8]>
+    ensures { option_map (λ name. name.now) result ≡ specs.log_named more.now }
+{
+    match more.split_first() {
+        Some((name, others)) => {
+            if others.is_empty() {
+                Some(name.as_slice())
+            } else {
+                None
+            }
+        }
+        None => Some(LOG.as_bytes()),
+    }
+}
+
+/// Explains the word by the log of this name, and returns the exit status. If there is none, the words have no meaning.
+fn explain_word<D: Disk, W: Write, E: Write>(
+    alloc: Global,
+    disk: &D,
+    word: &[u8],
+    name: Option<&[u8]>,
+    output: &mut W,
+    errors: &mut E,
+) -> u8
+    ensures status { result ≤ 2 }
+    ensures silent { result ≢ 2 → errors.new ≡ errors.old }
+    ensures answer { result ≢ 2 → (out : List ℕ) × specs.IsOfWord (D.known disk.now) word.now (option_map (λ name. name.now) name.entry) out result × Appends (W.contents output.old) (W.contents output.new) out }
+{
+    match name {
+        Some(name) => explain_file(alloc, disk, word, name, output, errors),
+        None => tell_usage(errors),
+    }
+}
+
+/// Shows the run that the record in this text is of, and returns the exit status. If the text is no record with arguments, a word is
+/// missing.
+#[tactic(auto, using(crate::proofs::Explained::line_written))]
+fn show_record<W: Write, E: Write>(alloc: Global, text: &[u8], output: &mut W, errors: &mut E) -> u8
+    ensures status { result ≤ 2 }
+    ensures silent { result ≢ 2 → errors.new ≡ errors.old }
+    ensures line { result ≢ 2 → (out : List ℕ) × specs.IsLineIn text.now out × (result ≡ 0) × Appends (W.contents output.old) (W.contents output.new) out }
+{
+    match line_in(alloc, text) {
+        Ok(Some(line)) => put_text(line.as_slice(), FOUND, output, errors),
+        Ok(None) => tell_usage(errors),
+        Err(_) => tell_memory(errors),
+    }
+}
+
+/// Shows the run that the record is of, and returns the exit status. If there is no record with arguments, a word is missing.
+fn show_run<D: Disk, W: Write, E: Write>(
+    alloc: Global,
+    disk: &D,
+    output: &mut W,
+    errors: &mut E,
+) -> u8
+    ensures status { result ≤ 2 }
+    ensures silent { result ≢ 2 → errors.new ≡ errors.old }
+    ensures run { result ≢ 2 → (out : List ℕ) × specs.IsOfRecord (D.known disk.now) out result × Appends (W.contents output.old) (W.contents output.new) out }
+{
+    match read_text(alloc, disk, RECORD) {
+        Ok(Some(text)) => show_record(alloc, text.as_slice(), output, errors),
+        Ok(None) => tell_usage(errors),
+        Err(_) => tell_memory(errors),
     }
 }
 
@@ -196,9 +243,9 @@ fn show_line<W: Write, E: Write>(line: &Option<Vec<u8>>, output: &mut W, errors:
 /// The status is 0 if a check or such a call is shown, and 1 if no check is about WORD: then the checks that are nearest to WORD are printed. It is 2 if the
 /// words aren't these, if there are none and no `config.status` with arguments can be read, or if the log can't be read, is no log, or
 /// can't be explained on standard output. Then standard error has a line that says which.
-pub fn run_why<F: Files, W: Write, E: Write>(
+pub fn run_why<D: Disk, W: Write, E: Write>(
     alloc: Global,
-    files: &F,
+    disk: &D,
     words: &[Bytes],
     output: &mut W,
     errors: &mut E,
@@ -206,13 +253,18 @@ pub fn run_why<F: Files, W: Write, E: Write>(
     ensures status { result ≤ 2 }
     // Standard error has something only if the status is 2.
     ensures silent { result ≢ 2 → errors.new ≡ errors.old }
-    // Unless the status is 2, the checks that are shown are those of some log.
-    ensures log { result ≢ 2 → (text : List ℕ) × (is_log text ≡ true) }
+    // Unless the status is 2, what is written is the answer for these words, by the log or the record.
+    ensures answer { result ≢ 2 → (out : List ℕ) × specs.IsWhy (D.known disk.now) words.now out result × Appends (W.contents output.old) (W.contents output.new) out }
 {
-    match words {
-        [] => show_line(&record_line(alloc, files), output, errors),
-        [word] => explain_file(alloc, files, word, LOG.as_bytes(), output, errors),
-        [word, log] => explain_file(alloc, files, word, log.as_slice(), output, errors),
-        _ => tell_usage(errors),
+    match words.split_first() {
+        Some((word, more)) => explain_word(
+            alloc,
+            disk,
+            word.as_slice(),
+            log_named(more),
+            output,
+            errors,
+        ),
+        None => show_run(alloc, disk, output, errors),
     }
 }

@@ -4,10 +4,11 @@
 //! that failed. If WORD is about none, it prints the checks that are nearest to it. Without WORD, it prints with which arguments the run was
 //! made that `config.status` is of.
 //!
-//! The time is in proportion to the log, and the memory to its lines. "own" marks a rule that no manual gives.
+//! A check is read from its first line to its answer. So the time is in proportion to the log and to how many checks are open at
+//! once, and the memory to the log and to what is printed. "own" marks a rule that no manual gives.
 //!
 //! ```text
-//! run_why(alloc, files, ["sys/stat.h"], output, errors)
+//! run_why(alloc, disk, ["sys/stat.h"], output, errors)
 //! // checking for sys/stat.h... no
 //! // child 1:
 //! // $ cc -c conftest1.c
@@ -17,15 +18,18 @@
 //! // | #include <sys/stat.h>
 //! ```
 //!
-//! Read `subject` (what a check is about), `names` (which names a check has), `checks` (which lines are a check's), `showing`,
-//! `nearest`, `record`, and then `asking`.
+//! In `specs`, read `Lines` (the checks of a log, and which lines are a check's), `Subjects` (what a check is about), `Names` (which
+//! names a check has), `Shown`, `Nearest`, and then `Why`, which says what is printed for words and files. `Views` has the lines of the
+//! code as the definitions have them. In `src`, read `lines`, `subject`, `names`, `nearest`, `showing`, `record`, and then `asking`.
 #![tactic(auto)]
 
 mod asking;
-mod checks;
+mod lines;
 mod names;
 mod nearest;
+mod origins;
 mod record;
+mod seen;
 mod showing;
 mod subject;
 

@@ -1,5 +1,11 @@
 //! What a check is about.
 
+ghost use Rattle.std.specs.Prelude.{◌≡◌, Some, codes};
+ghost use Rattle.memchr.specs.Find.{first_of, matches};
+ghost use Rattle.whycommand.specs.Lines as specs_lines;
+ghost use Rattle.whycommand.specs.Subjects as specs;
+
+use crate::lines::{after_front, between};
 use bstr::ByteSlice;
 
 /// What a check is about, by its message.
@@ -17,48 +23,64 @@ pub(crate) enum Subject<'a> {
     Other,
 }
 
-/// Returns what is between a front and a back of the text, if it has both.
-fn between<'a>(text: &'a [u8], front: &[u8], back: &[u8]) -> Option<&'a [u8]> {
-    match text.strip_prefix(front) {
-        Some(rest) => rest.strip_suffix(back),
-        None => None,
-    }
-}
-
-/// Returns the message of the check that the line begins, or `None` if it begins none.
-pub(crate) fn message_of(line: &[u8]) -> Option<&[u8]> {
-    between(line, b"checking ", b"... \n")
-}
-
-/// Returns what is after `for`.
-fn sought(text: &[u8]) -> Subject<'_> {
-    if let Some(function) = text.strip_prefix(b"library containing ") {
-        return Subject::Libraries(function);
-    }
+/// Returns the subject of a text, which is cut at the first ` in -l`.
+fn cut(text: &[u8]) -> Subject<'_>
+    ensures { specs.subject result ≡ specs.cut_at (first_of (matches text.now (codes " in -l") 0)) text.now }
+{
     match text.split_once_str(b" in -l") {
         Some((function, library)) => Subject::Library(function, library),
         None => Subject::Entry(text),
     }
 }
 
-/// Returns what the check with this message is about.
-pub(crate) fn subject_of(message: &[u8]) -> Subject<'_> {
-    if let Some(name) = between(message, b"whether ", b" is declared") {
-        return Subject::Declaration(name);
+/// Returns the subject of what is after `for`.
+fn sought(text: &[u8]) -> Subject<'_>
+    ensures { specs.subject result ≡ specs.sought (Some text.now) }
+{
+    match after_front(b"library containing ", text) {
+        Some(function) => Subject::Libraries(function),
+        None => cut(text),
     }
-    match message.strip_prefix(b"for ") {
+}
+
+/// Returns the subject of a message that is about no declaration.
+fn of_search(message: &[u8]) -> Subject<'_>
+    ensures { specs.subject result ≡ specs.sought (specs_lines.after_front (codes "for ") message.now) }
+{
+    match after_front(b"for ", message) {
         Some(text) => sought(text),
         None => Subject::Other,
     }
 }
 
-/// Returns the part of a message that differs from those of other checks of its kind.
-pub(crate) fn core_of(message: &[u8]) -> &[u8] {
-    match subject_of(message) {
+/// Returns what the check with this message is about.
+#[tactic(auto, unfolding(crate::specs::Subjects::subject_of))]
+pub(crate) fn subject_of(message: &[u8]) -> Subject<'_>
+    ensures { specs.subject result ≡ specs.subject_of message.now }
+{
+    match between(b"whether ", b" is declared", message) {
+        Some(name) => Subject::Declaration(name),
+        None => of_search(message),
+    }
+}
+
+/// Returns the part of a message that differs from those of other checks with such a subject.
+fn core_in<'a>(subject: Subject<'a>, message: &'a [u8]) -> &'a [u8]
+    ensures { result.now ≡ specs.core_in (specs.subject subject.entry) message.now }
+{
+    match subject {
         Subject::Entry(name) => name,
         Subject::Declaration(name) => name,
         Subject::Library(function, _) => function,
         Subject::Libraries(function) => function,
         Subject::Other => message,
     }
+}
+
+/// Returns the part of a message that differs from those of other checks of its kind.
+#[tactic(auto, unfolding(crate::specs::Subjects::core_of))]
+pub(crate) fn core_of(message: &[u8]) -> &[u8]
+    ensures { result.now ≡ specs.core_of message.now }
+{
+    core_in(subject_of(message), message)
 }

@@ -1,0 +1,10 @@
+pub mod Lines
+pub mod Subjects
+pub mod Names
+pub mod Nearest
+pub mod Quoting
+pub mod Origins
+pub mod Sources
+pub mod Shown
+pub mod Why
+pub mod Views
