@@ -1,3 +1,6 @@
 mod Counting
 mod Finding
+mod Flags
+mod Groups
+mod Shared
 mod Steps

@@ -1,30 +1,18 @@
 //! Matches several patterns against a text.
 
 ghost use Rattle.std.specs.Prelude.{◌≡◌, ◌↔◌, IfOk, IsTrue};
-ghost use Rattle.shellword.specs.Matcher.{matches_any, matching};
+ghost use Rattle.shellword.specs.Matcher.{matches_any};
 ghost use Rattle.shellword.specs.Matching.{MatchesAny};
 
-use crate::parts::{bytes_of, has_one_byte, match_parts};
+use crate::parts::match_parts;
 use shellword::{Pattern, Patterns};
 use std::alloc::{AllocError, Global};
-
-/// Returns whether the pattern matches the whole text.
-fn matches_one(alloc: Global, pattern: &Pattern, text: &[u8]) -> Result<bool, AllocError>
-    ensures { IfOk result (λ b. b ≡ matching pattern.now text.now) }
-{
-    let pieces = pattern.pieces();
-    if has_one_byte(pieces) {
-        return Ok(pattern.matches(text));
-    }
-    let bytes = bytes_of(alloc, pieces)?;
-    Ok(match_parts(pieces, &bytes, text))
-}
 
 fn matches_some(alloc: Global, patterns: &[Pattern], text: &[u8]) -> Result<bool, AllocError>
     ensures { IfOk result (λ b. b ≡ matches_any patterns.now text.now) }
 {
     for pattern in patterns {
-        if matches_one(alloc, pattern, text)? {
+        if match_parts(alloc, pattern.pieces(), text)? {
             return Ok(true);
         }
     }
@@ -34,7 +22,8 @@ fn matches_some(alloc: Global, patterns: &[Pattern], text: &[u8]) -> Result<bool
 /// Returns whether one of the patterns matches the whole text (POSIX shell, 2.9.4.3).
 ///
 /// For each pattern the time is in proportion to the length of the text and that of the pattern, if no piece of the pattern is
-/// `?`. Otherwise it is at worst in proportion to their product.
+/// `?`. Otherwise it is at worst in proportion to the length of the pattern, and to that of the text times the number of parts
+/// between `*` and `?`.
 ///
 /// # Errors
 ///

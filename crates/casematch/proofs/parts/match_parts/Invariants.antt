@@ -2,8 +2,8 @@ use Rattle.std.proofs.Common.{◌-◌, length}
 use Rattle.casematch.proofs.Steps.{Going}
 use Rattle.casematch.proofs.parts.match_parts.Given as goal
 
-abbrev pub invariant-parts : goal.invariant-parts
-invariant-parts l = Going l.pieces l.text l.piece l.at
+abbrev pub invariant-groups : goal.invariant-groups
+invariant-groups l = Going l.pieces l.text l.piece l.at
 
-abbrev pub decreases-parts : goal.decreases-parts
-decreases-parts l = length l.pieces - l.piece
+abbrev pub decreases-groups : goal.decreases-groups
+decreases-groups l = length l.pieces - l.piece
