@@ -1,4 +1,4 @@
-# Moves a package of Debian over to acrun: `acrun port` rewrites its configure.ac, and the patch does what is left to do there and in the
+# Moves a package of Debian over to acrun: `acrun port --idioms` rewrites its configure.ac, and NAME/edits has what is left to do there and in the
 # templates. The result is configured with acrun, and beside it the original and the result with Autoconf. All three have to agree, but for
 # what is named. Then it builds the package with acrun's files and runs its tests.
 #   port.sh PROGRAM NAME LISTS
@@ -14,10 +14,12 @@
 #   others       further outputs, which may not differ
 #   tests        commands that run the package's own tests
 #   tools        commands that the tests need
-# The patch is of configure.ac and templates alone. What is needed: the network, APT with an archive of Debian, patch, make, a C compiler,
-# Autoconf 2.71, and the libraries of the package. If one is missing, or if the machine's archives have the package in another version
-# alone, it says so and ends with 77. It ends with 1 if something is otherwise than it should be.
+# The edits are of configure.ac and templates alone, and have the new lines alone: see apply.sh. What is needed: the network, APT with an
+# archive of Debian, make, a C compiler, Autoconf 2.71, and the libraries of the package. If one is missing, or if the machine's archives
+# have the package in another version alone, it says so and ends with 77. It ends with 1 if something is otherwise than it should be.
 # If ROWS is set in the environment, it prints the package's row of docs/guide.md too.
+# If `acrun port` makes another text than before, the edits don't apply, and are made anew: with PORTED=DIRECTORY in the environment the
+# sources are copied there as `acrun port` left them, and with EDITED=DIRECTORY the edits are first made of the edited files there.
 set -u
 acrun=$(realpath "$1") || exit 2
 here=$(realpath "$(dirname "$0")/$2") || exit 2
@@ -101,7 +103,8 @@ seconds() {
 
 # Prints the package's row of the table: it configures copies of the sources, made before they were configured.
 row() {
-    by_hand=$(grep '^[-+]' "$here/patch" | grep -c -v -E '^(---|\+\+\+|-dnl acrun:) ')
+    by_hand=$(cd "$here/edits" && find . -type f | while IFS= read -r file; do diff "$work/ported/$file" "$work/both/$file"; done |
+        grep '^[<>]' | grep -c -v '^< *dnl acrun: ')
     one=$(seconds "$work/one" acrun -j1 configure)
     four=$(seconds "$work/four" acrun -j4 configure -C)
     cached=$(seconds "$work/four" acrun -j4 configure -C)
@@ -109,7 +112,7 @@ row() {
     echo "| $name | $lines | $by_port | $by_hand | $checks | $one | $four | $cached | $autoconf |"
 }
 
-for tool in apt-get patch make cc ${tools-}; do
+for tool in apt-get make cc ${tools-}; do
     command -v "$tool" > /dev/null || skip "there is no $tool"
 done
 autoconf --version 2> /dev/null | grep -q '^autoconf .* 2\.71$' || skip 'there is no Autoconf 2.71'
@@ -125,10 +128,13 @@ cd "$work/theirs" && rm -f configure && eval "${autoconf-autoconf}" > autoconf.o
 
 cd "$work/ours" || exit 2
 lines=$(wc -l < configure.ac)
-mv configure.ac "$work/original" && acrun port "$work/original" > configure.ac
+mv configure.ac "$work/original" && acrun port --idioms "$work/original" > configure.ac
 [ $? -le 1 ] || wrong 'port fails'
 by_port=$(grep -v '^dnl acrun: ' configure.ac | diff "$work/original" - | grep -c '^[<>]')
-patch -p1 -s < "$here/patch" || { wrong 'the patch does not apply'; exit 1; }
+cp -R . "$work/ported"
+[ -z "${PORTED-}" ] || { mkdir -p "$PORTED" && cp -R . "$PORTED"; }
+[ -z "${EDITED-}" ] || sh "$here/../edits.sh" "$work/ported" "$(realpath "$EDITED")" "$here/edits"
+sh "$here/../apply.sh" "$here/edits" . || { wrong 'the edits do not apply'; exit 1; }
 [ -z "${ROWS-}" ] || { cp -R . "$work/one" && cp -R . "$work/four"; }
 cp -R . "$work/both"
 acrun lint --json . | grep -q '"severity":"error"' && wrong 'lint finds an error'
