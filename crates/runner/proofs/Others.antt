@@ -1,8 +1,9 @@
 -- What is said of a call of one kind, for a call of another kind.
 use Rattle.std.specs.Prelude.{◌≡◌, ◌⊎◌, ℕ, List, length, refl}
 use Rattle.std.proofs.Common.{◌≢◌, ◌≤◌, ◌<◌, ◌∙◌, arith, inr, subst, sym}
-use Rattle.invocation.specs.Calls.{Call, Why, Help, Lint, IfFilter, IfStandIn, IfConfigure, IfStatus, IfRecheck, IfWhy, IfHelp, IfLint}
+use Rattle.invocation.specs.Calls.{Call, Why, Help, Lint, Port, IfFilter, IfStandIn, IfConfigure, IfStatus, IfRecheck, IfWhy, IfHelp, IfLint}
 use Rattle.invocation.specs.Lent.{call_seen}
+use Rattle.runner.specs.Ports.{IfPort}
 use Rattle.invocation.specs.declared.call.Call as lent
 use Rattle.invocation.specs.declared.call.Call.TheVariants as lends
 
@@ -44,3 +45,15 @@ failed_help n P call e = tt
 pub unanswered_why : (n : ℕ) (P : List (List ℕ) → Type 0) (seen : Call) → n ≡ 2 → IfWhy seen (λ words. n ≢ 2 → P words)
 unanswered_why n P (Why words) e = λ ne. absurd (ne e)
 unanswered_why n P call e = tt
+
+pub unanswered_lint : (n : ℕ) (P Q : List (List ℕ) → Type 0) (seen : Call) → n ≡ 2 → IfLint seen (λ words. (P words → n ≡ 2) × (n ≢ 2 → Q words))
+unanswered_lint n P Q (Lint words) e = (λ wrong. e, λ ne. absurd (ne e))
+unanswered_lint n P Q call e = tt
+
+pub failed_port : (n : ℕ) (P : Type 0) (seen : Call) → n ≡ 2 → IfPort seen (λ words. (n ≤ 2) × (n ≢ 2 → P))
+failed_port n P (Port words) e = (omega (arith, e), λ ne. absurd (ne e))
+failed_port n P call e = tt
+
+pub unanswered_port : (n : ℕ) (P Q : List (List ℕ) → Type 0) (seen : Call) → n ≡ 2 → IfPort seen (λ words. (P words → n ≡ 2) × (n ≢ 2 → Q words))
+unanswered_port n P Q (Port words) e = (λ wrong. e, λ ne. absurd (ne e))
+unanswered_port n P Q call e = tt
