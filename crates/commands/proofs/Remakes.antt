@@ -1,6 +1,6 @@
 -- What follows from a call that makes outputs again for the program.
-use Rattle.std.proofs.Common.{◌≡◌, ℕ, ◌+◌, Bool, true, false, List, [], ◌∷◌, ◌++◌, Option, Some, Result, Ok, Err, OnOk, refl, sym, subst, ap, ◌∙◌, arith}
-use Rattle.std.specs.Prelude.{IfSome, codes}
+use Rattle.std.proofs.Common.{◌≡◌, ℕ, ◌+◌, Bool, true, false, List, [], ◌∷◌, ◌++◌, Option, Some, None, Result, Ok, Err, OnOk, refl, sym, subst, ap, ◌∙◌, arith}
+use Rattle.std.specs.Prelude.{IfSome, codes, option_map}
 use Rattle.disk.specs.Known.{Known}
 use Rattle.diskfiles.specs.Done.{IsDoneApart}
 use Rattle.diskfiles.specs.Held.{Held, AreUnguarded, GuardsMore, IsGuarded, IsUnused, receipt_of, closings}
@@ -20,6 +20,7 @@ use Rattle.outputs.specs.Receipt.{Receipt}
 use Rattle.outputs.specs.declared.artifact.Artifact.{Artifact}
 use Rattle.status_record.specs.Reading.{record_in}
 use Rattle.status_record.specs.declared.record.Record.{Record}
+use Rattle.commands.specs.Left.{AreSameFiles}
 use Rattle.commands.specs.MadeAgain.{GuardsAgain, IsMadeAgain, IsRecordFound}
 
 -- A text that was read is handed on.
@@ -62,18 +63,24 @@ remade_of : (text : List ℕ) (recorded : Record) (templates : List (List ℕ ×
 unfolding remade
 remade_of text recorded templates tags is = ap (λ r. named of_record r >>= λ x. again.made_again x templates tags) is
 
+-- No put changes what is under names.
+same_files : (old new : Option Known) → option_map (λ k. k.files) new ≡ option_map (λ k. k.files) old → AreSameFiles old new
+same_files None new kept = tt
+same_files (Some before) None kept = tt
+same_files (Some before) (Some now) kept = cc
+
 -- What a call of `remake_record` made, if it returned a number.
 pub made_again : {D : Type 0} (known : D → Option Known) (d : D) (before now : Held D) (recorded : Record) (templates : List (List ℕ × List ℕ)) (tags : List (List ℕ)) (same : Type 0) (answer : Result ℕ RemakeFault) (n : ℕ) (lines : List ℕ)
     → IsUnused before → IsRecordFound (known d) recorded → AreTemplates (known d) recorded.srcdir (recorded.files ++ recorded.headers) templates
     → IsRemade (again.made_again recorded templates tags) same (receipt_of before) (receipt_of now) answer → answer ≡ Ok n → lines ≡ now.lines → AreLines now.handed lines
     → AreUnguarded now.guards now.handed
     → (now.closed ≡ false → IfSome (known now.disk) (λ k. IsDoneApart k now.guards now.handed now.failures now.lines now.places))
-    → now.guards ≡ before.guards → before.disk ≡ d → AreGuarded (known before.disk) before.guards (codes "config.status" ∷ inputs_of recorded.srcdir templates)
+    → now.guards ≡ before.guards → option_map (λ k. k.files) (known now.disk) ≡ option_map (λ k. k.files) (known before.disk) → before.disk ≡ d → AreGuarded (known before.disk) before.guards (codes "config.status" ∷ inputs_of recorded.srcdir templates)
     → IsMadeAgain (known d) (known now.disk) tags lines
-made_again known d before now recorded templates tags same (Err f) n lines new found given (refused is s) returned shown are free done same_guards disk guarded = absurd (cc)
-made_again known d before now recorded templates tags same (Err f) n lines new found given (memory s) returned shown are free done same_guards disk guarded = absurd (cc)
-made_again known d before now recorded templates tags same (Err f) n lines new found given (cut is at) returned shown are free done same_guards disk guarded = absurd (cc)
-made_again known d before now recorded templates tags same (Ok m) n lines new found given (all {artifacts = made} is handed) returned shown are free done same_guards disk guarded =
+made_again known d before now recorded templates tags same (Err f) n lines new found given (refused is s) returned shown are free done same_guards same_names disk guarded = absurd (cc)
+made_again known d before now recorded templates tags same (Err f) n lines new found given (memory s) returned shown are free done same_guards same_names disk guarded = absurd (cc)
+made_again known d before now recorded templates tags same (Err f) n lines new found given (cut is at) returned shown are free done same_guards same_names disk guarded = absurd (cc)
+made_again known d before now recorded templates tags same (Ok m) n lines new found given (all {artifacts = made} is handed) returned shown are free done same_guards same_names disk guarded =
     let empty : receipt_of before ≡ record { handed = []; failures = 0 } = unused_receipt before new in
     let made_all : now.handed ≡ made = ap (λ (r : Receipt). r.handed) handed ∙ ap (λ (r : Receipt). r.handed ++ made) empty in
     let counted : now.failures + closings now.closed ≡ 0 = ap (λ (r : Receipt). r.failures) handed ∙ ap (λ (r : Receipt). r.failures) empty in
@@ -89,6 +96,7 @@ made_again known d before now recorded templates tags same (Ok m) n lines new fo
       guards = before.guards;
       guarded = subst (λ r. GuardsAgain (known d) before.guards r templates) (sym found.is) (guarded_before known d before.disk before.guards (codes "config.status" ∷ inputs_of recorded.srcdir templates) disk guarded);
       unguarded = unguarded_too now.guards before.guards now.handed made same_guards made_all free;
+      same = same_files (known d) (known now.disk) (same_names ∙ ap (λ x. option_map (λ k. k.files) (known x)) disk);
       places = now.places;
       written = done_apart (known now.disk) now.guards before.guards now.handed made now.failures now.lines lines now.places same_guards made_all none.0 (sym shown) (done none.1);
     }

@@ -1,5 +1,5 @@
 -- What a run leaves in files.
-use Rattle.std.specs.Prelude.{◌≡◌, ℕ, List, ◌++◌, Option, codes}
+use Rattle.std.specs.Prelude.{◌≡◌, ℕ, List, ◌++◌, Option, IfSome, codes}
 use Rattle.cfglog.specs.Texts.{log_of}
 use Rattle.disk.specs.Known.{Known, Deed}
 use Rattle.diskfiles.specs.Done.{AreDone}
@@ -10,6 +10,11 @@ use Rattle.diskfiles.specs.declared.places.Place.{Place}
 use Rattle.framing.specs.declared.report.Report.{Report}
 use Rattle.invocation.specs.Logged.{IsHeld, HasLogged}
 use Rattle.outputs.specs.declared.artifact.Artifact.{Artifact}
+
+-- If files are known before and after, what is under their names is the same function of what was done
+-- to them. (own)
+abbrev pub AreSameFiles : Option Known → Option Known → Type 0
+AreSameFiles old new = IfSome old (λ before. IfSome new (λ now. now.files ≡ before.files))
 
 -- All that was done to files is what was done for these artifacts, none of which was refused, with
 -- these lines, while these names were guarded; and then the log was written, with this text. (own)

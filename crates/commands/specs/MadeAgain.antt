@@ -1,5 +1,6 @@
 -- What the program does if it is asked to make the outputs of a record again.
 use Rattle.std.specs.Prelude.{◌≡◌, ℕ, List, ◌∷◌, Option, Some, Result, Ok, Err, IfSome, codes}
+use Rattle.commands.specs.Left.{AreSameFiles}
 use Rattle.disk.specs.Known.{Known}
 use Rattle.diskfiles.specs.Done.{IsDoneApart}
 use Rattle.diskfiles.specs.Held.{AreUnguarded}
@@ -41,5 +42,6 @@ pub record IsMadeAgain (old new : Option Known) (tags : List (List ℕ)) (out : 
   pub guards : List Guard
   pub guarded : GuardsAgain old guards (record_in text) templates
   pub unguarded : AreUnguarded guards made
+  pub same : AreSameFiles old new
   pub places : List Place
   pub written : IfSome new (λ k. IsDoneApart k guards made 0 out places)

@@ -1,14 +1,14 @@
 -- What follows from a whole run for the program.
 use Rattle.std.proofs.Common.{◌≡◌, ℕ, ◌+◌, true, false, List, [], ◌++◌, Option, Some, None, Result, Ok, Err, refl, sym, subst, ap, ◌∙◌}
-use Rattle.std.specs.Prelude.{IfOk, IfSome, codes}
+use Rattle.std.specs.Prelude.{IfOk, IfSome, codes, option_map}
 use Rattle.std.proofs.lemmas.List.{append-nil}
 use Rattle.acparse.specs.Profile.{source_of}
 use Rattle.crew_trait.specs.Events.{Account}
 use Rattle.cfglog.specs.Texts.{log_of}
 use Rattle.commandline.specs.Srcdir.{srcdir_of}
-use Rattle.commands.specs.Left.{IsLeft, Logs}
+use Rattle.commands.specs.Left.{AreSameFiles, IsLeft, Logs}
 use Rattle.commands.proofs.Remakes.{done_apart, guarded_before, nothing_refused, unguarded_too}
-use Rattle.disk.specs.Known.{Known, Does}
+use Rattle.disk.specs.Known.{Known, Deed, Does}
 use Rattle.diskfiles.specs.Done.{IsDoneApart}
 use Rattle.diskfiles.specs.Held.{Held, AreUnguarded, IsUnused, receipt_of, closings}
 use Rattle.diskfiles.proofs.Unused.{unused_receipt}
@@ -17,8 +17,10 @@ use Rattle.diskfiles.specs.Steps.{IsReplaced}
 use Rattle.diskfiles.specs.declared.places.Guard.{Guard}
 use Rattle.diskfiles.specs.declared.places.Place.{Place}
 use Rattle.engine.specs.Configured.{IsAnswer, IfStarts, IfReport, IsMeant, artifacts}
+use Rattle.engine.specs.Remaking.{Remakes}
 use Rattle.framing.specs.Faults.{◌>>=◌}
 use Rattle.framing.specs.Given.{Accepted, Starts, shows, started}
+use Rattle.framing.specs.Handing.{IfCompleted}
 use Rattle.framing.specs.Judging.{RunsBelow, judgement, seen}
 use Rattle.framing.specs.Needed.{Needed, script_in}
 use Rattle.framing.specs.Shown.{shown_report, shown_text}
@@ -87,19 +89,29 @@ left_by (Some old) None guards artifacts lines log places done logged = tt
 left_by (Some old) (Some new) guards artifacts lines log places done logged =
     subst (λ k. IsLeft k guards artifacts lines log) (sym logged.1) (record { places = places; before = old.deeds; logged = logged.0; deeds = refl; done = done; written = logged.2 })
 
+-- What is under names is as it was: no put changes that, nor does the log.
+same_by : (old mid fin : Option Known) (P : Known → List Deed → Type 0) → option_map (λ k. k.files) mid ≡ option_map (λ k. k.files) old → Does mid fin P → AreSameFiles old fin
+same_by None mid fin P kept logged = tt
+same_by (Some old) mid None P kept logged = tt
+same_by (Some old) None (Some new) P kept logged = absurd logged
+same_by (Some old) (Some mid) (Some new) P kept logged =
+    let files : mid.files ≡ old.files = cc in
+    ap (λ k. k.files) logged.1 ∙ files
+
 abbrev going_by : Script → Result Start Fault → Result Accepted Fault
 going_by script r = r >>= λ start. Ok (Starts script start)
 
 -- What holds after a call of `go` over a receiver `before`, which is `mid` then, and `fin` after the
 -- log was written.
 end_of : {D : Type 0} (known : D → Option Known) (d : D) (before_puts mid fin : Held D) (r : Result Start Fault) (window : ℕ) (a : List (List ℕ)) (script : Script) (settings : Settings) (c : Option (List ℕ)) (t : List (List ℕ × List ℕ)) (before now : Account) (report : Report)
-    → IsUnused before_puts → before_puts.disk ≡ d → AreGuarded (known before_puts.disk) before_puts.guards (inputs_of settings.srcdir t) → mid.guards ≡ before_puts.guards → AreGiven (known d) script settings.cache_name settings.srcdir settings.no_create c t
+    → IsUnused before_puts → before_puts.disk ≡ d → AreGuarded (known before_puts.disk) before_puts.guards (inputs_of settings.srcdir t) → mid.guards ≡ before_puts.guards → option_map (λ k. k.files) (known mid.disk) ≡ option_map (λ k. k.files) (known before_puts.disk) → AreGiven (known d) script settings.cache_name settings.srcdir settings.no_create c t
     → started a c t script settings ≡ r → IsAnswer (going_by script r) (Ok report) → IfStarts (going_by script r) (λ script start. IsMeant window script start before now report)
-    → IfStarts (going_by script r) (λ script start. receipt_of mid ≡ with_artifacts (receipt_of before_puts) (artifacts script start t report)) → Logs known mid fin report
+    → IfStarts (going_by script r) (λ script start. receipt_of mid ≡ with_artifacts (receipt_of before_puts) (artifacts script start t report))
+    → IfStarts (going_by script r) (λ script start. IfCompleted report.outcome (Remakes script start t report)) → Logs known mid fin report
     → IsRun window a script settings before now (known d) (known fin.disk) (printed settings.quiet report.messages mid.lines) (errors_of report.messages) (status_of report.outcome)
-end_of known d before_puts mid fin (Err OutOfMemory) window a script settings c t before now report new disk guarded same_guards given is answer meant handed logs = absurd (cc)
-end_of known d before_puts mid fin (Err f) window a script settings c t before now report new disk guarded same_guards given is answer meant handed logs = absurd (cc)
-end_of known d before_puts mid fin (Ok start) window a script settings c t before now report new disk guarded same_guards given is answer meant handed logs =
+end_of known d before_puts mid fin (Err OutOfMemory) window a script settings c t before now report new disk guarded same_guards same_files given is answer meant handed again logs = absurd (cc)
+end_of known d before_puts mid fin (Err f) window a script settings c t before now report new disk guarded same_guards same_files given is answer meant handed again logs = absurd (cc)
+end_of known d before_puts mid fin (Ok start) window a script settings c t before now report new disk guarded same_guards same_files given is answer meant handed again logs =
     let empty : receipt_of before_puts ≡ record { handed = []; failures = 0 } = unused_receipt before_puts new in
     let all : mid.handed ≡ artifacts script start t report = ap (λ (r : Receipt). r.handed) handed ∙ ap (λ (r : Receipt). r.handed ++ artifacts script start t report) empty in
     let counted : mid.failures + closings mid.closed ≡ 0 = ap (λ (r : Receipt). r.failures) handed ∙ ap (λ (r : Receipt). r.failures) empty in
@@ -117,7 +129,10 @@ end_of known d before_puts mid fin (Ok start) window a script settings c t befor
       are_lines = subst (λ l. AreLines l mid.lines) all logs.held.lines;
       guards = before_puts.guards;
       guarded = guarded_before known d before_puts.disk before_puts.guards (inputs_of settings.srcdir t) disk guarded;
+      remakes = again;
       unguarded = unguarded_too mid.guards before_puts.guards mid.handed (artifacts script start t report) same_guards all logs.held.unguarded;
+      same = same_by (known d) (known mid.disk) (known fin.disk) (λ k more. IsReplaced k (codes "config.log") (log_of report.log) more)
+          (same_files ∙ ap (λ x. option_map (λ k. k.files) (known x)) disk) logs.log;
       left = left_by (known mid.disk) (known fin.disk) before_puts.guards (artifacts script start t report) mid.lines (log_of report.log) mid.places done logs.log;
       prints = refl;
       says = refl;
@@ -126,15 +141,17 @@ end_of known d before_puts mid fin (Ok start) window a script settings c t befor
 
 -- The same after a call of `go` that returned this report.
 pub run_done : {D : Type 0} (known : D → Option Known) (d : D) (before_puts mid fin : Held D) (window : ℕ) (a : List (List ℕ)) (script : Script) (settings : Settings) (c : Option (List ℕ)) (t : List (List ℕ × List ℕ)) (before now : Account) (answer : Result Report Fault) (report : Report) (quiet : Settings) (status : ℕ)
-    → IsUnused before_puts → before_puts.disk ≡ d → AreGuarded (known before_puts.disk) before_puts.guards (inputs_of settings.srcdir t) → mid.guards ≡ before_puts.guards → AreGiven (known d) script settings.cache_name settings.srcdir settings.no_create c t
+    → IsUnused before_puts → before_puts.disk ≡ d → AreGuarded (known before_puts.disk) before_puts.guards (inputs_of settings.srcdir t) → mid.guards ≡ before_puts.guards → option_map (λ k. k.files) (known mid.disk) ≡ option_map (λ k. k.files) (known before_puts.disk) → AreGiven (known d) script settings.cache_name settings.srcdir settings.no_create c t
     → IsAnswer (going_by script (started a c t script settings)) answer → IfStarts (going_by script (started a c t script settings)) (λ script start. IfReport answer (IsMeant window script start before now))
     → IfStarts (going_by script (started a c t script settings)) (λ script start. IfOk answer (λ report. receipt_of mid ≡ with_artifacts (receipt_of before_puts) (artifacts script start t report)))
+    → IfStarts (going_by script (started a c t script settings)) (λ script start. IfReport answer (λ report. IfCompleted report.outcome (Remakes script start t report)))
     → quiet ≡ settings → answer ≡ Ok report → status ≡ status_of report.outcome → Logs known mid fin report
     → IsRun window a script settings before now (known d) (known fin.disk) (printed quiet.quiet report.messages mid.lines) (errors_of report.messages) status
-run_done known d before_puts mid fin window a script settings c t before now answer report quiet status new disk guarded same_guards given accepted meant handed same is status_is logs =
+run_done known d before_puts mid fin window a script settings c t before now answer report quiet status new disk guarded same_guards same_files given accepted meant handed again same is status_is logs =
     let r = started a c t script settings in
-    let done = end_of known d before_puts mid fin r window a script settings c t before now report new disk guarded same_guards given refl (subst (IsAnswer (going_by script r)) is accepted)
+    let done = end_of known d before_puts mid fin r window a script settings c t before now report new disk guarded same_guards same_files given refl (subst (IsAnswer (going_by script r)) is accepted)
     (subst (λ x. IfStarts (going_by script r) (λ script start. IfReport x (IsMeant window script start before now))) is meant)
-    (subst (λ x. IfStarts (going_by script r) (λ script start. IfOk x (λ report. receipt_of mid ≡ with_artifacts (receipt_of before_puts) (artifacts script start t report)))) is handed) logs in
+    (subst (λ x. IfStarts (going_by script r) (λ script start. IfOk x (λ report. receipt_of mid ≡ with_artifacts (receipt_of before_puts) (artifacts script start t report)))) is handed)
+    (subst (λ x. IfStarts (going_by script r) (λ script start. IfReport x (λ report. IfCompleted report.outcome (Remakes script start t report)))) is again) logs in
     subst (λ n. IsRun window a script settings before now (known d) (known fin.disk) (printed quiet.quiet report.messages mid.lines) (errors_of report.messages) n) (sym status_is)
     (subst (λ (q : Settings). IsRun window a script settings before now (known d) (known fin.disk) (printed q.quiet report.messages mid.lines) (errors_of report.messages) (status_of report.outcome)) (sym same) done)

@@ -3,7 +3,7 @@ use Rattle.std.specs.Prelude.{◌≡◌, ℕ, true, false, List, [], Option, Som
 use Rattle.acparse.specs.Profile.{source_of}
 use Rattle.cfglog.specs.Texts.{log_of}
 use Rattle.commandline.specs.Srcdir.{srcdir_of}
-use Rattle.commands.specs.Left.{IsLeft}
+use Rattle.commands.specs.Left.{AreSameFiles, IsLeft}
 use Rattle.commands.specs.Printed.{printed}
 use Rattle.crew_trait.specs.Events.{Account}
 use Rattle.disk.specs.Known.{Known}
@@ -11,7 +11,9 @@ use Rattle.diskfiles.specs.Held.{AreUnguarded}
 use Rattle.diskfiles.specs.Lines.{AreLines}
 use Rattle.diskfiles.specs.declared.places.Guard.{Guard}
 use Rattle.engine.specs.Configured.{IsMeant, artifacts}
+use Rattle.engine.specs.Remaking.{Remakes}
 use Rattle.framing.specs.Given.{asked, shows, started}
+use Rattle.framing.specs.Handing.{IfCompleted}
 use Rattle.framing.specs.Rechecked as again
 use Rattle.framing.specs.Shown.{shown_text}
 use Rattle.framing.specs.declared.starting.Start.{Start}
@@ -38,8 +40,9 @@ pub record IsAsked (arguments : List (List ℕ)) (environment : List (List ℕ �
 -- The statements are run with these settings, with the cache and the templates as they are in
 -- files. The crew made the run in this way. What it hands over and its log are written, and nothing
 -- else is done to files. The log, the source and the templates are guarded: nothing that it hands over
--- has one of their names, and none is written at one of their places. This is printed on standard
--- output, these messages are for standard error, and this is the exit status. (own)
+-- has one of their names, and none is written at one of their places. The record of a completed run
+-- gives its outputs again. This is printed on standard output, these messages are for standard error,
+-- and this is the exit status. (own)
 pub record IsRun (window : ℕ) (arguments : List (List ℕ)) (script : Script) (settings : Settings) (before now : Account) (old new : Option Known) (out : List ℕ) (said : List (List ℕ)) (status : ℕ) : Type 0 where
   pub cache : Option (List ℕ)
   pub templates : List (List ℕ × List ℕ)
@@ -53,6 +56,8 @@ pub record IsRun (window : ℕ) (arguments : List (List ℕ)) (script : Script) 
   pub guards : List Guard
   pub guarded : AreGuarded old guards (inputs_of settings.srcdir templates)
   pub unguarded : AreUnguarded guards (artifacts script start templates report)
+  pub remakes : IfCompleted report.outcome (Remakes script start templates report)
+  pub same : AreSameFiles old new
   pub left : IfSome new (λ k. IsLeft k guards (artifacts script start templates report) lines (log_of report.log))
   pub prints : out ≡ printed settings.quiet report.messages lines
   pub says : said ≡ errors_of report.messages

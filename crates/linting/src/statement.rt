@@ -15,6 +15,8 @@ struct Walk {
     place: Place,
     /// The number of brackets that are open.
     depth: usize,
+    /// Whether the next byte is in a comment of m4, in which brackets don't quote.
+    is_comment: bool,
     /// Whether the last byte is a backslash that quotes the next one.
     escaped: bool,
     /// The number of bytes of the text's value so far, without its line continuations.
@@ -32,7 +34,7 @@ fn ends_statement(place: Place, byte: u8) -> bool {
     }
 }
 
-/// Returns the walk after the byte at index `i`, which is no bracket that is dropped.
+/// Returns the walk after the byte at index `i`, which no backslash quotes.
 fn kept_step(walk: Walk, i: usize, byte: u8) -> Walk {
     let place = walk.place;
     if byte == b'\\' && escapes(place) {
@@ -70,31 +72,42 @@ fn escaped_step(walk: Walk, byte: u8) -> Walk {
     }
 }
 
-/// Returns the walk after an opening or closing bracket. Those of the outermost quotes are no part of the value.
-fn bracket_step(walk: Walk, i: usize, byte: u8) -> Walk {
-    let inner = byte == b'[' && walk.depth > 0 || byte == b']' && walk.depth > 1;
-    let depth = if byte == b'[' {
-        walk.depth.saturating_add(1)
-    } else {
-        walk.depth.saturating_sub(1)
+/// Returns whether a byte is a bracket of the outermost quotes, which are no part of the value.
+fn is_outer_bracket(walk: Walk, byte: u8) -> bool {
+    !walk.is_comment && (byte == b'[' && walk.depth == 0 || byte == b']' && walk.depth == 1)
+}
+
+/// Returns the walk after m4 has read a byte: brackets quote, and a `#` outside quotes begins a comment.
+fn quoted_step(walk: Walk, byte: u8) -> Walk {
+    if walk.is_comment {
+        return Walk {
+            is_comment: byte != b'\n',
+            ..walk
+        };
+    }
+    let depth = match byte {
+        b'[' => walk.depth.saturating_add(1),
+        b']' => walk.depth.saturating_sub(1),
+        _ => walk.depth,
     };
-    let walk = Walk { depth, ..walk };
-    if inner {
-        kept_step(walk, i, byte)
-    } else {
-        walk
+    Walk {
+        depth,
+        is_comment: byte == b'#' && walk.depth == 0,
+        ..walk
     }
 }
 
 /// Returns the walk after the byte at index `i`.
 fn step(walk: Walk, i: usize, byte: u8) -> Walk {
-    if walk.escaped {
-        return escaped_step(walk, byte);
+    let is_dropped = is_outer_bracket(walk, byte);
+    let walk = quoted_step(walk, byte);
+    if is_dropped {
+        walk
+    } else if walk.escaped {
+        escaped_step(walk, byte)
+    } else {
+        kept_step(walk, i, byte)
     }
-    if matches!(byte, b'[' | b']') && !matches!(walk.place, Place::Comment) {
-        return bracket_step(walk, i, byte);
-    }
-    kept_step(walk, i, byte)
 }
 
 /// Returns the number of blanks at the front.
@@ -111,6 +124,7 @@ fn statement_start(piece: &[u8], offset: usize) -> usize
     let mut walk = Walk {
         place: Place::Start,
         depth: 0,
+        is_comment: false,
         escaped: false,
         kept: 0,
         start: 0,

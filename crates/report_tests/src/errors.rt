@@ -53,6 +53,8 @@ AC_INIT([a], [1])^Jx=1^J# y^Jif z; then^Jfi^JAC_OUTPUT =>  parse-3 26[if z; then
 AC_INIT([a], [1])^Jx='if;^J'; a=1 && b=2^JAC_OUTPUT =>  parse-3 28[a=1 && b=2]
 AC_INIT([a], [1])^Jx=1\^J; y=`z` w=1^JAC_OUTPUT =>  parse-6.1 25[y=`z` w=1]
 AC_INIT([a], [1])^Jx=[1;] y=2^J foo^JAC_OUTPUT =>  parse-3 30[foo]
+// brackets in a comment of m4 don't quote
+AC_INIT([a], [1])^Jx='#[][]'; y; c=1^JAC_OUTPUT =>  parse-3 29[y; c=1]
 AC_INIT([a], [1])^JAS_IF([test x = y], [x=1^J  foo])^JAC_OUTPUT =>  parse-3 45[foo]
 AC_INIT([a], [1])^JAC_SUBST([x], [a b; `c`])^JAC_OUTPUT =>  parse-6.1 32[[a b; `c`]]
 "##;

@@ -98,10 +98,36 @@ fn bare_end(text: &[u8], calls: &[CallAt], place: usize) -> usize {
     end
 }
 
+/// Returns where the text between calls that has the place begins: after the last call, or at the start of the argument.
+fn bare_start(text: &[u8], calls: &[CallAt], place: usize) -> usize {
+    let mut start = 0;
+    for call in calls {
+        if call.end <= place {
+            start = start.max(call.end);
+        }
+        for arg in &call.args {
+            if holds(arg, place) {
+                start = start.max(inner_start(text, arg).min(place));
+            }
+        }
+    }
+    start
+}
+
+/// Returns what is open at the end of text between calls, where a statement of the shell begins.
+fn scan_after(text: &[u8]) -> Scan {
+    let mut scan = Scan::new();
+    for i in 0..text.len() {
+        scan.read(text[i], &text[i..]);
+    }
+    scan.begin_statement();
+    scan
+}
+
 /// Returns the length of the shell statement that a text begins with, up to the newline after it, a comment, or the end. If a quote
 /// isn't closed, returns the length of the first line.
-fn statement_len(text: &[u8]) -> usize {
-    let mut scan = Scan::new();
+fn statement_len(before: Scan, text: &[u8]) -> usize {
+    let mut scan = before;
     for i in 0..text.len() {
         if scan.ends_before(text[i], &text[i..]) {
             return i;
@@ -129,8 +155,8 @@ fn put_blank(text: &mut [u8], at: usize) {
 
 /// Writes a space for each byte of a statement between two offsets, but for newlines, brackets that quote, and lines from `dnl` on.
 /// Returns whether that changed anything.
-fn blank_statement(text: &mut [u8], start: usize, end: usize) -> bool {
-    let mut scan = Scan::new();
+fn blank_statement(before: Scan, text: &mut [u8], start: usize, end: usize) -> bool {
+    let mut scan = before;
     let mut has_changed = false;
     for i in start..end.min(text.len()) {
         let rest = from(text, i);
@@ -149,6 +175,7 @@ fn blank_statement(text: &mut [u8], start: usize, end: usize) -> bool {
 /// Blanks the statement between calls that begins at the place. Returns whether that changed anything.
 pub(crate) fn blank_bare(text: &mut [u8], calls: &[CallAt], place: usize) -> bool {
     let end = bare_end(text, calls, place);
-    let len = statement_len(part(text, place, end));
-    blank_statement(text, place, place.saturating_add(len.max(1)))
+    let before = scan_after(part(text, bare_start(text, calls, place), place));
+    let len = statement_len(before, part(text, place, end));
+    blank_statement(before, text, place, place.saturating_add(len.max(1)))
 }

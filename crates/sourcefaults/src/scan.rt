@@ -46,6 +46,15 @@ impl Scan {
         self.is_name = false;
     }
 
+    /// Goes on at the start of a statement of the shell. What m4 has read stays so.
+    pub(crate) fn begin_statement(&mut self) {
+        self.quote = 0;
+        self.is_escaped = false;
+        self.is_word = false;
+        self.is_name = false;
+        self.is_skipped = false;
+    }
+
     /// Returns the number of brackets that are open.
     pub fn depth(&self) -> usize {
         self.depth

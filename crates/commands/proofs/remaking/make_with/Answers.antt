@@ -16,6 +16,6 @@ returns-then-is_whole-clause-status g c = λ other.
       c.lines-lines.result.now,
       made_again g.D.Disk.known d c.keep_all.new.outputs c.remake_record-answer.new.outputs c.args.recorded.now _ c.args.why.now.args.now _ _ whole.0 c.lines-lines.result.now
           (more_unused _ _ (fresh_unused _ _ c.requires.fresh) c.keep_all.ensures.more) c.requires.found c.requires.given c.remake_record-answer.ensures.remade whole.1 c.lines-lines.ensures.value c.lines-lines.ensures.lines
-          c.lines-lines.ensures.unguarded c.lines-lines.ensures.apart (ap (λ l. l.guards) c.remake_record-answer.ensures.lasting) (ap (λ o. o.disk) c.keep_all.ensures.more.1) guarded,
+          c.lines-lines.ensures.unguarded c.lines-lines.ensures.apart (ap (λ l. l.guards) c.remake_record-answer.ensures.lasting) (ap (λ l. l.files) c.remake_record-answer.ensures.lasting) (ap (λ o. o.disk) c.keep_all.ensures.more.1) guarded,
       c.print_made-is_printed.ensures.prints c.if-is_printed.true,
     )

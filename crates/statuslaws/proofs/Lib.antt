@@ -1,0 +1,2 @@
+mod Lookups
+mod Agains
