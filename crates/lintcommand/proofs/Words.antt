@@ -18,7 +18,7 @@ pub source_next : {files : Option Known} {words : List (List ℕ)} {worst : ℕ}
     → AreLinted files (words ++ word ∷ []) (max worst next)
 source_next word next e l no_word = as_worst (max next 0) (max 0 next) (omega arith) (a_source next e l no_word)
 source_next word next e l (an_option f rest) = an_option f (source_next word next e l rest)
-source_next {files} {word0 ∷ words} {.(max status worst)} word next e l (a_source {word0} {words} {worst} status f k rest) =
+source_next word next e l (a_source {first} {words} {worst} status f k rest) =
     as_worst (max status (max worst next)) (max (max status worst) next) (omega arith) (a_source status f k (source_next word next e l rest))
 
 pub has_page : {A E : Type 0} (files : Option Known) (word : List ℕ) (found : Result (Option (A × ℕ)) E) (status : ℕ) → IfOk found (λ o. IfSome o (λ r. IsLinted files word r.1)) → HasStatus found status
