@@ -1,0 +1,3 @@
+mod Missing
+mod Paths
+mod Words
