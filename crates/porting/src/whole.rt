@@ -102,8 +102,8 @@ fn port_refused(alloc: Global, text: &[u8]) -> Result<Option<Ported>, AllocError
 /// Returns a source in which each call that has an exact idiom is replaced by it, and each statement of a shell by the call that means
 /// the same. What is still an error has a comment above it. Returns `None` if the source's quotes have an error, because then no call is found.
 pub fn port(alloc: Global, text: &[u8]) -> Result<Option<Ported>, AllocError>
-    // Calls that have to go may be replaced, and an `if` by AS_IF with its parts. All else is copied. There are comments exactly if what is left is not accepted; they are
-    // lines before lines of the text.
+    // Calls that have to go may be replaced, an `if` by AS_IF with its parts, and a `case` by AS_CASE. All else is copied. There are
+    // comments exactly if what is left is not accepted; they are lines before lines of the text.
     ensures ported { IfOk result (λ o. IfSome o (λ p. specs.IsPorted text.now p.has_comments p.text)) }
     // A source that acrun accepts stays as it is.
     ensures stays { IsAccepted text.now → IfOk result (λ o. MatchOption o ⊥ (λ p. (p.text ≡ text.now) × (p.has_comments ≡ false))) }

@@ -4,15 +4,15 @@ ghost use Rattle.std.specs.Prelude.{◌≡◌, ◌≤◌, ◌+◌, [], ◌∷◌
 ghost use Rattle.std.specs.List.{list_any};
 ghost use Rattle.m4quote.specs.Entry.{bare, view, views};
 ghost use Rattle.m4quote.specs.Spelling.{IsSpelling};
-ghost use Rattle.shellforms.specs.Places as places;
-ghost use Rattle.shellforms.specs.Ifs as specs;
+ghost use Rattle.shellcompounds.specs.Ifs as ifs;
+ghost use Rattle.shellcompounds.specs.Parts as specs;
 
 use crate::places::{after_spaces, are_blank, are_spaces, before_spaces, is_blank};
 use m4quote::{Item, QuoteFault, read_items};
 use std::alloc::{AllocError, Global};
 
 /// Returns whether the text has a `#`.
-fn has_hash(text: &[u8]) -> bool
+pub(crate) fn has_hash(text: &[u8]) -> bool
     ensures { result ≡ list_any specs.is_hash text.now }
 {
     text.iter().any(|byte| *byte == b'#')
@@ -91,9 +91,19 @@ fn are_bare(items: &[Item<'_>], text: &[u8]) -> bool
     items.len() == 1 && is_bare(&items[0], text)
 }
 
+/// Returns whether the text is on one line and has no `#`, and m4 finds neither a macro nor `dnl` in it.
+pub(crate) fn is_plain_line(alloc: Global, text: &[u8]) -> Result<bool, AllocError>
+    ensures { IfOk result (λ b. IsTrue b → specs.IsPlainLine text.now) }
+{
+    if has_newline(text) || has_hash(text) {
+        return Ok(false);
+    }
+    is_plain(alloc, text)
+}
+
 /// Returns whether between two offsets, which are within two others, is a condition, apart from what m4 finds in it.
 fn is_condition(text: &[u8], start: usize, end: usize, from: usize, to: usize) -> bool
-    ensures { IsTrue result → specs.IsConditionAt text.now start end from to × (end ≤ length text.now) }
+    ensures { IsTrue result → ifs.IsConditionAt text.now start end from to × (end ≤ length text.now) }
 {
     start < from
         && from <= to
@@ -106,7 +116,7 @@ fn is_condition(text: &[u8], start: usize, end: usize, from: usize, to: usize) -
 }
 
 /// Returns the offset after the blanks at an offset.
-fn after_blanks(text: &[u8], at: usize) -> usize {
+pub(crate) fn after_blanks(text: &[u8], at: usize) -> usize {
     for i in at..text.len() {
         if !is_blank(text[i]) {
             return i;
@@ -116,7 +126,7 @@ fn after_blanks(text: &[u8], at: usize) -> usize {
 }
 
 /// Returns the offset of the blanks before an offset, but none before `start`.
-fn before_blanks(text: &[u8], start: usize, at: usize) -> usize {
+pub(crate) fn before_blanks(text: &[u8], start: usize, at: usize) -> usize {
     for i in (start..at.min(text.len())).rev() {
         if !is_blank(text[i]) {
             return i.saturating_add(1);
@@ -142,7 +152,7 @@ pub(crate) fn condition<'a>(
     start: usize,
     end: usize,
 ) -> Result<Option<&'a [u8]>, AllocError>
-    ensures { IfOk result (λ o. IfSome o (λ c. specs.IsCondition text.now start end c.now × (end ≤ length text.now))) }
+    ensures { IfOk result (λ o. IfSome o (λ c. ifs.IsCondition text.now start end c.now × (end ≤ length text.now))) }
 {
     let from = after_blanks(text, start);
     let to = condition_end(text, from, end);
@@ -167,7 +177,7 @@ fn is_dnl_at(text: &[u8], at: usize) -> bool
 }
 
 /// Returns whether the text has `dnl` at some place.
-fn has_dnl(text: &[u8]) -> bool
+pub(crate) fn has_dnl(text: &[u8]) -> bool
     ensures { result ≡ false → specs.HasDnl text.now → ⊥ }
 {
     for i in 0..text.len() {
@@ -191,7 +201,7 @@ fn is_line_start(text: &[u8], start: usize, newline: usize, end: usize) -> bool
 }
 
 /// Returns whether a body between two offsets ends in the newline of its last line.
-fn ends_in_line(text: &[u8], start: usize, end: usize) -> bool
+pub(crate) fn ends_in_line(text: &[u8], start: usize, end: usize) -> bool
     ensures { IsTrue result → specs.IsAtLineStart text.now start end }
 {
     let newline = before_spaces(text, start, end).saturating_sub(1);
@@ -199,7 +209,7 @@ fn ends_in_line(text: &[u8], start: usize, end: usize) -> bool
 }
 
 /// Returns whether a `;` is after a body between two offsets, which has neither a `#` nor `dnl`, before a third one.
-fn ends_in_semicolon(text: &[u8], from: usize, to: usize, end: usize) -> bool
+pub(crate) fn ends_in_semicolon(text: &[u8], from: usize, to: usize, end: usize) -> bool
     ensures { IsTrue result → specs.IsBeforeSemicolon text.now from to end }
 {
     from <= to
@@ -211,14 +221,14 @@ fn ends_in_semicolon(text: &[u8], from: usize, to: usize, end: usize) -> bool
 }
 
 /// Returns the offset of the `;` and of the spaces around it that are before an offset, but not before `start`.
-fn semicolon_start(text: &[u8], start: usize, end: usize) -> usize {
+pub(crate) fn semicolon_start(text: &[u8], start: usize, end: usize) -> usize {
     let to = before_spaces(text, start, end).saturating_sub(1).max(start);
     before_spaces(text, start, to)
 }
 
 /// Returns whether a body is between two offsets, which are within two others.
 fn is_body(text: &[u8], start: usize, end: usize, from: usize, to: usize) -> bool
-    ensures { IsTrue result → specs.IsBodyAt text.now start end from to × (end ≤ length text.now) }
+    ensures { IsTrue result → ifs.IsBodyAt text.now start end from to × (end ≤ length text.now) }
 {
     start <= from
         && from <= to
@@ -232,7 +242,7 @@ fn is_body(text: &[u8], start: usize, end: usize, from: usize, to: usize) -> boo
 
 /// Returns the body between two offsets, if there is one.
 pub(crate) fn body(text: &[u8], start: usize, end: usize) -> Option<&[u8]>
-    ensures { IfSome result (λ b. specs.IsBody text.now start end b.now × (end ≤ length text.now)) }
+    ensures { IfSome result (λ b. ifs.IsBody text.now start end b.now × (end ≤ length text.now)) }
 {
     let from = after_spaces(text, start);
     let to = if ends_in_line(text, from, end) {

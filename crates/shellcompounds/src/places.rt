@@ -2,7 +2,8 @@
 
 ghost use Rattle.std.specs.Prelude.{◌≡◌, ◌⊎◌, ◌-◌, ◌<◌, true, false, length, slice_index, codes, IsTrue};
 ghost use Rattle.std.specs.List.{list_all};
-ghost use Rattle.shellforms.specs.Places as specs;
+ghost use Rattle.shellcompounds.specs.Parts.{IsStatement};
+ghost use Rattle.shellcompounds.specs.Places as specs;
 
 /// Returns whether the byte is a space, a tab or a carriage return.
 pub(crate) fn is_space(byte: u8) -> bool
@@ -92,7 +93,7 @@ fn is_list_start(text: &[u8], at: usize) -> bool
 }
 
 /// Returns whether a statement may begin at an offset, or before the spaces before it.
-pub(crate) fn begins_statement(text: &[u8], start: usize) -> bool
+fn begins_statement(text: &[u8], start: usize) -> bool
     ensures { IsTrue result → specs.BeginsStatement text.now start }
 {
     let from = before_spaces(text, 0, start);
@@ -127,7 +128,7 @@ fn is_comment(text: &[u8], at: usize) -> bool
 }
 
 /// Returns whether a statement ends at an offset, or after the spaces after it.
-pub(crate) fn ends_statement(text: &[u8], end: usize) -> bool
+fn ends_statement(text: &[u8], end: usize) -> bool
     ensures { IsTrue result → specs.EndsStatement text.now end }
 {
     let to = after_spaces(text, end);
@@ -136,4 +137,11 @@ pub(crate) fn ends_statement(text: &[u8], end: usize) -> bool
         && !is_comment(text, end)
         && are_spaces(&text[end..to])
         && is_list_end(text, to)
+}
+
+/// Returns whether a statement of its own may be between two offsets, which ends in a word at a third one.
+pub(crate) fn is_statement(text: &[u8], start: usize, last: &[u8], at: usize, end: usize) -> bool
+    ensures { IsTrue result → IsStatement text.now start last.now at end }
+{
+    is_word(text, at, last, end) && begins_statement(text, start) && ends_statement(text, end)
 }

@@ -1,7 +1,7 @@
 use Rattle.std.proofs.Common.{map, refl, subst}
-use Rattle.shellforms.specs.Ifs as specs
-use Rattle.shellforms.proofs.Steps.{on_true}
-use Rattle.shellforms.proofs.branches.push_first.Goals as goal
+use Rattle.shellcompounds.specs.Ifs as specs
+use Rattle.shellcompounds.proofs.Steps.{on_true}
+use Rattle.shellcompounds.proofs.branches.push_first.Goals as goal
 
 pub returns : goal.returns
 returns c =

@@ -1,11 +1,11 @@
 //! The parts of an `if`.
 
 ghost use Rattle.std.specs.Prelude.{◌≡◌, [], map, IfOk, IfSome, IsTrue};
-ghost use Rattle.shellforms.specs.Ifs as specs;
+ghost use Rattle.shellcompounds.specs.Ifs as specs;
 
-use crate::cut::{Branch, Cut};
+use crate::cut::{IfBranch, IfCut};
 use crate::parts::{body, condition};
-use crate::places::{begins_statement, ends_statement, is_word};
+use crate::places::{is_statement, is_word};
 use std::alloc::{AllocError, Global};
 
 /// Appends the body between two offsets. Returns whether there is one.
@@ -28,7 +28,7 @@ fn push_body<'a>(
 fn push_branch<'a>(
     alloc: Global,
     text: &'a [u8],
-    branch: Branch,
+    branch: IfBranch,
     out: &mut Vec<&'a [u8]>,
 ) -> Result<bool, AllocError>
     ensures { IfOk result (λ b. IsTrue b → specs.AddsBranch text.now branch.start branch.end (map (λ p. p.now) out.old.items) (map (λ p. p.now) out.new.items)) }
@@ -53,7 +53,7 @@ fn push_first<'a>(
     alloc: Global,
     text: &'a [u8],
     start: usize,
-    branch: Branch,
+    branch: IfBranch,
     out: &mut Vec<&'a [u8]>,
 ) -> Result<bool, AllocError>
     requires { out.old.items ≡ [] }
@@ -71,7 +71,7 @@ fn push_next<'a>(
     text: &'a [u8],
     start: usize,
     at: usize,
-    branch: Branch,
+    branch: IfBranch,
     out: &mut Vec<&'a [u8]>,
 ) -> Result<bool, AllocError>
     requires { specs.AreBranches text.now start at (map (λ p. p.now) out.old.items) }
@@ -89,7 +89,7 @@ fn push_more<'a>(
     text: &'a [u8],
     start: usize,
     at: usize,
-    more: &[Branch],
+    more: &[IfBranch],
     out: &mut Vec<&'a [u8]>,
 ) -> Result<Option<usize>, AllocError>
     requires { specs.AreBranches text.now start at (map (λ p. p.now) out.old.items) }
@@ -110,7 +110,7 @@ fn push_branches<'a>(
     alloc: Global,
     text: &'a [u8],
     start: usize,
-    branches: &[Branch],
+    branches: &[IfBranch],
     out: &mut Vec<&'a [u8]>,
 ) -> Result<Option<usize>, AllocError>
     requires { out.old.items ≡ [] }
@@ -152,7 +152,7 @@ fn push_default<'a>(
     text: &'a [u8],
     start: usize,
     at: usize,
-    cut: &Cut,
+    cut: &IfCut,
     out: &mut Vec<&'a [u8]>,
 ) -> Result<bool, AllocError>
     requires { specs.AreBranches text.now start at (map (λ p. p.now) out.old.items) }
@@ -168,7 +168,7 @@ fn push_default<'a>(
 fn push_all<'a>(
     alloc: Global,
     text: &'a [u8],
-    cut: &Cut,
+    cut: &IfCut,
     out: &mut Vec<&'a [u8]>,
 ) -> Result<bool, AllocError>
     requires { out.old.items ≡ [] }
@@ -180,24 +180,20 @@ fn push_all<'a>(
     }
 }
 
-/// Returns whether the `if` is a statement of its own.
-fn is_statement(text: &[u8], cut: &Cut) -> bool
-    ensures { IsTrue result → specs.IsStatement text.now cut.now.start cut.now.at_fi cut.now.end }
-{
-    is_word(text, cut.at_fi, b"fi", cut.end)
-        && begins_statement(text, cut.start)
-        && ends_statement(text, cut.end)
-}
-
-/// Returns the parts of an `if`, unless it is none.
-pub(crate) fn parts_of<'a>(
+/// Returns the parts of an `if`: each condition and its body, and the body after `else`. If the offsets are not those of an `if` that is a
+/// statement of its own, returns `None`.
+///
+/// # Errors
+///
+/// Fails only if memory runs out.
+pub fn if_parts<'a>(
     alloc: Global,
     text: &'a [u8],
-    cut: &Cut,
+    cut: &IfCut,
 ) -> Result<Option<Vec<&'a [u8]>>, AllocError>
     ensures { IfOk result (λ o. IfSome o (λ v. specs.IsIf text.now cut.now.start cut.now.end (map (λ p. p.now) v.items))) }
 {
-    if !is_statement(text, cut) {
+    if !is_statement(text, cut.start, b"fi", cut.at_fi, cut.end) {
         return Ok(None);
     }
     let mut out = Vec::new(alloc);
