@@ -15,6 +15,8 @@ The lines of macros.txt, by how they begin:
   `% `      a word of the idiom that no argument is put in the place of, a blank, and the text that is shown there
   `! `      two numbers and names: for a call of these macros with so many arguments, from the first number to the second, the idiom is
             exact. It leaves the same definitions and output variables, and `acrun port` writes it
+  `& `      two numbers, names, a colon and words: for a call of these macros with so many arguments `acrun port --idioms` writes the
+            idiom, below a comment with these words, which say in what it differs from the macro
   `@ `      what stands around the idiom in the guide, with an `@` in its place; alone: the idiom is not run
   `+ `      a line before the call and before the idiom, where tools/try_macros.py compares both; the guide does not show it
   `$ `      arguments of a run in which that script compares both, in place of one without arguments
@@ -50,6 +52,7 @@ class Entry:
     arguments: list = dataclasses.field(default_factory=list)
     words: list = dataclasses.field(default_factory=list)
     exact: list = dataclasses.field(default_factory=list)
+    other: list = dataclasses.field(default_factory=list)
     around: str = "@"
     before: list = dataclasses.field(default_factory=list)
     runs: list = dataclasses.field(default_factory=list)
@@ -191,6 +194,10 @@ def sections():
         elif sign == "! ":
             least, most, *names = rest.split()
             entry.exact += [(name, int(least), int(most)) for name in names]
+        elif sign == "& ":
+            about, _, said = rest.partition(" : ")
+            least, most, *names = about.split()
+            entry.other += [(name, int(least), int(most), said) for name in names]
         elif line[0] == "@":
             entry.around = rest
         elif sign == "+ ":
@@ -245,6 +252,13 @@ def wrong():
                 yield f"{name}: an argument has no place in the idiom"
             if any(place[2] not in ("", "!") for place in PLACE.finditer(text)):
                 yield f"{name}: an exact idiom has its arguments as they are"
+        for name, least, most, said in entry.other:
+            if name not in entry.names or entry.kind != "idiom" or "$@" in text or entry.words:
+                yield f"{name} has no idiom that can be written with the arguments of a call"
+            if any(name == it[0] and it[1] <= most and least <= it[2] for it in entry.exact):
+                yield f"{name}: its idiom is exact, and differs"
+            if not 0 <= least <= most <= 9 or not re.fullmatch(r"[A-Za-z0-9_@./,=-][A-Za-z0-9_@./,= -]*", said):
+                yield f"{name}: what is said of the idiom is no line of plain words"
         if entry.kind != "idiom" and len(entry.lines) > 1:
             yield f"{entry.names[0]}: only an idiom has more than one line"
         for word, _shown in entry.words:
@@ -273,15 +287,37 @@ def exact():
     return sorted(row for entry in entries() for row in entry.exact)
 
 
-def text_of_exact():
-    """Returns the file of `exactidioms`: a line for each such name."""
-    rows = "".join(f"{name} {least} {most}\n" for name, least, most in exact())
+def differing():
+    """Returns the names whose idiom differs, each with the least and the largest number of arguments, and with what is said of it."""
+    return sorted(row for entry in entries() for row in entry.other)
+
+
+def constant(about, name, rows):
+    """Returns a constant with a row for each line, and the function that returns it."""
     return (
-        "//! The macros that have an exact idiom. `tools/macro_table.py` writes this file from `macros.txt` of `macrotable`.\n\n"
-        "/// The macros, each with the least and the largest number of arguments that its idiom is exact for.\n"
-        f'#[rattlefmt::skip]\nconst EXACT: &[u8] = b"\\\n{rows}";\n\n'
-        "/// Returns a line for each macro that has an exact idiom: its name, and the least and the largest number of arguments.\n"
-        "pub(crate) fn rows() -> &'static [u8] {\n    EXACT\n}\n"
+        f"\n/// {about}\n"
+        f"#[rattlefmt::skip]\npub const {name}: &[u8] = b\"\\\n{chr(10).join(rows)}\";\n\n"
+        f"/// Returns the rows of these macros, with a newline between them.\npub(crate) fn {name.lower()}() -> &'static [u8]\n"
+        f"    ensures {{ result.now ≡ {name}.now }}\n{{\n    {name}\n}}\n"
+    )
+
+
+def text_of_exact():
+    """Returns the file of `exactidioms`: a row for each of these names."""
+    return (
+        "//! The macros whose idioms `acrun port` writes. `tools/macro_table.py` writes this file from `macros.txt` of `macrotable`.\n\n"
+        "ghost use Rattle.std.specs.Prelude.{◌≡◌};\n"
+        + constant(
+            "The macros that have an exact idiom, each with the least and the largest number of arguments that it is exact for.",
+            "EXACT",
+            [f"{name} {least} {most}" for name, least, most in exact()],
+        )
+        + constant(
+            "The macros whose idiom differs, each with the least and the largest number of arguments that it is written for, and with what\n"
+            "/// is said of it.",
+            "DIFFERING",
+            [f"{name} {least} {most} {said}" for name, least, most, said in differing()],
+        )
     )
 
 

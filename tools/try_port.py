@@ -1,12 +1,15 @@
 #!/usr/bin/env python3
 """Runs `acrun port` on sources, and reports each whose output is not as it should be.
-  try_port.py PROGRAM [-v] FILE..     PROGRAM is a built acrun, and FILE a configure.ac; -v prints a line for each source
+  try_port.py PROGRAM [-v] [-i] FILE..    PROGRAM is a built acrun, and FILE a configure.ac; -v prints a line for each source, and
+                                          -i gives `port` the switch `--idioms`
 Of each output:
-- if the exit status is 0, `acrun lint` finds no error in it; if it is 1, a line of it begins with `dnl acrun: `;
+- if the exit status is 0, `acrun lint` finds no error in it; if it is 1, a line of it begins with `dnl acrun: `, and not with
+  `dnl acrun: in place of `, which says in what an idiom differs;
 - each error of `acrun lint` has its message in such a line above it;
 - `acrun port` of it is itself;
 - if Autoconf is there and reads the source in its directory, it reads the output there, and traces the same definitions and output
   variables in both, but for those of systems that are long gone, and those that it makes without a trace.
+With -i the definitions and output variables are not compared.
 If the quotes of a source have an error, the status is 2, and nothing is printed. Ends with 1 if anything is otherwise.
 """
 import json
@@ -17,6 +20,8 @@ import sys
 import tempfile
 
 FRONT = b"dnl acrun: "
+DIFFERS = FRONT + b"in place of "
+SWITCH = []
 TRACES = ["AC_DEFINE_TRACE_LITERAL", "AC_SUBST", "AC_CONFIG_FILES", "AC_CONFIG_HEADERS"]
 # What Autoconf looks for by itself, with the default includes of a macro; acrun has none of these.
 OWN = ("HAVE_STDIO_H", "HAVE_STDLIB_H", "HAVE_STRING_H", "HAVE_STRINGS_H", "HAVE_INTTYPES_H", "HAVE_STDINT_H", "HAVE_UNISTD_H",
@@ -55,6 +60,8 @@ def in_autoconf(file, text):
     if after is None:
         yield "Autoconf refuses the output"
         return
+    if SWITCH:
+        return
     lost = {it for it in before - after if it.split(":")[-1] not in GONE}
     new = {it for it in after - before if not it.startswith("AC_DEFINE_TRACE_LITERAL:HAVE_") and it != "AC_SUBST:INSTALL"}
     if lost or new:
@@ -87,24 +94,28 @@ def wrong(program, text, made):
     lines = out.split(b"\n")
     if made.returncode != int(bool(found)):
         yield f"status {made.returncode} and {len(found)} errors"
+    if made.returncode == 1 and not any(it.startswith(FRONT) and not it.startswith(DIFFERS) for it in lines):
+        yield "status 1 and no comment about what is left"
     if made.returncode == 0 and not errors(program, text) and out != text:
         yield "a source without errors does not stay as it is"
     for error in found:
         if not is_said(error, seen(b"\n".join(lines[:error["line"]]))):
             yield f"line {error['line']} has no comment: {error['message']}"
-    again = run([program, "port", "-"], out)
+    again = run([program, "port", *SWITCH, "-"], out)
     if again.stdout != out or again.returncode != made.returncode:
         yield "port of the output is not the output"
 
 
 def main(words):
     program = str(pathlib.Path(words[0]).resolve())
-    is_told = words[1:2] == ["-v"]
+    is_told = "-v" in words
+    if "-i" in words:
+        SWITCH.append("--idioms")
     failed = 0
-    files = [pathlib.Path(word) for word in words[1 + is_told:]]
+    files = [pathlib.Path(word) for word in words[1:] if word not in ("-v", "-i")]
     for file in files:
         text = file.read_bytes()
-        made = run([program, "port", "-"], text)
+        made = run([program, "port", *SWITCH, "-"], text)
         found = list(wrong(program, text, made))
         if made.returncode != 2 and shutil.which("autoconf"):
             found += in_autoconf(file, made.stdout)

@@ -24,7 +24,7 @@ for words in help --help -h --version -V; do expect 0 "acrun $version" "$words";
 expect 0 'Usage: acrun [-jN] configure [ARG]..' help configure
 expect 0 'Usage: acrun status [NAME]..' help status
 expect 0 'Usage: acrun lint [--json] [FILE]..' help lint
-expect 0 'Usage: acrun port [FILE]' help port
+expect 0 'Usage: acrun port [--idioms] [FILE]' help port
 expect 0 'Usage: acrun why WORD [LOG]' help why
 expect 0 'Usage: acrun standin [WORD]..' help standin
 expect 0 'Usage: acrun help [COMMAND]' help help
@@ -36,6 +36,14 @@ for command in configure status lint port why standin help; do
     "$acrun" help | grep -q "^  acrun .*$command" || { wrong=1; echo "help does not list $command"; }
     grep -q "$command" "$root/share/acrun.1" || { wrong=1; echo "the manual page does not name $command"; }
 done
+
+# has COMMAND TEXT: the help of the command has the text.
+has() {
+    "$acrun" help "$1" | grep -q -F -e "$2" || { wrong=1; echo "help $1 does not say: $2"; }
+}
+has port '`if` becomes AS_IF'
+has port '--idioms'
+has configure 'Besides its outputs a run may leave: config.log config.status config.cache conftest* acrun-*.tmp'
 
 [ "$wrong" = 0 ] && echo 'help: as it should be'
 exit $wrong

@@ -43,7 +43,7 @@ _acrun() {
         compopt -o filenames
         ;;
     port)
-        mapfile -t COMPREPLY < <(compgen -f -- "$word")
+        mapfile -t COMPREPLY < <(compgen -W --idioms -- "$word"; compgen -f -- "$word")
         compopt -o filenames
         ;;
     why)

@@ -1,37 +1,25 @@
-//! Which macros have an exact idiom.
+//! Which idioms are written in the place of a call.
 
-ghost use Rattle.std.specs.Prelude.{◌≡◌, Some, option_map, IfOk, IfSome};
+ghost use Rattle.std.specs.Prelude.{◌≡◌, Some, option_map, IfOk, IfSome, IsTrue};
 ghost use Rattle.macrotable.specs.Entries.{entry_of, said};
 ghost use Rattle.macrotable.specs.declared.text.TheConstants.{TABLE};
 ghost use Rattle.exactidioms.specs.Exact as specs;
-ghost use Rattle.exactidioms.specs.Rows.{put_by};
+ghost use Rattle.exactidioms.specs.Rows.{put_by, IsExact, Differs};
 
-use crate::table::rows;
+use crate::rows::text_of;
+use crate::table::{differing, exact};
 use macrotable::{Entry, Index, Kind};
 use std::alloc::{AllocError, Global};
 
-/// Returns the digit at an index, or 0.
-fn digit_at(text: &[u8], at: usize) -> usize {
-    match text.get(at) {
-        Some(byte) => byte.saturating_sub(b'0') as usize,
-        None => 0,
-    }
-}
-
-/// Returns whether the row has the name, and so many arguments are in its bounds.
-fn allows(row: &[u8], name: &[u8], count: usize) -> bool {
-    let len = name.len();
-    if !row.starts_with(name) || row.get(len) != Some(&b' ') {
-        return false;
-    }
-    digit_at(row, len.saturating_add(1)) <= count && count <= digit_at(row, len.saturating_add(3))
-}
-
 /// Returns whether the idiom of a macro of this name is exact for so many arguments.
-fn is_exact(name: &[u8], count: usize) -> bool {
-    rows()
-        .split(|byte| *byte == b'\n')
-        .any(|row| allows(row, name, count))
+#[tactic(auto, unfolding(crate::specs::Rows::IsExact))]
+fn is_exact(alloc: Global, name: &[u8], count: usize) -> Result<bool, AllocError>
+    ensures { IfOk result (λ b. IsTrue b → IsExact name.now count) }
+{
+    match text_of(alloc, exact(), name, count)? {
+        Some(text) => Ok(text.is_empty()),
+        None => Ok(false),
+    }
 }
 
 /// What a call is replaced by.
@@ -65,10 +53,52 @@ pub fn exact_of(
 ) -> Result<Option<Exact>, AllocError>
     // It is the text of the idiom that the table has for the name, or nothing if the table says that the call has no meaning.
     ensures of_table { IfOk result (λ o. IfSome o (λ e. put_by (entry_of name.now TABLE.now) ≡ Some (specs.text_of e))) }
+    // It is exact for so many arguments.
+    ensures exact { IfOk result (λ o. IfSome o (λ e. IsExact name.now count)) }
 {
-    if !is_exact(name, count) {
+    if !is_exact(alloc, name, count)? {
         return Ok(None);
     }
     let entry = index.entry_of(alloc, name)?;
     Ok(exact_by(entry))
+}
+
+/// An idiom that differs from its macro.
+#[derive(Clone, Copy)]
+pub struct Other {
+    pub idiom: &'static [u8],
+    /// In what it differs: a line of words that begins with a blank.
+    pub said: &'static [u8],
+}
+
+/// Returns the idiom of an entry, if it is one, with what is said of it.
+fn other_by(entry: Option<Entry>, words: &'static [u8]) -> Option<Other>
+    ensures idiom { IfSome result (λ other. put_by (option_map said entry) ≡ Some other.idiom.now) }
+    ensures words { IfSome result (λ other. other.said.now ≡ words.now) }
+{
+    match exact_by(entry) {
+        Some(Exact::Idiom(idiom)) => Some(Other { idiom, said: words }),
+        _ => None,
+    }
+}
+
+/// Returns the idiom that is written in the place of a call of a macro of this name with so many arguments though it differs from
+/// the macro, if there is one.
+#[tactic(auto, unfolding(crate::specs::Rows::Differs))]
+pub fn other_of(
+    alloc: Global,
+    index: &Index,
+    name: &[u8],
+    count: usize,
+) -> Result<Option<Other>, AllocError>
+    // It is the idiom that the table has for the name.
+    ensures of_table { IfOk result (λ o. IfSome o (λ other. put_by (entry_of name.now TABLE.now) ≡ Some other.idiom.now)) }
+    // What is said is what the rows have for so many arguments.
+    ensures said { IfOk result (λ o. IfSome o (λ other. Differs name.now count other.said.now)) }
+{
+    let Some(said) = text_of(alloc, differing(), name, count)? else {
+        return Ok(None);
+    };
+    let entry = index.entry_of(alloc, name)?;
+    Ok(other_by(entry, said))
 }

@@ -1,11 +1,14 @@
 //! An idiom with the arguments of a call.
 
-ghost use Rattle.std.specs.Prelude.{◌≡◌, ◌++◌, map, option_map, slice_get, IfOk, IfSome, IsTrue};
+ghost use Rattle.std.specs.Prelude.{◌≡◌, ◌++◌, ◌==◌, ◌<◌, length, map, option_map, position, slice_get, IfOk, IfSome, IsTrue, OnOk};
 ghost use Rattle.std.specs.List.{flat_map};
+ghost use Rattle.m4quote.specs.Names.{sh_byte, cpp_byte};
+ghost use Rattle.macrotable.specs.Around.{around};
 ghost use Rattle.macrotable.specs.Values.{unquoted};
 ghost use Rattle.textcut.specs.Cuts.{trimmed};
 ghost use Rattle.exactidioms.specs.Filled as specs;
 
+use m4quote::{cpp_name, sh_name};
 use macrotable::{Form, Source};
 use std::alloc::{AllocError, Global};
 use textcut::{parts, trim};
@@ -68,8 +71,10 @@ fn is_certain(written: &[u8], inner: &[u8]) -> bool {
 }
 
 /// Returns the text that m4 puts in the place of an argument, if that is known without a definition of any macro.
-fn text_of(argument: &[u8]) -> Option<&[u8]>
-    ensures { IfSome result (λ t. t.now ≡ unquoted (trimmed argument.now)) }
+///
+/// It has no blanks and no pair of brackets around it.
+pub fn text_of(argument: &[u8]) -> Option<&[u8]>
+    ensures text { IfSome result (λ t. t.now ≡ unquoted (trimmed argument.now)) }
 {
     let written = trim(argument);
     let inner = unquoted(written);
@@ -97,28 +102,21 @@ fn is_word(text: &[u8]) -> bool {
             || matches!(*byte, b'_' | b'.' | b'/' | b'-' | b'+'))
 }
 
-/// A place of an idiom: the index of the argument, whether that has to be one word, and the text after the place.
+/// A place of an idiom: the index of the argument, its form, and the text after the place.
 #[derive(Clone, Copy)]
 struct Place<'a> {
     index: usize,
-    is_word: bool,
+    form: Form,
     rest: &'a [u8],
 }
 
-/// Returns the index of the argument that is put in a place as it is, or if it is one word.
-fn index_of(source: Source, form: Form) -> Option<usize>
-    ensures { result ≡ specs.index_of source form }
+/// Returns the index of the argument that is put in a place.
+fn index_of(source: Source) -> Option<usize>
+    ensures { result ≡ specs.index_of source }
 {
-    let Source::Argument(index) = source else {
-        return None;
-    };
-    match form {
-        Form::AsItIs => Some(index),
-        Form::OneWord => Some(index),
-        Form::ShellName => None,
-        Form::Symbol => None,
-        Form::Front => None,
-        Form::Rest => None,
+    match source {
+        Source::Argument(index) => Some(index),
+        Source::All => None,
     }
 }
 
@@ -127,45 +125,155 @@ fn place_of(text: &[u8]) -> Option<Place<'_>>
     ensures { option_map specs.seen result ≡ specs.place_of text.now }
 {
     let place = macrotable::place_of(text)?;
-    let index = index_of(place.source, place.form)?;
+    let index = index_of(place.source)?;
     Some(Place {
         index,
-        is_word: matches!(place.form, Form::OneWord),
+        form: place.form,
         rest: place.rest,
     })
 }
 
-/// Returns the text for a place, if the argument can be put there.
-fn value_of<'a>(place: &Place<'_>, args: &[&'a [u8]]) -> Option<&'a [u8]>
-    ensures { IfSome result (λ t. t.now ≡ specs.text_of (slice_get (map (λ a. a.now) args.now) place.now.index)) }
+/// Returns whether the byte may be in a text that a name is made of.
+fn is_plain_byte(byte: u8) -> bool {
+    byte.is_ascii_alphanumeric()
+        || matches!(
+            byte,
+            b'_' | b'.' | b'/' | b'-' | b'+' | b'*' | b'=' | b':' | b' '
+        )
+}
+
+/// Returns whether a name can be made of a text without a shell.
+fn is_plain(text: &[u8]) -> bool {
+    !text.is_empty() && text.iter().all(|byte| is_plain_byte(*byte))
+}
+
+/// Returns the offset of the first dot.
+fn dot_in(text: &[u8]) -> Option<usize>
+    ensures value { result ≡ position (λ b. b == 46) text.now }
+    ensures within { IfSome result (λ i. i < length text.now) }
 {
-    let text = text_at(args, place.index)?;
-    if place.is_word && !is_word(text) {
-        None
-    } else {
-        Some(text)
+    text.iter().position(|byte| *byte == b'.')
+}
+
+/// Returns the parts of a text before and after its first dot.
+fn around_dot(text: &[u8]) -> Option<(&[u8], &[u8])>
+    ensures { option_map (λ p. (p.0.now, p.1.now)) result ≡ around 46 text.now }
+{
+    match dot_in(text) {
+        Some(i) => Some((&text[..i], &text[i + 1..])),
+        None => None,
     }
 }
 
-/// Appends the text for a place and the text after it. Returns whether the argument can be put there.
-fn put_place(out: &mut Vec<u8>, place: &Place<'_>, args: &[&[u8]]) -> Result<bool, AllocError>
-    ensures { IfOk result (λ b. IsTrue b → out.new.items ≡ out.old.items ++ (specs.text_of (slice_get (map (λ a. a.now) args.now) place.now.index) ++ place.now.rest.now)) }
+/// Returns whether a text can have a form.
+fn can_have(form: Form, text: &[u8]) -> bool {
+    match form {
+        Form::AsItIs => true,
+        Form::OneWord => is_word(text),
+        _ => is_plain(text),
+    }
+}
+
+/// Appends the text as a part of a shell variable's name.
+fn put_shell_name(alloc: Global, out: &mut Vec<u8>, text: &[u8]) -> Result<(), AllocError>
+    ensures { OnOk result (out.new.items ≡ out.old.items ++ map sh_byte text.now) }
 {
-    let Some(value) = value_of(place, args) else {
+    let name = sh_name(alloc, text)?;
+    out.extend_from_slice(name.as_slice())
+}
+
+/// Appends the text as a part of a symbol.
+fn put_symbol(alloc: Global, out: &mut Vec<u8>, text: &[u8]) -> Result<(), AllocError>
+    ensures { OnOk result (out.new.items ≡ out.old.items ++ map cpp_byte text.now) }
+{
+    let name = cpp_name(alloc, text)?;
+    out.extend_from_slice(name.as_slice())
+}
+
+/// Appends what is before the first dot of a text. Returns whether there is one.
+fn put_front(out: &mut Vec<u8>, text: &[u8]) -> Result<bool, AllocError>
+    ensures { IfOk result (λ b. IsTrue b → out.new.items ≡ out.old.items ++ specs.front_of (around 46 text.now)) }
+{
+    match around_dot(text) {
+        Some((front, _)) => {
+            out.extend_from_slice(front)?;
+            Ok(true)
+        }
+        None => Ok(false),
+    }
+}
+
+/// Appends what is after the first dot of a text. Returns whether there is one.
+fn put_rest(out: &mut Vec<u8>, text: &[u8]) -> Result<bool, AllocError>
+    ensures { IfOk result (λ b. IsTrue b → out.new.items ≡ out.old.items ++ specs.rest_of (around 46 text.now)) }
+{
+    match around_dot(text) {
+        Some((_, rest)) => {
+            out.extend_from_slice(rest)?;
+            Ok(true)
+        }
+        None => Ok(false),
+    }
+}
+
+/// Appends a text in a form. Returns whether it can have the form.
+fn put_formed(alloc: Global, out: &mut Vec<u8>, form: Form, text: &[u8]) -> Result<bool, AllocError>
+    ensures { IfOk result (λ b. IsTrue b → out.new.items ≡ out.old.items ++ specs.formed form text.now) }
+{
+    match form {
+        Form::AsItIs => out.extend_from_slice(text)?,
+        Form::OneWord => out.extend_from_slice(text)?,
+        Form::ShellName => put_shell_name(alloc, out, text)?,
+        Form::Symbol => put_symbol(alloc, out, text)?,
+        Form::Front => return put_front(out, text),
+        Form::Rest => return put_rest(out, text),
+    }
+    Ok(true)
+}
+
+/// Appends the argument for a place. Returns whether it can be put there.
+fn put_value(
+    alloc: Global,
+    out: &mut Vec<u8>,
+    place: &Place<'_>,
+    args: &[&[u8]],
+) -> Result<bool, AllocError>
+    ensures { IfOk result (λ b. IsTrue b → out.new.items ≡ out.old.items ++ specs.value (specs.seen place.now) (map (λ a. a.now) args.now)) }
+{
+    match text_at(args, place.index) {
+        Some(text) if can_have(place.form, text) => put_formed(alloc, out, place.form, text),
+        _ => Ok(false),
+    }
+}
+
+/// Appends the argument for a place and the text after it. Returns whether the argument can be put there.
+fn put_place(
+    alloc: Global,
+    out: &mut Vec<u8>,
+    place: &Place<'_>,
+    args: &[&[u8]],
+) -> Result<bool, AllocError>
+    ensures { IfOk result (λ b. IsTrue b → out.new.items ≡ out.old.items ++ (specs.value (specs.seen place.now) (map (λ a. a.now) args.now) ++ place.now.rest.now)) }
+{
+    if !put_value(alloc, out, place, args)? {
         return Ok(false);
-    };
-    out.extend_from_slice(value)?;
+    }
     out.extend_from_slice(place.rest)?;
     Ok(true)
 }
 
 /// Appends a `$` and the text after it, with the argument in the place that the text may begin with. Returns whether it could be put
 /// there.
-fn put_sign(out: &mut Vec<u8>, text: &[u8], args: &[&[u8]]) -> Result<bool, AllocError>
+fn put_sign(
+    alloc: Global,
+    out: &mut Vec<u8>,
+    text: &[u8],
+    args: &[&[u8]],
+) -> Result<bool, AllocError>
     ensures { IfOk result (λ b. IsTrue b → out.new.items ≡ out.old.items ++ specs.filled_sign (map (λ a. a.now) args.now) text.now) }
 {
     match place_of(text) {
-        Some(place) => put_place(out, &place, args),
+        Some(place) => put_place(alloc, out, &place, args),
         None => {
             out.push(b'$')?;
             out.extend_from_slice(text)?;
@@ -175,11 +283,16 @@ fn put_sign(out: &mut Vec<u8>, text: &[u8], args: &[&[u8]]) -> Result<bool, Allo
 }
 
 /// Appends the texts after each `$`, with what becomes of these. Returns whether each argument could be put there.
-fn put_signs(out: &mut Vec<u8>, texts: &[&[u8]], args: &[&[u8]]) -> Result<bool, AllocError>
+fn put_signs(
+    alloc: Global,
+    out: &mut Vec<u8>,
+    texts: &[&[u8]],
+    args: &[&[u8]],
+) -> Result<bool, AllocError>
     ensures { IfOk result (λ b. IsTrue b → out.new.items ≡ out.old.items ++ flat_map (specs.filled_sign (map (λ a. a.now) args.now)) (map (λ t. t.now) texts.now)) }
 {
     for text in texts {
-        if !put_sign(out, text, args)? {
+        if !put_sign(alloc, out, text, args)? {
             return Ok(false);
         }
     }
@@ -199,7 +312,7 @@ fn put_line(
     let texts = parts(alloc, line, b'$')?;
     if let Some((first, more)) = texts.as_slice().split_first() {
         out.extend_from_slice(first)?;
-        return put_signs(out, more, args);
+        return put_signs(alloc, out, more, args);
     }
     Ok(true)
 }

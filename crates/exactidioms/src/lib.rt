@@ -1,19 +1,23 @@
-//! The idioms that are exact: a call of the macro and its idiom leave the same definitions and output variables.
+//! The idioms that are written in the place of calls. Most are exact: a call of the macro and its idiom leave the same definitions and
+//! output variables. For the others there are words that say in what they differ.
 //!
-//! An idiom is exact for some numbers of arguments. An argument is put into it only if the text that m4 puts in its place is known
+//! An idiom is written for some numbers of arguments. An argument is put into it only if the text that m4 puts in its place is known
 //! without a definition of any macro.
 //!
 //! ```text
 //! exact_of(alloc, &index, b"AC_HAVE_FUNCS", 1)?             // the idiom AC_CHECK_FUNCS([$1{FUNCTIONS}])
 //! filled(alloc, idiom, &[b"getcwd"], b"  ")?                // AC_CHECK_FUNCS([getcwd])
+//! other_of(alloc, &index, b"AC_FUNC_MALLOC", 0)?            // an idiom; it says " HAVE_MALLOC is 1 without a check"
 //! ```
 //!
-//! Read `exact`, and then `filling`. `tools/macro_table.py` writes `table`. A call fails only if memory runs out.
+//! Read `specs/Rows`, `rows` and `exact`, and then `filling`. `tools/macro_table.py` writes `table`. A call fails only if memory runs
+//! out. "own" marks a rule that no manual gives.
 #![tactic(auto)]
 
 mod exact;
 mod filling;
+mod rows;
 mod table;
 
-pub use exact::{Exact, exact_of};
-pub use filling::filled;
+pub use exact::{Exact, Other, exact_of, other_of};
+pub use filling::{filled, text_of};

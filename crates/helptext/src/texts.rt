@@ -12,7 +12,7 @@ Usage:
   acrun status [NAME]..           make the outputs of the last run again: all, or those named
   acrun status --recheck          run configure.ac again with the arguments of the last run
   acrun lint [--json] [FILE]..    say what is wrong with a configure.ac and its templates
-  acrun port [FILE]               print a configure.ac with other macros rewritten
+  acrun port [--idioms] [FILE]    print a configure.ac with other macros rewritten
   acrun why WORD [LOG]            say why a check in config.log has its answer
   acrun standin [WORD]..          answer in a compiler's place, for trials
   acrun                           fill one template: configure.ac, a line %%, a template on standard input
@@ -37,6 +37,8 @@ the command, runs up to N children at once; N is from 1 to 16, and 1 by default.
   -h, --help              the options and variables of the package
   -V, --version           the version of the package
   VARIABLE=VALUE          CC, CFLAGS and others
+
+Besides its outputs a run may leave: config.log config.status config.cache conftest* acrun-*.tmp
 
 Exit status: 0 completed; 1 or another, as the source stops the run; 2 an error; 3 a child could not be run, and the run was cut.
 ";
@@ -63,11 +65,15 @@ Exit status: 0 no error; 1 errors; 2 a file can't be read, or the words are wron
 ";
 
 const PORT: &str = "\
-Usage: acrun port [FILE]
+Usage: acrun port [--idioms] [FILE]
 
 Reads FILE, a configure.ac or a directory of one (by default ./configure.ac; - is standard input), and prints it with each call of a
-macro that acrun does not read replaced, if another text does the same exactly. All else is copied. What has to be done by hand has a
-line `dnl acrun: ..` above it, with what `acrun lint` says there. FILE itself is not written.
+macro that acrun does not read replaced, if another text does the same exactly, and with statements of the shell that mean the same as
+a call: `if` becomes AS_IF. All else is copied. What has to be done by hand has a line `dnl acrun: ..` above it, with what `acrun lint`
+says there. FILE itself is not written.
+
+  --idioms   write texts too that differ from the macro, with the call's arguments in them, each below a line
+             `dnl acrun: in place of MACRO: ..` that says in what; such a line is not counted as left to do
 
 Exit status: 0 nothing is left to do; 1 there are such lines; 2 a file can't be read, its quotes have an error, or the words are wrong.
 ";

@@ -5,6 +5,7 @@ use Rattle.porting.specs.Ported.{IsCommented, IsMoved, IsPorted, IsPrinted, IsTu
 use Rattle.porting.specs.Ported as specs
 use Rattle.porting.specs.declared.whole.Ported.{Ported}
 use Rattle.linting.specs.Errors.{IsAccepted}
+use Rattle.replacing.specs.declared.idioms.Idioms.{Idioms}
 
 pub commented_bound : (text : List ℕ) (at : ℕ) (out : List ℕ) → IsCommented text at out → at ≤ length text
 commented_bound text at out specs.IsCommented.begun = omega arith
@@ -25,14 +26,14 @@ pub words_put : (text : List ℕ) (at : ℕ) (out new words : List ℕ) → IsCo
 words_put text at out new words before is more = subst (IsCommented text at) (sym more) (specs.IsCommented.noted words before is)
 
 -- A source that acrun accepts becomes itself.
-pub same_ported : {E : Type 0} (r : Result (Option Ported) E) (text : List ℕ) → IsAccepted text
-    → IfOk r (λ o. MatchOption o ⊥ (λ p. (p.text ≡ text) × (p.has_comments ≡ false))) → IfOk r (λ o. IfSome o (λ p. IsPorted text p.has_comments p.text))
-same_ported (Ok (Some p)) text accepted (same, none) =
+pub same_ported : {E : Type 0} (idioms : Idioms) (r : Result (Option Ported) E) (text : List ℕ) → IsAccepted text
+    → IfOk r (λ o. MatchOption o ⊥ (λ p. (p.text ≡ text) × (p.has_comments ≡ false))) → IfOk r (λ o. IfSome o (λ p. IsPorted idioms text p.has_comments p.text))
+same_ported idioms (Ok (Some p)) text accepted (same, none) =
     record { mid = text; rewritten = specs.IsMoved.same; printed = subst (λ b. IsPrinted text b p.text) (sym none) (same, accepted) }
-same_ported (Ok None) text accepted m = tt
-same_ported (Err e) text accepted m = tt
+same_ported idioms (Ok None) text accepted m = tt
+same_ported idioms (Err e) text accepted m = tt
 
-pub turn_more : {V : Type 0} (items : V → List ℕ) (text mid now : List ℕ) (o : Option V) (next : V) → o ≡ Some next → now ≡ mid
-    → IfSome o (λ v. IsTurn now (items v)) → IsMoved text mid → IsMoved text (items next)
-turn_more items text mid now o next is same turn before =
-    specs.IsMoved.turned before (subst (λ m. IsTurn m (items next)) same (subst (λ o. IfSome o (λ v. IsTurn now (items v))) is turn))
+pub turn_more : {V : Type 0} (idioms : Idioms) (items : V → List ℕ) (text mid now : List ℕ) (o : Option V) (next : V) → o ≡ Some next → now ≡ mid
+    → IfSome o (λ v. IsTurn idioms now (items v)) → IsMoved idioms text mid → IsMoved idioms text (items next)
+turn_more idioms items text mid now o next is same turn before =
+    specs.IsMoved.turned before (subst (λ m. IsTurn idioms m (items next)) same (subst (λ o. IfSome o (λ v. IsTurn idioms now (items v))) is turn))

@@ -1,6 +1,6 @@
 //! Lines of comment at errors.
 
-ghost use Rattle.std.specs.Prelude.{◌≡◌, ◌≤◌, ◌++◌, true, map, length, slice_range, IfOk, OnOk, IsTrue};
+ghost use Rattle.std.specs.Prelude.{◌≡◌, ◌≤◌, ◌++◌, true, map, length, slice_range, ◌⊎◌, IfOk, OnOk, IsTrue};
 ghost use Rattle.std.specs.List.{flat_map};
 ghost use Rattle.porting.specs.Ported as specs;
 
@@ -278,16 +278,73 @@ fn with_notes(alloc: Global, text: &[u8], notes: &[Note]) -> Result<Vec<u8>, All
     Ok(copy.out)
 }
 
+/// Returns whether the text begins with a comment about what is left.
+fn is_left(text: &[u8]) -> bool
+    ensures { result ≡ specs.is_left text.now }
+{
+    text.starts_with(b"dnl acrun: ") && !text.starts_with(b"dnl acrun: in place of ")
+}
+
+/// Returns whether a line of the text is a comment about what is left.
+fn has_left(text: &[u8]) -> bool
+    ensures { IsTrue result → specs.HasLeft text.now }
+{
+    for at in 0..text.len() {
+        if is_line_start(text, at) && is_left(&text[at..text.len()]) {
+            return true;
+        }
+    }
+    false
+}
+
+/// Returns what is said before a text of which nothing else is said.
+#[tactic(auto, unfolding(crate::specs::Ported::unsaid))]
+fn unsaid() -> &'static [u8]
+    ensures { result.now ≡ specs.unsaid }
+{
+    b"acrun lint says what is left to do"
+}
+
+/// Returns the text with a comment before it that says that something is left.
+fn with_front(alloc: Global, text: &[u8]) -> Result<Vec<u8>, AllocError>
+    ensures { IfOk result (λ v. v.items ≡ specs.comment specs.unsaid ++ text.now) }
+{
+    let mut out = comment_of(alloc, unsaid())?;
+    out.extend_from_slice(text)?;
+    Ok(out)
+}
+
+/// Returns the text if a line of it is a comment about what is left, and otherwise the text with one before it.
+#[tactic(auto, using(crate::proofs::Left::front_left))]
+fn with_left(alloc: Global, text: Vec<u8>) -> Result<Vec<u8>, AllocError>
+    ensures kept { IfOk result (λ v. (v.items ≡ text.items) ⊎ (v.items ≡ specs.comment specs.unsaid ++ text.items)) }
+    ensures left { IfOk result (λ v. specs.HasLeft v.items) }
+{
+    if has_left(text.as_slice()) {
+        return Ok(text);
+    }
+    with_front(alloc, text.as_slice())
+}
+
 /// Returns the text with a comment at each error. The errors are in order of their places.
-pub(crate) fn commented(
-    alloc: Global,
-    text: &[u8],
-    errors: &[Finding],
-) -> Result<Vec<u8>, AllocError>
+fn commented_at(alloc: Global, text: &[u8], errors: &[Finding]) -> Result<Vec<u8>, AllocError>
     ensures { IfOk result (λ v. specs.IsCommented text.now (length text.now) v.items) }
 {
     let calls = calls_of(alloc, text)?;
     let lines = lines_of(alloc, text, calls.as_slice())?;
     let notes = notes_of(alloc, text, lines.as_slice(), errors)?;
     with_notes(alloc, text, notes.as_slice())
+}
+
+/// Returns the text with a comment at each error, and so with one at least. The errors are in order of their places.
+pub(crate) fn commented(
+    alloc: Global,
+    text: &[u8],
+    errors: &[Finding],
+) -> Result<Vec<u8>, AllocError>
+    ensures commented { IfOk result (λ v. specs.IsCommented text.now (length text.now) v.items) }
+    ensures left { IfOk result (λ v. specs.HasLeft v.items) }
+{
+    let out = commented_at(alloc, text, errors)?;
+    with_left(alloc, out)
 }

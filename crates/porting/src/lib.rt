@@ -1,7 +1,9 @@
 //! Rewrites a configure.ac with the idioms of the table of other macros, and leaves a comment at what has to be done by hand.
 //!
-//! `port` replaces each call that has an exact idiom: one that leaves the same definitions and output variables. It also replaces
-//! statements of a shell that mean the same as a call, such as `if`. All else is copied to the byte. What is still an error has a line `dnl acrun: ..` above it, in the words of `lint`.
+//! `port` replaces each call that has an exact idiom: one that leaves the same definitions and output variables. If all idioms are wanted,
+//! it also replaces calls by idioms that differ, each below a line `dnl acrun: in place of ..` that says in what. It also replaces
+//! statements of a shell that mean the same as a call, such as `if`. All else is copied to the byte. What is still an error has a line
+//! `dnl acrun: ..` above it, in the words of `lint`.
 //!
 //! ```text
 //! AC_HAVE_FUNCS(getcwd)        // becomes AC_CHECK_FUNCS([getcwd])

@@ -3,7 +3,7 @@
 ghost use Rattle.std.specs.Prelude.{IfOk, IfSome};
 ghost use Rattle.porting.specs.Ported as specs;
 
-use replacing::replaced;
+use replacing::{Idioms, replaced};
 use shellforms::formed;
 use std::alloc::{AllocError, Global};
 
@@ -11,10 +11,10 @@ use std::alloc::{AllocError, Global};
 const TURNS: usize = 70;
 
 /// Returns the text with its calls rewritten, and then its statements of a shell, or `None` if nothing can be rewritten.
-fn turned(alloc: Global, text: &[u8]) -> Result<Option<Vec<u8>>, AllocError>
-    ensures { IfOk result (λ o. IfSome o (λ v. specs.IsTurn text.now v.items)) }
+fn turned(alloc: Global, idioms: Idioms, text: &[u8]) -> Result<Option<Vec<u8>>, AllocError>
+    ensures { IfOk result (λ o. IfSome o (λ v. specs.IsTurn idioms text.now v.items)) }
 {
-    let mid = replaced(alloc, text)?;
+    let mid = replaced(alloc, idioms, text)?;
     let out = formed(alloc, mid.as_slice())?;
     if out.as_slice() == text {
         Ok(None)
@@ -24,12 +24,12 @@ fn turned(alloc: Global, text: &[u8]) -> Result<Option<Vec<u8>>, AllocError>
 }
 
 /// Returns the text with its calls and its statements of a shell rewritten.
-pub(crate) fn moved(alloc: Global, text: &[u8]) -> Result<Vec<u8>, AllocError>
-    ensures { IfOk result (λ v. specs.IsMoved text.now v.items) }
+pub(crate) fn moved(alloc: Global, idioms: Idioms, text: &[u8]) -> Result<Vec<u8>, AllocError>
+    ensures { IfOk result (λ v. specs.IsMoved idioms text.now v.items) }
 {
     let mut out = Vec::from_slice(alloc, text)?;
     for _ in 0..TURNS {
-        match turned(alloc, out.as_slice())? {
+        match turned(alloc, idioms, out.as_slice())? {
             Some(next) => out = next,
             None => break,
         }

@@ -10,6 +10,7 @@ use deftable::Bytes;
 use findings::Finding;
 use linting::errors_of;
 use m4quote::{QuoteFault, read_items};
+use replacing::Idioms;
 use sourcefaults::all_errors;
 use std::alloc::{AllocError, Global};
 
@@ -18,7 +19,8 @@ use std::alloc::{AllocError, Global};
 pub struct Ported {
     /// The new text.
     pub text: Bytes,
-    /// Whether something has to be done by hand: a line of comment is at each such place.
+    /// Whether something has to be done by hand: a line of comment is at each such place. A comment that says in what an idiom differs is
+    /// none of these.
     pub has_comments: bool,
 }
 
@@ -34,7 +36,9 @@ fn whole(text: Vec<u8>) -> Ported
 
 /// Returns the source with a comment at each of these errors.
 fn with_errors(alloc: Global, text: &[u8], errors: &[Finding]) -> Result<Ported, AllocError>
-    ensures { IfOk result (λ p. specs.IsCommented text.now (length text.now) p.text × (p.has_comments ≡ true)) }
+    ensures commented { IfOk result (λ p. specs.IsCommented text.now (length text.now) p.text) }
+    ensures left { IfOk result (λ p. specs.HasLeft p.text) }
+    ensures reported { IfOk result (λ p. p.has_comments ≡ true) }
 {
     let text = commented(alloc, text, errors)?;
     Ok(Ported {
@@ -55,10 +59,10 @@ fn printed(alloc: Global, text: Vec<u8>) -> Result<Ported, AllocError>
 }
 
 /// Returns the source as it is rewritten.
-fn rewritten(alloc: Global, text: &[u8]) -> Result<Option<Ported>, AllocError>
-    ensures { IfOk result (λ o. IfSome o (λ p. specs.IsPorted text.now p.has_comments p.text)) }
+fn rewritten(alloc: Global, idioms: Idioms, text: &[u8]) -> Result<Option<Ported>, AllocError>
+    ensures { IfOk result (λ o. IfSome o (λ p. specs.IsPorted idioms text.now p.has_comments p.text)) }
 {
-    let mid = moved(alloc, text)?;
+    let mid = moved(alloc, idioms, text)?;
     let ported = printed(alloc, mid)?;
     Ok(Some(ported))
 }
@@ -90,26 +94,27 @@ fn unchanged(alloc: Global, text: &[u8]) -> Result<Option<Ported>, AllocError>
 }
 
 /// Returns a source that acrun doesn't accept as it is rewritten, or `None` if its quotes have an error.
-fn port_refused(alloc: Global, text: &[u8]) -> Result<Option<Ported>, AllocError>
-    ensures { IfOk result (λ o. IfSome o (λ p. specs.IsPorted text.now p.has_comments p.text)) }
+fn port_refused(alloc: Global, idioms: Idioms, text: &[u8]) -> Result<Option<Ported>, AllocError>
+    ensures { IfOk result (λ o. IfSome o (λ p. specs.IsPorted idioms text.now p.has_comments p.text)) }
 {
     if are_quotes_right(alloc, text)? {
-        return rewritten(alloc, text);
+        return rewritten(alloc, idioms, text);
     }
     Ok(None)
 }
 
-/// Returns a source in which each call that has an exact idiom is replaced by it, and each statement of a shell by the call that means
-/// the same. What is still an error has a comment above it. Returns `None` if the source's quotes have an error, because then no call is found.
-pub fn port(alloc: Global, text: &[u8]) -> Result<Option<Ported>, AllocError>
-    // Calls that have to go may be replaced, and an `if` by AS_IF with its parts. All else is copied. There are comments exactly if what is left is not accepted; they are
-    // lines before lines of the text.
-    ensures ported { IfOk result (λ o. IfSome o (λ p. specs.IsPorted text.now p.has_comments p.text)) }
+/// Returns a source in which each call that has an idiom that is wanted is replaced by it, and each statement of a shell by the call that means
+/// the same. An idiom that differs from its macro has a comment above it that says in what. What is still an error has a comment above
+/// it too. Returns `None` if the source's quotes have an error, because then no call is found.
+pub fn port(alloc: Global, idioms: Idioms, text: &[u8]) -> Result<Option<Ported>, AllocError>
+    // Calls that have to go may be replaced, an `if` by AS_IF with its parts, and a `case` by AS_CASE. All else is copied. There are
+    // comments about what is left exactly if what is left is not accepted; they are lines before lines of the text.
+    ensures ported { IfOk result (λ o. IfSome o (λ p. specs.IsPorted idioms text.now p.has_comments p.text)) }
     // A source that acrun accepts stays as it is.
     ensures stays { IsAccepted text.now → IfOk result (λ o. MatchOption o ⊥ (λ p. (p.text ≡ text.now) × (p.has_comments ≡ false))) }
 {
     if is_accepted(alloc, text)? {
         return unchanged(alloc, text);
     }
-    port_refused(alloc, text)
+    port_refused(alloc, idioms, text)
 }

@@ -7,40 +7,41 @@ use Rattle.sourcecalls.specs.declared.call.CallAt.{CallAt}
 use Rattle.sourcecalls.specs.Calls.{Call, calls_in, seen}
 use Rattle.replacing.specs.Rewritten.{IsPass, IsRewritten, HasToGo, IsAround, DeclaresOption, IsOldHelp}
 use Rattle.replacing.specs.Rewritten as specs
-use Rattle.replacing.specs.Put.{IsPut}
+use Rattle.replacing.specs.Put.{MayPut}
+use Rattle.replacing.specs.declared.idioms.Idioms.{Idioms}
 
-pub pass_bound : (text : List ℕ) (at : ℕ) (out : List ℕ) → IsPass text at out → at ≤ length text
-pass_bound text at out specs.IsPass.begun = omega arith
-pass_bound text at out (specs.IsPass.copied next before from to) = to
-pass_bound text at out (specs.IsPass.replaced c put end before is goes puts around to) = to
-pass_bound text at out (specs.IsPass.renamed c end before is declares help to) = to
+pub pass_bound : (idioms : Idioms) (text : List ℕ) (at : ℕ) (out : List ℕ) → IsPass idioms text at out → at ≤ length text
+pass_bound idioms text at out specs.IsPass.begun = omega arith
+pass_bound idioms text at out (specs.IsPass.copied next before from to) = to
+pass_bound idioms text at out (specs.IsPass.replaced c put end before is goes puts around to) = to
+pass_bound idioms text at out (specs.IsPass.renamed c end before is declares help to) = to
 
 -- What follows from what an `Ok` says holds of the `Ok`.
 pub on_ok : {T E P Q : Type 0} → (P → Q) → (r : Result T E) → OnOk r P → OnOk r Q
 on_ok f (Ok v) p = f p
 on_ok f (Err e) p = tt
 
-pub pass_step : (text : List ℕ) (at : ℕ) (out : List ℕ) (c : Call) (start end : ℕ) (put : List ℕ) (new_at : ℕ) (new : List ℕ)
-    → IsPass text at out → Contains (calls_in text) c → HasToGo text c → IsPut text c put → at ≤ start → IsAround text c start end × (end ≤ length text) × (start ≤ length text)
-    → (new_at ≡ end) × (new ≡ (out ++ slice_range text at start) ++ put) → IsPass text new_at new
-pass_step text at out c start end put new_at new before is goes puts from (around, to, within) (at_is, new_is) =
-    subst (λ a. IsPass text a new) (sym at_is) (subst (IsPass text end) (sym new_is) (specs.IsPass.replaced c put end (specs.IsPass.copied start before from within) is goes puts around to))
+pub pass_step : (idioms : Idioms) (text : List ℕ) (at : ℕ) (out : List ℕ) (c : Call) (start end : ℕ) (put : List ℕ) (new_at : ℕ) (new : List ℕ)
+    → IsPass idioms text at out → Contains (calls_in text) c → HasToGo text c → MayPut idioms text c put → at ≤ start → IsAround text c start end × (end ≤ length text) × (start ≤ length text)
+    → (new_at ≡ end) × (new ≡ (out ++ slice_range text at start) ++ put) → IsPass idioms text new_at new
+pass_step idioms text at out c start end put new_at new before is goes puts from (around, to, within) (at_is, new_is) =
+    subst (λ a. IsPass idioms text a new) (sym at_is) (subst (IsPass idioms text end) (sym new_is) (specs.IsPass.replaced c put end (specs.IsPass.copied start before from within) is goes puts around to))
 
-pub help_step : (text : List ℕ) (at : ℕ) (out : List ℕ) (c : Call) (start end : ℕ) (new_at : ℕ) (new : List ℕ)
-    → IsPass text at out → Contains (calls_in text) c → DeclaresOption text c → at ≤ start → IsOldHelp text c start end × (end ≤ length text) × (start ≤ length text)
-    → (new_at ≡ end) × (new ≡ (out ++ slice_range text at start) ++ codes "AS_HELP_STRING") → IsPass text new_at new
-help_step text at out c start end new_at new before is declares from (help, to, within) (at_is, new_is) =
-    subst (λ a. IsPass text a new) (sym at_is) (subst (IsPass text end) (sym new_is) (specs.IsPass.renamed c end (specs.IsPass.copied start before from within) is declares help to))
+pub help_step : (idioms : Idioms) (text : List ℕ) (at : ℕ) (out : List ℕ) (c : Call) (start end : ℕ) (new_at : ℕ) (new : List ℕ)
+    → IsPass idioms text at out → Contains (calls_in text) c → DeclaresOption text c → at ≤ start → IsOldHelp text c start end × (end ≤ length text) × (start ≤ length text)
+    → (new_at ≡ end) × (new ≡ (out ++ slice_range text at start) ++ codes "AS_HELP_STRING") → IsPass idioms text new_at new
+help_step idioms text at out c start end new_at new before is declares from (help, to, within) (at_is, new_is) =
+    subst (λ a. IsPass idioms text a new) (sym at_is) (subst (IsPass idioms text end) (sym new_is) (specs.IsPass.renamed c end (specs.IsPass.copied start before from within) is declares help to))
 
-pub pass_end : {T E : Type 0} (r : Result T E) (text : List ℕ) (at : ℕ) (out new : List ℕ) → IsPass text at out
-    → new ≡ (if is_ok r then out ++ slice_range text at (length text) else out) → OnOk r (IsPass text (length text) new)
-pass_end (Ok v) text at out new before is = subst (IsPass text (length text)) (sym is) (specs.IsPass.copied (length text) before (pass_bound text at out before) (omega arith))
-pass_end (Err e) text at out new before is = tt
+pub pass_end : {T E : Type 0} (idioms : Idioms) (r : Result T E) (text : List ℕ) (at : ℕ) (out new : List ℕ) → IsPass idioms text at out
+    → new ≡ (if is_ok r then out ++ slice_range text at (length text) else out) → OnOk r (IsPass idioms text (length text) new)
+pass_end idioms (Ok v) text at out new before is = subst (IsPass idioms text (length text)) (sym is) (specs.IsPass.copied (length text) before (pass_bound idioms text at out before) (omega arith))
+pass_end idioms (Err e) text at out new before is = tt
 
-pub pass_more : {V : Type 0} (items : V → List ℕ) (text mid now : List ℕ) (o : Option V) (next : V) → o ≡ Some next → now ≡ mid
-    → IfSome o (λ v. IsPass now (length now) (items v)) → IsRewritten text mid → IsRewritten text (items next)
-pass_more items text mid now o next is same pass before =
-    specs.IsRewritten.passed before (subst (λ m. IsPass m (length m) (items next)) same (subst (λ o. IfSome o (λ v. IsPass now (length now) (items v))) is pass))
+pub pass_more : {V : Type 0} (idioms : Idioms) (items : V → List ℕ) (text mid now : List ℕ) (o : Option V) (next : V) → o ≡ Some next → now ≡ mid
+    → IfSome o (λ v. IsPass idioms now (length now) (items v)) → IsRewritten idioms text mid → IsRewritten idioms text (items next)
+pass_more idioms items text mid now o next is same pass before =
+    specs.IsRewritten.passed before (subst (λ m. IsPass idioms m (length m) (items next)) same (subst (λ o. IfSome o (λ v. IsPass idioms now (length now) (items v))) is pass))
 
 pub has_call : (calls : List CallAt) (all : List Call) (i : ℕ) (c : CallAt) → map seen calls ≡ all → i < length calls → c ≡ get_or calls i c → Contains all (seen c)
 has_call calls all i c is lt here =

@@ -2,7 +2,8 @@
 use Rattle.std.specs.Prelude.{◌≡◌, ◌⊎◌, ℕ, ◌<◌, ◌≤◌, ◌==◌, ◌||◌, Bool, true, false, List, [], ◌++◌, length, slice_range, Contains, codes}
 use Rattle.std.specs.List.{list_all}
 use Rattle.sourcecalls.specs.Calls.{Call, calls_in}
-use Rattle.replacing.specs.Put.{IsPut}
+use Rattle.replacing.specs.Put.{MayPut}
+use Rattle.replacing.specs.declared.idioms.Idioms.{Idioms}
 
 -- A space, a tab, a carriage return or a newline.
 abbrev pub is_blank : ℕ → Bool
@@ -27,15 +28,15 @@ IsOldHelp text c start end = (c.start ≤ start) × (end ≤ c.end) × (slice_ra
 -- One pass over the calls of a text has read so much of it, and written this. Everything is copied, with two exceptions: a call that has
 -- to go, with blanks around it, may be replaced by what may be put in its place; and in a call that declares an option the old name of
 -- AS_HELP_STRING may become the name.
-pub data IsPass (text : List ℕ) : ℕ → List ℕ → Type 0 where
-  begun : IsPass text 0 []
-  copied : {at : ℕ} {out : List ℕ} (next : ℕ) → IsPass text at out → at ≤ next → next ≤ length text → IsPass text next (out ++ slice_range text at next)
-  replaced : {at : ℕ} {out : List ℕ} (c : Call) (put : List ℕ) (end : ℕ) → IsPass text at out → Contains (calls_in text) c → HasToGo text c → IsPut text c put → IsAround text c at end → end ≤ length text
-      → IsPass text end (out ++ put)
-  renamed : {at : ℕ} {out : List ℕ} (c : Call) (end : ℕ) → IsPass text at out → Contains (calls_in text) c → DeclaresOption text c → IsOldHelp text c at end → end ≤ length text
-      → IsPass text end (out ++ codes "AS_HELP_STRING")
+pub data IsPass (idioms : Idioms) (text : List ℕ) : ℕ → List ℕ → Type 0 where
+  begun : IsPass idioms text 0 []
+  copied : {at : ℕ} {out : List ℕ} (next : ℕ) → IsPass idioms text at out → at ≤ next → next ≤ length text → IsPass idioms text next (out ++ slice_range text at next)
+  replaced : {at : ℕ} {out : List ℕ} (c : Call) (put : List ℕ) (end : ℕ) → IsPass idioms text at out → Contains (calls_in text) c → HasToGo text c → MayPut idioms text c put → IsAround text c at end → end ≤ length text
+      → IsPass idioms text end (out ++ put)
+  renamed : {at : ℕ} {out : List ℕ} (c : Call) (end : ℕ) → IsPass idioms text at out → Contains (calls_in text) c → DeclaresOption text c → IsOldHelp text c at end → end ≤ length text
+      → IsPass idioms text end (out ++ codes "AS_HELP_STRING")
 
 -- The one text becomes the other by passes over its calls, each of which reads what the one before it wrote.
-pub data IsRewritten : List ℕ → List ℕ → Type 0 where
-  same : {text : List ℕ} → IsRewritten text text
-  passed : {text mid out : List ℕ} → IsRewritten text mid → IsPass mid (length mid) out → IsRewritten text out
+pub data IsRewritten (idioms : Idioms) : List ℕ → List ℕ → Type 0 where
+  same : {text : List ℕ} → IsRewritten idioms text text
+  passed : {text mid out : List ℕ} → IsRewritten idioms text mid → IsPass idioms mid (length mid) out → IsRewritten idioms text out

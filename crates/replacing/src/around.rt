@@ -62,6 +62,14 @@ pub(crate) fn indent_of(text: &[u8], spot: Spot, at: usize) -> &[u8]
     }
 }
 
+/// Returns the spaces and tabs that the line of a place begins with.
+pub(crate) fn line_indent(text: &[u8], spot: Spot) -> &[u8]
+    ensures { list_all specs.is_space result.now ≡ true }
+{
+    let line = from(text, spot.line);
+    spaces_of(before(line, space_len(line)))
+}
+
 /// Returns whether a statement may end before this text.
 pub(crate) fn ends_statement(rest: &[u8]) -> bool {
     let rest = from(rest, space_len(rest));

@@ -1,13 +1,19 @@
 //! What the calls of a text become.
 
-ghost use Rattle.std.specs.Prelude.{◌≡◌, Some, [], map, IfOk, IfSome};
+ghost use Rattle.std.specs.Prelude.{◌≡◌, Some, [], length, map, IfOk, IfSome};
 ghost use Rattle.sourcecalls.specs.Calls.{seen};
 ghost use Rattle.exactidioms.specs.Exact.{text_of};
+ghost use Rattle.exactidioms.specs.Rows.{Differs};
 ghost use Rattle.replacing.specs.Put as specs;
 
-use crate::around::{before_idle, begins_statement, ends_statement, indent_of, space_len};
+use crate::around::{
+    before_idle, begins_statement, ends_statement, indent_of, line_indent, space_len,
+};
+use crate::bare::bare_in;
+use crate::idioms::Idioms;
+use crate::noting::noted_text;
 use crate::spots::Spot;
-use exactidioms::{Exact, exact_of, filled};
+use exactidioms::{Exact, Other, exact_of, filled, other_of};
 use macrotable::Index;
 use sourcecalls::{CallAt, Extent};
 use std::alloc::{AllocError, Global};
@@ -27,6 +33,8 @@ pub(crate) struct Known {
     index: Index,
     /// Whether a call or the bracket that an argument begins with ends at each offset.
     borders: Vec<bool>,
+    /// Whether each offset is in an argument that has no brackets around it.
+    bare: Vec<bool>,
     /// Whether the source looks for a compiler itself. If not, a macro that is left out may have done so.
     has_compiler: bool,
 }
@@ -53,17 +61,23 @@ pub(crate) fn known_of(alloc: Global, text: &[u8], calls: &[CallAt]) -> Result<K
     let index = Index::new(alloc)?;
     let mut borders = vec![in alloc; false; text.len().saturating_add(1)]?;
     mark_calls(&mut borders, calls);
+    let bare = bare_in(alloc, text, calls)?;
     let has_compiler = calls.iter().any(|call| part(text, call.start, call.name_end)
         == b"AC_PROG_CC".as_slice());
     Ok(Known {
         index,
         borders,
+        bare,
         has_compiler,
     })
 }
 
 /// Returns the texts of the arguments. Empty parentheses have none.
-fn texts<'a>(alloc: Global, text: &'a [u8], args: &[Extent]) -> Result<Vec<&'a [u8]>, AllocError>
+pub(crate) fn texts<'a>(
+    alloc: Global,
+    text: &'a [u8],
+    args: &[Extent],
+) -> Result<Vec<&'a [u8]>, AllocError>
     ensures { IfOk result (λ v. map (λ a. a.now) v.items ≡ map (specs.arg_text text.now) args.now) }
 {
     let mut out = Vec::new(alloc);
@@ -74,7 +88,7 @@ fn texts<'a>(alloc: Global, text: &'a [u8], args: &[Extent]) -> Result<Vec<&'a [
 }
 
 /// Returns the name that the table has for a call: that of AC_OUTPUT with arguments says so.
-fn name_of<'a>(text: &'a [u8], call: &CallAt) -> &'a [u8]
+pub(crate) fn name_of<'a>(text: &'a [u8], call: &CallAt) -> &'a [u8]
     ensures { result.now ≡ specs.row_name text.now (seen call.now) }
 {
     if call.is_of_profile {
@@ -224,27 +238,140 @@ fn exact_for(
     text: &[u8],
     call: &CallAt,
 ) -> Result<Option<Exact>, AllocError>
-    ensures { IfOk result (λ o. IfSome o (λ e. specs.put_for text.now (seen call.now) ≡ Some (text_of e))) }
+    ensures put { IfOk result (λ o. IfSome o (λ e. specs.put_for text.now (seen call.now) ≡ Some (text_of e))) }
+    ensures exact { IfOk result (λ o. IfSome o (λ e. specs.IsExactFor text.now (seen call.now))) }
 {
     exact_of(alloc, &known.index, name_of(text, call), call.args.len())
 }
 
+/// Returns the change of a call that has to go to this text or nothing.
+fn to_exact(
+    alloc: Global,
+    known: &Known,
+    text: &[u8],
+    spot: Spot,
+    call: &CallAt,
+    exact: Exact,
+) -> Result<Option<Change>, AllocError>
+    requires put { specs.put_for text.now (seen call.now) ≡ Some (text_of exact) }
+    ensures { IfOk result (λ o. IfSome o (λ change. specs.IsPut text.now (seen call.now) change.put.items)) }
+{
+    match exact {
+        Exact::Nothing => left_out(alloc, known, text, spot, call),
+        Exact::Idiom(idiom) => to_idiom(alloc, text, spot, call, idiom),
+    }
+}
+
 /// Returns the change of a call that has to go, if it has an exact idiom.
-pub(crate) fn change_of(
+#[tactic(auto, using(crate::proofs::Puts::exactly))]
+fn exact_change(
     alloc: Global,
     known: &Known,
     text: &[u8],
     spot: Spot,
     call: &CallAt,
 ) -> Result<Option<Change>, AllocError>
-    ensures { IfOk result (λ o. IfSome o (λ change. specs.IsPut text.now (seen call.now) change.put.items)) }
+    ensures { IfOk result (λ o. IfSome o (λ change. specs.IsPut text.now (seen call.now) change.put.items × specs.IsExactFor text.now (seen call.now))) }
+{
+    match exact_for(alloc, known, text, call)? {
+        Some(exact) => to_exact(alloc, known, text, spot, call, exact),
+        None => Ok(None),
+    }
+}
+
+/// Returns the idiom of a call that differs from the macro, if it has one.
+#[tactic(auto, unfolding(crate::specs::Put::put_for))]
+fn other_for(
+    alloc: Global,
+    known: &Known,
+    text: &[u8],
+    call: &CallAt,
+) -> Result<Option<Other>, AllocError>
+    ensures put { IfOk result (λ o. IfSome o (λ e. specs.put_for text.now (seen call.now) ≡ Some e.idiom.now)) }
+    ensures said { IfOk result (λ o. IfSome o (λ e. Differs (specs.row_name text.now (seen call.now)) (length (seen call.now).args) e.said.now)) }
+{
+    other_of(alloc, &known.index, name_of(text, call), call.args.len())
+}
+
+/// Returns whether a comment can be in the place of a call: nothing is before it on its line, or the bracket that an argument begins
+/// with is right before it, and it is in no argument without brackets.
+fn can_be_noted(known: &Known, text: &[u8], spot: Spot, call: &CallAt) -> bool {
+    let before = call.start.checked_sub(1).and_then(|at| text.get(at));
+    known.bare.get(call.start) == Some(&false) && (spot.is_first || before == Some(&b'['))
+}
+
+/// Returns the change of a call to a text below a comment.
+fn to_noted(
+    alloc: Global,
+    text: &[u8],
+    spot: Spot,
+    call: &CallAt,
+    other: &Other,
+) -> Result<Option<Change>, AllocError>
+    requires idiom { specs.put_for text.now (seen call.now) ≡ Some other.now.idiom.now }
+    requires said { Differs (specs.row_name text.now (seen call.now)) (length (seen call.now).args) other.now.said.now }
+    ensures { IfOk result (λ o. IfSome o (λ change. specs.IsNoted text.now (seen call.now) change.put.items)) }
+{
+    match noted_text(alloc, text, line_indent(text, spot), call, other)? {
+        Some(put) => Ok(Some(change_to(call, put))),
+        None => Ok(None),
+    }
+}
+
+/// Returns the change of a call that has to go to an idiom that differs from the macro, below a comment, if it has one.
+fn noted_change(
+    alloc: Global,
+    known: &Known,
+    text: &[u8],
+    spot: Spot,
+    call: &CallAt,
+) -> Result<Option<Change>, AllocError>
+    ensures { IfOk result (λ o. IfSome o (λ change. specs.IsNoted text.now (seen call.now) change.put.items)) }
+{
+    if !can_be_noted(known, text, spot, call) {
+        return Ok(None);
+    }
+    match other_for(alloc, known, text, call)? {
+        Some(other) => to_noted(alloc, text, spot, call, &other),
+        None => Ok(None),
+    }
+}
+
+/// Returns the change of a call that has to go and has no exact idiom, if it has an idiom that is wanted.
+#[tactic(auto, using(crate::proofs::Puts::noted_may))]
+fn other_change(
+    alloc: Global,
+    idioms: Idioms,
+    known: &Known,
+    text: &[u8],
+    spot: Spot,
+    call: &CallAt,
+) -> Result<Option<Change>, AllocError>
+    ensures { IfOk result (λ o. IfSome o (λ change. specs.MayPut idioms text.now (seen call.now) change.put.items)) }
+{
+    match idioms {
+        Idioms::Exact => Ok(None),
+        Idioms::All => noted_change(alloc, known, text, spot, call),
+    }
+}
+
+/// Returns the change of a call that has to go, if it has an idiom that is wanted.
+#[tactic(auto, using(crate::proofs::Puts::exact_may))]
+pub(crate) fn change_of(
+    alloc: Global,
+    idioms: Idioms,
+    known: &Known,
+    text: &[u8],
+    spot: Spot,
+    call: &CallAt,
+) -> Result<Option<Change>, AllocError>
+    ensures { IfOk result (λ o. IfSome o (λ change. specs.MayPut idioms text.now (seen call.now) change.put.items)) }
 {
     if !is_same_here(text, spot, call) {
         return Ok(None);
     }
-    match exact_for(alloc, known, text, call)? {
-        None => Ok(None),
-        Some(Exact::Nothing) => left_out(alloc, known, text, spot, call),
-        Some(Exact::Idiom(idiom)) => to_idiom(alloc, text, spot, call, idiom),
+    match exact_change(alloc, known, text, spot, call)? {
+        Some(change) => Ok(Some(change)),
+        None => other_change(alloc, idioms, known, text, spot, call),
     }
 }

@@ -1,13 +1,14 @@
-//! One pass over the calls of a text, each of which is replaced if it has an exact idiom.
+//! One pass over the calls of a text, each of which is replaced if it has an idiom that is wanted.
 
 ghost use Rattle.std.specs.Prelude.{◌≡◌, ◌⊎◌, ◌≤◌, ◌<◌, ◌++◌, true, map, length, slice_range, codes, Contains, IfOk, IfSome, OnOk, IsTrue};
 ghost use Rattle.std.specs.List.{list_all};
 ghost use Rattle.sourcecalls.specs.Calls.{calls_in, seen};
-ghost use Rattle.replacing.specs.Put.{IsPut};
+ghost use Rattle.replacing.specs.Put.{MayPut};
 ghost use Rattle.replacing.specs.Rewritten as specs;
 
 use crate::around::blank_len;
 use crate::changes::{Change, Known, change_of, known_of};
+use crate::idioms::Idioms;
 use crate::spots::{Spot, Walk};
 use sourcecalls::{CallAt, calls_of};
 use std::alloc::{AllocError, Global};
@@ -130,6 +131,7 @@ fn write_change(
 
 /// Copies what is before the change of a call, and writes the change, unless it is not after what was read.
 fn put_change(
+    idioms: Idioms,
     text: &[u8],
     call: &CallAt,
     change: &Change,
@@ -137,9 +139,9 @@ fn put_change(
 ) -> Result<(), AllocError>
     requires call { Contains (calls_in text.now) (seen call.now) }
     requires goes { specs.HasToGo text.now (seen call.now) }
-    requires put { IsPut text.now (seen call.now) change.now.put.items }
-    requires begun { specs.IsPass text.now pass.old.at pass.old.out.items }
-    ensures { OnOk result (specs.IsPass text.now pass.new.at pass.new.out.items) }
+    requires put { MayPut idioms text.now (seen call.now) change.now.put.items }
+    requires begun { specs.IsPass idioms text.now pass.old.at pass.old.out.items }
+    ensures { OnOk result (specs.IsPass idioms text.now pass.new.at pass.new.out.items) }
 {
     if change.start < pass.at || !is_around(text, call, change.start, change.end) {
         return Ok(());
@@ -149,6 +151,7 @@ fn put_change(
 
 /// Writes the name of AS_HELP_STRING in place of its old one, which is between two offsets, unless it is not after what was read.
 fn put_help(
+    idioms: Idioms,
     text: &[u8],
     call: &CallAt,
     start: usize,
@@ -157,8 +160,8 @@ fn put_help(
 ) -> Result<(), AllocError>
     requires call { Contains (calls_in text.now) (seen call.now) }
     requires declares { specs.DeclaresOption text.now (seen call.now) }
-    requires begun { specs.IsPass text.now pass.old.at pass.old.out.items }
-    ensures { OnOk result (specs.IsPass text.now pass.new.at pass.new.out.items) }
+    requires begun { specs.IsPass idioms text.now pass.old.at pass.old.out.items }
+    ensures { OnOk result (specs.IsPass idioms text.now pass.new.at pass.new.out.items) }
 {
     if start < pass.at || !is_old_help(text, call, start, end) {
         return Ok(());
@@ -167,20 +170,33 @@ fn put_help(
 }
 
 /// Writes the name of AS_HELP_STRING in place of its old one, if the help of an option begins with that.
-fn pass_option(text: &[u8], call: &CallAt, pass: &mut Pass) -> Result<(), AllocError>
+fn pass_option(
+    idioms: Idioms,
+    text: &[u8],
+    call: &CallAt,
+    pass: &mut Pass,
+) -> Result<(), AllocError>
     requires call { Contains (calls_in text.now) (seen call.now) }
     requires declares { specs.DeclaresOption text.now (seen call.now) }
-    requires begun { specs.IsPass text.now pass.old.at pass.old.out.items }
-    ensures { OnOk result (specs.IsPass text.now pass.new.at pass.new.out.items) }
+    requires begun { specs.IsPass idioms text.now pass.old.at pass.old.out.items }
+    ensures { OnOk result (specs.IsPass idioms text.now pass.new.at pass.new.out.items) }
 {
     match old_help(text, call) {
-        Some(at) => put_help(text, call, at, at.saturating_add(OLD_HELP.len()), pass),
+        Some(at) => put_help(
+            idioms,
+            text,
+            call,
+            at,
+            at.saturating_add(OLD_HELP.len()),
+            pass,
+        ),
         None => Ok(()),
     }
 }
 
 /// Writes the change of a call that has to go, if it has one.
 fn put_found(
+    idioms: Idioms,
     text: &[u8],
     call: &CallAt,
     change: Option<Change>,
@@ -188,19 +204,20 @@ fn put_found(
 ) -> Result<(), AllocError>
     requires call { Contains (calls_in text.now) (seen call.now) }
     requires goes { specs.HasToGo text.now (seen call.now) }
-    requires put { IfSome change (λ c. IsPut text.now (seen call.now) c.put.items) }
-    requires begun { specs.IsPass text.now pass.old.at pass.old.out.items }
-    ensures { OnOk result (specs.IsPass text.now pass.new.at pass.new.out.items) }
+    requires put { IfSome change (λ c. MayPut idioms text.now (seen call.now) c.put.items) }
+    requires begun { specs.IsPass idioms text.now pass.old.at pass.old.out.items }
+    ensures { OnOk result (specs.IsPass idioms text.now pass.new.at pass.new.out.items) }
 {
     match change {
-        Some(change) => put_change(text, call, &change, pass),
+        Some(change) => put_change(idioms, text, call, &change, pass),
         None => Ok(()),
     }
 }
 
-/// Replaces a call if it has to go and has an exact idiom, unless it was in what was replaced.
+/// Replaces a call if it has to go and has an idiom that is wanted, unless it was in what was replaced.
 fn pass_call(
     alloc: Global,
+    idioms: Idioms,
     known: &Known,
     text: &[u8],
     spot: Spot,
@@ -208,18 +225,18 @@ fn pass_call(
     pass: &mut Pass,
 ) -> Result<(), AllocError>
     requires call { Contains (calls_in text.now) (seen call.now) }
-    requires begun { specs.IsPass text.now pass.old.at pass.old.out.items }
-    ensures { OnOk result (specs.IsPass text.now pass.new.at pass.new.out.items) }
+    requires begun { specs.IsPass idioms text.now pass.old.at pass.old.out.items }
+    ensures { OnOk result (specs.IsPass idioms text.now pass.new.at pass.new.out.items) }
 {
     if call.start < pass.at {
         return Ok(());
     }
     if has_to_go(text, call) {
-        let change = change_of(alloc, known, text, spot, call)?;
-        return put_found(text, call, change, pass);
+        let change = change_of(alloc, idioms, known, text, spot, call)?;
+        return put_found(idioms, text, call, change, pass);
     }
     if declares_option(text, call) {
-        return pass_option(text, call, pass);
+        return pass_option(idioms, text, call, pass);
     }
     Ok(())
 }
@@ -227,34 +244,39 @@ fn pass_call(
 /// Goes over the calls of a text.
 fn pass_calls(
     alloc: Global,
+    idioms: Idioms,
     known: &Known,
     text: &[u8],
     calls: &[CallAt],
     pass: &mut Pass,
 ) -> Result<(), AllocError>
     requires calls { map seen calls.now ≡ calls_in text.now }
-    requires begun { specs.IsPass text.now pass.old.at pass.old.out.items }
-    ensures { OnOk result (specs.IsPass text.now pass.new.at pass.new.out.items) }
+    requires begun { specs.IsPass idioms text.now pass.old.at pass.old.out.items }
+    ensures { OnOk result (specs.IsPass idioms text.now pass.new.at pass.new.out.items) }
 {
     let mut walk = Walk::new();
     for i in 0..calls.len() {
         let spot = walk.spot_of(text, &calls[i]);
-        pass_call(alloc, known, text, spot, &calls[i], pass)?;
+        pass_call(alloc, idioms, known, text, spot, &calls[i], pass)?;
     }
     Ok(())
 }
 
 /// Copies the rest of a text.
-fn finish(text: &[u8], pass: &mut Pass) -> Result<(), AllocError>
-    requires begun { specs.IsPass text.now pass.old.at pass.old.out.items }
-    ensures { OnOk result (specs.IsPass text.now (length text.now) pass.new.out.items) }
+fn finish(idioms: Idioms, text: &[u8], pass: &mut Pass) -> Result<(), AllocError>
+    requires begun { specs.IsPass idioms text.now pass.old.at pass.old.out.items }
+    ensures { OnOk result (specs.IsPass idioms text.now (length text.now) pass.new.out.items) }
 {
     pass.out.extend_from_slice(&text[pass.at..text.len()])
 }
 
-/// Returns the text with each call replaced that has to go and has an exact idiom, or `None` if there is none.
-pub(crate) fn replaced_once(alloc: Global, text: &[u8]) -> Result<Option<Vec<u8>>, AllocError>
-    ensures { IfOk result (λ o. IfSome o (λ v. specs.IsPass text.now (length text.now) v.items)) }
+/// Returns the text with each call replaced that has to go and has an idiom that is wanted, or `None` if there is none.
+pub(crate) fn replaced_once(
+    alloc: Global,
+    idioms: Idioms,
+    text: &[u8],
+) -> Result<Option<Vec<u8>>, AllocError>
+    ensures { IfOk result (λ o. IfSome o (λ v. specs.IsPass idioms text.now (length text.now) v.items)) }
 {
     let calls = calls_of(alloc, text)?;
     let mut pass = Pass {
@@ -263,8 +285,8 @@ pub(crate) fn replaced_once(alloc: Global, text: &[u8]) -> Result<Option<Vec<u8>
         has_changed: false,
     };
     let known = known_of(alloc, text, calls.as_slice())?;
-    pass_calls(alloc, &known, text, calls.as_slice(), &mut pass)?;
-    finish(text, &mut pass)?;
+    pass_calls(alloc, idioms, &known, text, calls.as_slice(), &mut pass)?;
+    finish(idioms, text, &mut pass)?;
     let Pass {
         out,
         has_changed,

@@ -12,6 +12,8 @@
 #[cfg(test)]
 mod calls;
 #[cfg(test)]
+mod cases;
+#[cfg(test)]
 mod errors;
 #[cfg(test)]
 mod ifs;

@@ -1,34 +1,47 @@
 -- What one step of a pass makes.
-use Rattle.std.proofs.Common.{◌≡◌, ℕ, ◌≤◌, List, ◌++◌, length, Result, Ok, Err, is_ok, OnOk, if◌then◌else◌, slice_range, sym, subst, Option, Some, arith}
-use Rattle.std.specs.Prelude.{Bool, IfOk, IfSome, IsTrue, codes}
+use Rattle.std.proofs.Common.{◌≡◌, ℕ, ◌≤◌, List, ◌++◌, length, Result, Ok, Err, is_ok, OnOk, if◌then◌else◌, slice_range, sym, subst, Option, Some, None, arith}
+use Rattle.std.specs.Prelude.{IfOk, IfSome, codes}
+use Rattle.shellcompounds.specs.Cases.{IsCase}
+use Rattle.shellcompounds.specs.Ifs.{IsIf}
 use Rattle.shellforms.specs.Calls.{IsPut}
-use Rattle.shellforms.specs.Formed.{IsPass, IsFormed}
+use Rattle.shellforms.specs.Formed.{IsPass, IsFormed, MayPut}
 use Rattle.shellforms.specs.Formed as specs
-use Rattle.shellforms.specs.Ifs.{IsIf}
-
-pub if_end : (text : List ℕ) (start end : ℕ) (parts : List (List ℕ)) → IsIf text start end parts → end ≤ length text
-if_end text start end parts i = i.statement.word.0
 
 pub pass_bound : (text : List ℕ) (at : ℕ) (out : List ℕ) → IsPass text at out → at ≤ length text
 pass_bound text at out specs.IsPass.begun = omega arith
 pass_bound text at out (specs.IsPass.copied next before from to) = to
-pass_bound text at out (specs.IsPass.chosen end parts put before is puts) = if_end text _ at parts is
+pass_bound text at out (specs.IsPass.chosen end parts put before is puts) = is.statement.word.0
+pass_bound text at out (specs.IsPass.cased end parts put before is puts) = is.statement.word.0
 
 -- What follows from what an `Ok` says holds of the `Ok`.
 pub on_ok : {T E P Q : Type 0} → (P → Q) → (r : Result T E) → OnOk r P → OnOk r Q
 on_ok f (Ok v) p = f p
 on_ok f (Err e) p = tt
 
--- What follows from what a `true` says holds of the `true`.
-pub on_true : {E P Q : Type 0} → (P → Q) → (r : Result Bool E) → IfOk r (λ b. IsTrue b → P) → IfOk r (λ b. IsTrue b → Q)
-on_true f (Ok b) p = λ is. f (p is)
-on_true f (Err e) p = tt
-
-pub pass_step : (text : List ℕ) (at : ℕ) (out : List ℕ) (start end : ℕ) (parts : List (List ℕ)) (put : List ℕ) (new_at : ℕ) (new : List ℕ)
-    → IsPass text at out → IsIf text start end parts → IsPut (codes "AS_IF") parts put → at ≤ start → start ≤ length text
+pub pass_step : (text : List ℕ) (at : ℕ) (out : List ℕ) (start end : ℕ) (put : List ℕ) (new_at : ℕ) (new : List ℕ)
+    → IsPass text at out → MayPut text start end put → at ≤ start → start ≤ length text
     → (new_at ≡ end) × (new ≡ (out ++ slice_range text at start) ++ put) → IsPass text new_at new
-pass_step text at out start end parts put new_at new before is puts from within (at_is, new_is) =
-    subst (λ a. IsPass text a new) (sym at_is) (subst (IsPass text end) (sym new_is) (specs.IsPass.chosen end parts put (specs.IsPass.copied start before from within) is puts))
+unfolding MayPut
+pass_step text at out start end put new_at new before puts from within (at_is, new_is) =
+    subst (λ a. IsPass text a new) (sym at_is) (subst (IsPass text end) (sym new_is) (puts _ (specs.IsPass.copied start before from within)))
+
+-- What may be put for a statement is what its parts and the macro say.
+on_put : {E V : Type 0} (P Q : V → Type 0) → ((v : V) → P v → Q v) → (r : Result (Option V) E) → IfOk r (λ o. IfSome o P) → IfOk r (λ o. IfSome o Q)
+on_put P Q f (Ok (Some v)) p = f v p
+on_put P Q f (Ok None) p = tt
+on_put P Q f (Err e) p = tt
+
+pub if_put : {E V : Type 0} (items : V → List ℕ) (text : List ℕ) (start end : ℕ) (parts : List (List ℕ)) (r : Result (Option V) E) → IsIf text start end parts
+    → IfOk r (λ o. IfSome o (λ v. IsPut (codes "AS_IF") parts (items v))) → IfOk r (λ o. IfSome o (λ v. MayPut text start end (items v)))
+unfolding MayPut
+if_put items text start end parts r is =
+    on_put (λ v. IsPut (codes "AS_IF") parts (items v)) (λ v. MayPut text start end (items v)) (λ v puts out before. specs.IsPass.chosen end parts (items v) before is puts) r
+
+pub case_put : {E V : Type 0} (items : V → List ℕ) (text : List ℕ) (start end : ℕ) (parts : List (List ℕ)) (r : Result (Option V) E) → IsCase text start end parts
+    → IfOk r (λ o. IfSome o (λ v. IsPut (codes "AS_CASE") parts (items v))) → IfOk r (λ o. IfSome o (λ v. MayPut text start end (items v)))
+unfolding MayPut
+case_put items text start end parts r is =
+    on_put (λ v. IsPut (codes "AS_CASE") parts (items v)) (λ v. MayPut text start end (items v)) (λ v puts out before. specs.IsPass.cased end parts (items v) before is puts) r
 
 pub pass_end : {T E : Type 0} (r : Result T E) (text : List ℕ) (at : ℕ) (out new : List ℕ) → IsPass text at out
     → new ≡ (if is_ok r then out ++ slice_range text at (length text) else out) → OnOk r (IsPass text (length text) new)

@@ -1,15 +1,22 @@
 -- What the statements of a shell in a text become. The offsets are those of the text that is read. All of this is own.
 use Rattle.std.specs.Prelude.{◌≡◌, ℕ, ◌≤◌, List, [], ◌++◌, length, slice_range, codes}
+use Rattle.shellcompounds.specs.Cases.{IsCase}
+use Rattle.shellcompounds.specs.Ifs.{IsIf}
 use Rattle.shellforms.specs.Calls.{IsPut}
-use Rattle.shellforms.specs.Ifs.{IsIf}
 
 -- One pass over a text has read so much of it, and written this. Everything is copied, but an `if` may become the call of AS_IF with the
--- same conditions and bodies in the same order.
+-- same conditions and bodies in the same order, and a `case` that of AS_CASE with the same word, patterns and bodies.
 pub data IsPass (text : List ℕ) : ℕ → List ℕ → Type 0 where
   begun : IsPass text 0 []
   copied : {at : ℕ} {out : List ℕ} (next : ℕ) → IsPass text at out → at ≤ next → next ≤ length text → IsPass text next (out ++ slice_range text at next)
   chosen : {at : ℕ} {out : List ℕ} (end : ℕ) (parts : List (List ℕ)) (put : List ℕ) → IsPass text at out → IsIf text at end parts
       → IsPut (codes "AS_IF") parts put → IsPass text end (out ++ put)
+  cased : {at : ℕ} {out : List ℕ} (end : ℕ) (parts : List (List ℕ)) (put : List ℕ) → IsPass text at out → IsCase text at end parts
+      → IsPut (codes "AS_CASE") parts put → IsPass text end (out ++ put)
+
+-- A pass that has read the text up to `start` may put this in the place of what is between the offsets.
+unfoldable pub MayPut : List ℕ → ℕ → ℕ → List ℕ → Type 0
+MayPut text start end put = (out : List ℕ) → IsPass text start out → IsPass text end (out ++ put)
 
 -- The one text becomes the other by passes, each of which reads what the one before it wrote.
 pub data IsFormed : List ℕ → List ℕ → Type 0 where

@@ -1,4 +1,2 @@
 pub mod Calls
-pub mod Ifs
-pub mod Places
 pub mod Formed

@@ -1,7 +1,8 @@
 //! The compound statements that are open in a list of statements.
 
-use crate::cut::{Branch, Cut};
+use crate::cut::Cut;
 use crate::shell::{Sign, Word};
+use shellcompounds::{CaseBranch, CaseCut, IfBranch, IfCut};
 use std::alloc::{AllocError, Global};
 
 /// What a compound statement is.
@@ -41,10 +42,18 @@ struct Compound {
     is_in_list: bool,
     /// Whether it may be rewritten.
     is_allowed: bool,
-    /// The parts of an `if` so far.
-    cut: Cut,
-    /// The branch of an `if` that was begun.
-    branch: Branch,
+    /// The offset of its first byte.
+    start: usize,
+    /// The branches of an `if` so far, and the one that was begun.
+    branches: Vec<IfBranch>,
+    branch: IfBranch,
+    at_else: Option<usize>,
+    /// Whether the word of a `case` was read.
+    has_subject: bool,
+    at_in: usize,
+    /// The branches of a `case` so far, and the parenthesis after the patterns of the one that was begun.
+    cases: Vec<CaseBranch>,
+    at_close: usize,
 }
 
 impl Compound {
@@ -82,9 +91,9 @@ pub(crate) struct Compounds {
     found: Vec<Cut>,
 }
 
-/// Returns a branch that begins at an offset.
-fn branch_at(start: usize) -> Branch {
-    Branch {
+/// Returns a branch of an `if` that begins at an offset.
+fn branch_at(start: usize) -> IfBranch {
+    IfBranch {
         start,
         at_then: 0,
         end: 0,
@@ -146,14 +155,14 @@ impl Compounds {
             stage: Stage::Head,
             is_in_list,
             is_allowed,
-            cut: Cut {
-                start: word.start,
-                branches: Vec::new(alloc),
-                at_else: None,
-                at_fi: 0,
-                end: 0,
-            },
+            start: word.start,
+            branches: Vec::new(alloc),
             branch: branch_at(word.end),
+            at_else: None,
+            has_subject: false,
+            at_in: 0,
+            cases: Vec::new(alloc),
+            at_close: 0,
         })?;
         self.front = Front::Joined;
         Ok(())
@@ -182,7 +191,7 @@ impl Compounds {
         match self.open.last_mut() {
             Some(last) if last.kind == Kind::If && last.stage == Stage::Body => {
                 last.branch.end = word.start;
-                last.cut.branches.push(last.branch)?;
+                last.branches.push(last.branch)?;
                 last.branch = branch_at(word.end);
                 last.stage = Stage::Head;
                 last.is_allowed &= !is_quoted;
@@ -198,8 +207,8 @@ impl Compounds {
         match self.open.last_mut() {
             Some(last) if last.kind == Kind::If && last.stage == Stage::Body => {
                 last.branch.end = word.start;
-                last.cut.branches.push(last.branch)?;
-                last.cut.at_else = Some(word.start);
+                last.branches.push(last.branch)?;
+                last.at_else = Some(word.start);
                 last.stage = Stage::Default;
                 last.is_allowed &= !is_quoted;
                 self.front = Front::Statement;
@@ -219,18 +228,58 @@ impl Compounds {
         let Compound {
             stage,
             is_allowed,
-            mut cut,
+            start,
+            mut branches,
             mut branch,
+            at_else,
             ..
         } = compound;
         if stage == Stage::Body {
             branch.end = word.start;
-            cut.branches.push(branch)?;
+            branches.push(branch)?;
         }
-        cut.at_fi = word.start;
-        cut.end = word.end;
         if is_allowed && !is_quoted {
-            self.found.push(cut)?;
+            self.found.push(Cut::If(IfCut {
+                start,
+                branches,
+                at_else,
+                at_fi: word.start,
+                end: word.end,
+            }))?;
+        }
+        Ok(())
+    }
+
+    /// Closes a `case` that was taken out.
+    fn close_case(
+        &mut self,
+        compound: Compound,
+        word: Word,
+        is_quoted: bool,
+    ) -> Result<(), AllocError> {
+        let Compound {
+            stage,
+            is_allowed,
+            start,
+            at_in,
+            mut cases,
+            at_close,
+            ..
+        } = compound;
+        if stage == Stage::Body {
+            cases.push(CaseBranch {
+                at_close,
+                end: word.start,
+            })?;
+        }
+        if is_allowed && !is_quoted {
+            self.found.push(Cut::Case(CaseCut {
+                start,
+                at_in,
+                branches: cases,
+                at_esac: word.start,
+                end: word.end,
+            }))?;
         }
         Ok(())
     }
@@ -259,6 +308,14 @@ impl Compounds {
                 self.lose();
                 Ok(())
             }
+            None => Ok(()),
+        }
+    }
+
+    /// Reads `esac`.
+    fn read_esac(&mut self, word: Word, is_quoted: bool) -> Result<(), AllocError> {
+        match self.take(Kind::Case) {
+            Some(compound) => self.close_case(compound, word, is_quoted),
             None => Ok(()),
         }
     }
@@ -318,7 +375,7 @@ impl Compounds {
             b"fi" => self.read_fi(word, is_quoted)?,
             b"do" => self.read_do(),
             b"done" => self.close(Kind::Loop),
-            b"esac" => self.close(Kind::Case),
+            b"esac" => self.read_esac(word, is_quoted)?,
             b"}" => self.close(Kind::Group),
             b"!" => self.front = Front::Joined,
             _ => return Ok(false),
@@ -327,25 +384,32 @@ impl Compounds {
     }
 
     /// Reads a word of the patterns of a `case`, or of what is before them. Returns whether it is one.
-    fn read_of_case(&mut self, text: &[u8]) -> bool {
+    fn read_of_case(
+        &mut self,
+        text: &[u8],
+        word: Word,
+        is_quoted: bool,
+    ) -> Result<bool, AllocError> {
         let Some(last) = self.open.last_mut() else {
-            return false;
+            return Ok(false);
         };
         if last.kind != Kind::Case {
-            return false;
+            return Ok(false);
         }
         if last.stage == Stage::Head {
-            if text == b"in".as_slice() && last.branch.at_then > 0 {
+            if text == b"in".as_slice() && last.has_subject {
                 last.stage = Stage::Patterns;
+                last.at_in = word.start;
+                last.is_allowed &= !is_quoted;
             }
-            last.branch.at_then = 1;
-            return true;
+            last.has_subject = true;
+            return Ok(true);
         }
         if last.stage == Stage::Patterns && text == b"esac".as_slice() {
-            self.close(Kind::Case);
-            return true;
+            self.read_esac(word, is_quoted)?;
+            return Ok(true);
         }
-        last.stage == Stage::Patterns
+        Ok(last.stage == Stage::Patterns)
     }
 
     /// Reads a word. Returns whether it is a call that is a statement of a list that calls may be put in.
@@ -357,7 +421,7 @@ impl Compounds {
         is_quoted: bool,
     ) -> Result<bool, AllocError> {
         self.semicolon = None;
-        if self.is_lost || self.read_of_case(text) {
+        if self.is_lost || self.read_of_case(text, word, is_quoted)? {
             return Ok(false);
         }
         if self.front == Front::Further {
@@ -402,10 +466,11 @@ impl Compounds {
     }
 
     /// Reads a parenthesis that closes: of a command, of a function, or after patterns.
-    fn read_close_paren(&mut self) {
+    fn read_close_paren(&mut self, at: usize) {
         if let Some(last) = self.open.last_mut() {
             if last.stage == Stage::Patterns {
                 last.stage = Stage::Body;
+                last.at_close = at;
                 self.front = Front::Statement;
                 return;
             }
@@ -418,17 +483,34 @@ impl Compounds {
     }
 
     /// Reads a `;`. A second one after it ends a branch of a `case`.
-    fn read_semicolon(&mut self, at: usize) {
-        let is_second = self
-            .semicolon
-            .is_some_and(|before| before.saturating_add(1) == at);
+    fn read_semicolon(&mut self, at: usize) -> Result<(), AllocError> {
+        let first = at.saturating_sub(1);
+        let is_second = at > 0 && self.semicolon == Some(first);
         self.semicolon = if is_second { None } else { Some(at) };
         self.front = Front::Statement;
         if let Some(last) = self.open.last_mut() {
             if is_second && last.kind == Kind::Case && last.stage == Stage::Body {
                 last.stage = Stage::Patterns;
+                last.cases.push(CaseBranch {
+                    at_close: last.at_close,
+                    end: first,
+                })?;
             }
         }
+        Ok(())
+    }
+
+    /// Reads `&` or `|`. If it is right after a `;`, a branch of a `case` goes on with the next one.
+    fn read_joint(&mut self, at: usize) {
+        let is_after_semicolon = at > 0 && self.semicolon == Some(at.saturating_sub(1));
+        if let Some(last) = self.open.last_mut() {
+            if is_after_semicolon && last.kind == Kind::Case && last.stage == Stage::Body {
+                last.stage = Stage::Patterns;
+                last.is_allowed = false;
+            }
+        }
+        self.semicolon = None;
+        self.front = Front::Joined;
     }
 
     /// Reads a newline. What is joined to the next command stays so.
@@ -452,14 +534,11 @@ impl Compounds {
         match sign {
             Sign::Inside | Sign::Blank => {}
             Sign::Newline => self.read_newline(),
-            Sign::Semicolon => self.read_semicolon(at),
-            Sign::Joint => {
-                self.semicolon = None;
-                self.front = Front::Joined;
-            }
+            Sign::Semicolon => self.read_semicolon(at)?,
+            Sign::Joint => self.read_joint(at),
             Sign::Redirection => self.front = Front::Further,
             Sign::OpenParen => self.read_open_paren(alloc, at)?,
-            Sign::CloseParen => self.read_close_paren(),
+            Sign::CloseParen => self.read_close_paren(at),
         }
         Ok(())
     }

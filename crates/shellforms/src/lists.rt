@@ -277,6 +277,6 @@ pub(crate) fn cuts_of(alloc: Global, text: &[u8]) -> Result<Vec<Cut>, AllocError
         };
         read_list(alloc, text, calls.as_slice(), list, &mut lists, &mut found)?;
     }
-    found.sort_by_key(|cut| cut.start)?;
+    found.sort_by_key(|cut| cut.start())?;
     Ok(found)
 }

@@ -1,14 +1,12 @@
 //! One pass over a text, in which statements become calls.
 
-ghost use Rattle.std.specs.Prelude.{◌≡◌, ◌≤◌, ◌++◌, map, length, slice_range, codes, IfOk, IfSome, OnOk};
-ghost use Rattle.shellforms.specs.Calls.{IsPut};
+ghost use Rattle.std.specs.Prelude.{◌≡◌, ◌≤◌, ◌++◌, length, slice_range, IfOk, IfSome, OnOk};
 ghost use Rattle.shellforms.specs.Formed as specs;
-ghost use Rattle.shellforms.specs.Ifs.{IsIf};
 
-use crate::branches::parts_of;
-use crate::calls::accepted_call;
 use crate::cut::Cut;
 use crate::lists::cuts_of;
+use crate::puts::{put_for_case, put_for_if};
+use shellcompounds::{CaseCut, IfCut};
 use std::alloc::{AllocError, Global};
 
 /// A text that is written while another is read.
@@ -39,55 +37,60 @@ fn write_change(
     Ok(())
 }
 
-/// Writes the call for an `if` with these parts, unless the `if` was in what was rewritten.
+/// Writes what is put in the place of a statement between two offsets, unless the statement was in what was rewritten.
 fn put_found(
     text: &[u8],
-    cut: &Cut,
-    parts: &[&[u8]],
+    start: usize,
+    end: usize,
     put: &[u8],
     pass: &mut Pass,
 ) -> Result<(), AllocError>
-    requires parts { IsIf text.now cut.now.start cut.now.end (map (λ p. p.now) parts.now) }
-    requires put { IsPut (codes "AS_IF") (map (λ p. p.now) parts.now) put.now }
+    requires put { specs.MayPut text.now start end put.now }
     requires begun { specs.IsPass text.now pass.old.at pass.old.out.items }
     ensures { OnOk result (specs.IsPass text.now pass.new.at pass.new.out.items) }
 {
-    if cut.start < pass.at || text.len() < cut.start {
+    if start < pass.at || text.len() < start {
         return Ok(());
     }
-    let _parts = parts;
-    write_change(text, cut.start, cut.end, put, pass)
-}
-
-/// Writes the call for an `if` with these parts, unless it is none, or acrun doesn't accept it.
-fn put_if(
-    alloc: Global,
-    text: &[u8],
-    cut: &Cut,
-    parts: &[&[u8]],
-    pass: &mut Pass,
-) -> Result<(), AllocError>
-    requires parts { IsIf text.now cut.now.start cut.now.end (map (λ p. p.now) parts.now) }
-    requires begun { specs.IsPass text.now pass.old.at pass.old.out.items }
-    ensures { OnOk result (specs.IsPass text.now pass.new.at pass.new.out.items) }
-{
-    match accepted_call(alloc, b"AS_IF", parts)? {
-        Some(put) => put_found(text, cut, parts, put.as_slice(), pass),
-        None => Ok(()),
-    }
+    write_change(text, start, end, put, pass)
 }
 
 /// Writes the call for an `if`, if there is one, unless it was in what was rewritten.
-fn pass_cut(alloc: Global, text: &[u8], cut: &Cut, pass: &mut Pass) -> Result<(), AllocError>
+fn pass_if(alloc: Global, text: &[u8], cut: &IfCut, pass: &mut Pass) -> Result<(), AllocError>
     requires begun { specs.IsPass text.now pass.old.at pass.old.out.items }
     ensures { OnOk result (specs.IsPass text.now pass.new.at pass.new.out.items) }
 {
     if cut.start < pass.at {
         return Ok(());
     }
-    match parts_of(alloc, text, cut)? {
-        Some(parts) => put_if(alloc, text, cut, parts.as_slice(), pass),
+    match put_for_if(alloc, text, cut)? {
+        Some(put) => put_found(text, cut.start, cut.end, put.as_slice(), pass),
         None => Ok(()),
+    }
+}
+
+/// Writes the call for a `case`, if there is one, unless it was in what was rewritten.
+fn pass_case(alloc: Global, text: &[u8], cut: &CaseCut, pass: &mut Pass) -> Result<(), AllocError>
+    requires begun { specs.IsPass text.now pass.old.at pass.old.out.items }
+    ensures { OnOk result (specs.IsPass text.now pass.new.at pass.new.out.items) }
+{
+    if cut.start < pass.at {
+        return Ok(());
+    }
+    match put_for_case(alloc, text, cut)? {
+        Some(put) => put_found(text, cut.start, cut.end, put.as_slice(), pass),
+        None => Ok(()),
+    }
+}
+
+/// Writes the call for a statement, if there is one, unless it was in what was rewritten.
+fn pass_cut(alloc: Global, text: &[u8], cut: &Cut, pass: &mut Pass) -> Result<(), AllocError>
+    requires begun { specs.IsPass text.now pass.old.at pass.old.out.items }
+    ensures { OnOk result (specs.IsPass text.now pass.new.at pass.new.out.items) }
+{
+    match cut {
+        Cut::If(cut) => pass_if(alloc, text, cut, pass),
+        Cut::Case(cut) => pass_case(alloc, text, cut, pass),
     }
 }
 

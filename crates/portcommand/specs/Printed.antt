@@ -1,0 +1,21 @@
+-- What `acrun port` prints, and its exit status. All of this is own.
+use Rattle.std.specs.Prelude.{◌≡◌, ℕ, Bool, true, false, List, Option, Some, None}
+use Rattle.replacing.specs.declared.idioms.Idioms.{Idioms}
+use Rattle.porting.specs.Ported.{IsPorted}
+use Rattle.portcommand.specs.Asked.{Asked}
+
+-- The status after a text that has comments about what is left, or none.
+abbrev pub status_of : Bool → ℕ
+status_of true = 1
+status_of false = 0
+
+-- A source with this text becomes what is printed, and the status says whether that has comments about what is left.
+pub record IsPrinted (idioms : Idioms) (text out : List ℕ) (status : ℕ) : Type 0 where
+  pub has_comments : Bool
+  pub ported : IsPorted idioms text has_comments out
+  pub status_is : status ≡ status_of has_comments
+
+-- Some text becomes what is printed, by the idioms that are asked for. Wrong words ask for nothing.
+abbrev pub IsAnswer : Option Asked → List ℕ → ℕ → Type 0
+IsAnswer (Some asked) out status = (text : List ℕ) × IsPrinted asked.idioms text out status
+IsAnswer None out status = ⊥

@@ -1,0 +1,23 @@
+//! Reads the parts of compound statements of a shell, whose words are at known offsets: `if` and `case`.
+//!
+//! The parts are slices of the text, in the order in which a macro takes them. If the offsets are not those of such a statement, or if a
+//! part can't be an argument of a macro as it is, there are none.
+//!
+//! ```text
+//! if test -n "$a"; then b=1; else b=2; fi    // test -n "$a", b=1, b=2
+//! case $a in x | y) b=1 ;; *) b=2 ;; esac    // $a, x | y, b=1, b=2
+//! ```
+//!
+//! Read `specs/Places` (where a statement may begin and end) and `specs/Parts` first, and then `specs/Ifs` and `specs/Cases`, which say
+//! what the parts are. A call fails only if memory runs out. "own" marks a rule that no manual gives.
+#![tactic(auto)]
+
+mod branches;
+mod cases;
+mod cut;
+mod parts;
+mod places;
+
+pub use branches::if_parts;
+pub use cases::case_parts;
+pub use cut::{CaseBranch, CaseCut, IfBranch, IfCut};

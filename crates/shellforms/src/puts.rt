@@ -1,0 +1,70 @@
+//! What is put in the place of a statement.
+
+ghost use Rattle.std.specs.Prelude.{map, IfOk, IfSome};
+ghost use Rattle.shellcompounds.specs.Cases.{IsCase};
+ghost use Rattle.shellcompounds.specs.Ifs.{IsIf};
+ghost use Rattle.shellforms.specs.Formed as specs;
+
+use crate::calls::accepted_call;
+use shellcompounds::{CaseCut, IfCut, case_parts, if_parts};
+use std::alloc::{AllocError, Global};
+
+/// Returns the call for an `if` with these parts, unless acrun doesn't accept it.
+#[tactic(auto, using(crate::proofs::Steps::if_put))]
+fn put_if(
+    alloc: Global,
+    text: &[u8],
+    cut: &IfCut,
+    parts: &[&[u8]],
+) -> Result<Option<Vec<u8>>, AllocError>
+    requires { IsIf text.now cut.now.start cut.now.end (map (λ p. p.now) parts.now) }
+    ensures { IfOk result (λ o. IfSome o (λ v. specs.MayPut text.now cut.now.start cut.now.end v.items)) }
+{
+    let _ = text;
+    let _ = cut;
+    accepted_call(alloc, b"AS_IF", parts)
+}
+
+/// Returns the call for an `if`, unless it is none, or acrun doesn't accept it.
+pub(crate) fn put_for_if(
+    alloc: Global,
+    text: &[u8],
+    cut: &IfCut,
+) -> Result<Option<Vec<u8>>, AllocError>
+    ensures { IfOk result (λ o. IfSome o (λ v. specs.MayPut text.now cut.now.start cut.now.end v.items)) }
+{
+    match if_parts(alloc, text, cut)? {
+        Some(parts) => put_if(alloc, text, cut, parts.as_slice()),
+        None => Ok(None),
+    }
+}
+
+/// Returns the call for a `case` with these parts, unless acrun doesn't accept it.
+#[tactic(auto, using(crate::proofs::Steps::case_put))]
+fn put_case(
+    alloc: Global,
+    text: &[u8],
+    cut: &CaseCut,
+    parts: &[&[u8]],
+) -> Result<Option<Vec<u8>>, AllocError>
+    requires { IsCase text.now cut.now.start cut.now.end (map (λ p. p.now) parts.now) }
+    ensures { IfOk result (λ o. IfSome o (λ v. specs.MayPut text.now cut.now.start cut.now.end v.items)) }
+{
+    let _ = text;
+    let _ = cut;
+    accepted_call(alloc, b"AS_CASE", parts)
+}
+
+/// Returns the call for a `case`, unless it is none, or acrun doesn't accept it.
+pub(crate) fn put_for_case(
+    alloc: Global,
+    text: &[u8],
+    cut: &CaseCut,
+) -> Result<Option<Vec<u8>>, AllocError>
+    ensures { IfOk result (λ o. IfSome o (λ v. specs.MayPut text.now cut.now.start cut.now.end v.items)) }
+{
+    match case_parts(alloc, text, cut)? {
+        Some(parts) => put_case(alloc, text, cut, parts.as_slice()),
+        None => Ok(None),
+    }
+}
