@@ -27,7 +27,7 @@ case $a in b) x=1;; *) x=2^Jesac => AS_CASE([$a], [b], [x=1], [x=2^J])
 case $a in (b) x=1;; ( c | d ) x=2;; esac => AS_CASE([$a], [b], [x=1], [c | d], [x=2])
 // on several lines
 case $a in^J  b)^J    x=1^J    ;;^J  *)^J    x=2 ;;^Jesac => AS_CASE([$a], [b], [^J    x=1^J    ], [^J    x=2])
-case^J $a^Jin^Jb) x=1;;^J^J  c) x=2;;^Jesac => AS_CASE([$a], [b], [x=1], [c], [x=2])
+case  $a^Jin^Jb) x=1;;^J^J  c) x=2;;^Jesac => AS_CASE([$a], [b], [x=1], [c], [x=2])
 // quotes, of a shell and of m4
 case $a in "b)" | c\)) x=1;; esac => AS_CASE([$a], ["b)" | c\)], [x=1])
 case $a in [b]*) x=1;; esac => AS_CASE([$a], [[b]*], [x=1])

@@ -1,7 +1,7 @@
 //! Tests of what `acrun lint` and `acrun why` report, and of how text is shown.
 //!
 //! `calls` has which calls are found in a source, `errors` which errors, `reading_on` those that are found by reading on after each,
-//! `warned` which warnings, and `shows` what is shown of them. `log_lines`
+//! `warned` which warnings, and `shows` what is shown of them. `ifs`, `cases` and `guards` have which statements of a shell become calls. `log_lines`
 //! has what each line of a log is, and `whys` the command why over files: no contract says what it prints, so a row
 //! compares the exit status and both streams. Each of these tests is a table of rows, in the form that the crate `testrows`
 //! reads. `offsets` has the places of offsets in a text, `terminal` a text as a terminal is given it, and `last_line` the last
@@ -15,6 +15,8 @@ mod calls;
 mod cases;
 #[cfg(test)]
 mod errors;
+#[cfg(test)]
+mod guards;
 #[cfg(test)]
 mod ifs;
 #[cfg(test)]

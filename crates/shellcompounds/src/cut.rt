@@ -47,3 +47,14 @@ pub struct CaseCut {
     /// The offset after `esac`.
     pub end: usize,
 }
+
+/// A statement that a condition guards, by the offsets of its parts.
+#[derive(Clone, Copy)]
+pub struct GuardCut {
+    /// The offset of the condition.
+    pub start: usize,
+    /// The offset of the last `&&` or `||`.
+    pub at_joint: usize,
+    /// The offset after the statement.
+    pub end: usize,
+}

@@ -93,7 +93,7 @@ fn is_list_start(text: &[u8], at: usize) -> bool
 }
 
 /// Returns whether a statement may begin at an offset, or before the spaces before it.
-fn begins_statement(text: &[u8], start: usize) -> bool
+pub(crate) fn begins_statement(text: &[u8], start: usize) -> bool
     ensures { IsTrue result → specs.BeginsStatement text.now start }
 {
     let from = before_spaces(text, 0, start);
@@ -128,7 +128,7 @@ fn is_comment(text: &[u8], at: usize) -> bool
 }
 
 /// Returns whether a statement ends at an offset, or after the spaces after it.
-fn ends_statement(text: &[u8], end: usize) -> bool
+pub(crate) fn ends_statement(text: &[u8], end: usize) -> bool
     ensures { IsTrue result → specs.EndsStatement text.now end }
 {
     let to = after_spaces(text, end);

@@ -2,7 +2,7 @@
 
 use crate::cut::Cut;
 use crate::shell::{Sign, Word};
-use shellcompounds::{CaseBranch, CaseCut, IfBranch, IfCut};
+use shellcompounds::{CaseBranch, CaseCut, GuardCut, IfBranch, IfCut};
 use std::alloc::{AllocError, Global};
 
 /// What a compound statement is.
@@ -88,6 +88,8 @@ pub(crate) struct Compounds {
     is_function: bool,
     /// Whether the sign before was a `;`, and its offset.
     semicolon: Option<usize>,
+    /// The statement that begins with a test, up to the last word that was read.
+    guard: Option<GuardCut>,
     found: Vec<Cut>,
 }
 
@@ -109,14 +111,61 @@ impl Compounds {
             is_lost: false,
             is_function: false,
             semicolon: None,
+            guard: None,
             found: Vec::new(alloc),
         }
     }
 
-    /// Returns the statements that may be rewritten.
-    pub(crate) fn into_found(self) -> Vec<Cut> {
+    /// Ends the list, and returns the statements that may be rewritten.
+    pub(crate) fn into_found(mut self) -> Result<Vec<Cut>, AllocError> {
+        self.end_guard()?;
         let Compounds { found, .. } = self;
-        found
+        Ok(found)
+    }
+
+    /// Ends a statement that begins with a test, if one was begun. If something is joined to the test, the statement may be rewritten.
+    fn end_guard(&mut self) -> Result<(), AllocError> {
+        if let Some(guard) = self.guard {
+            if guard.at_joint > 0 && guard.at_joint < guard.end {
+                self.found.push(Cut::Guard(guard))?;
+            }
+        }
+        self.guard = None;
+        Ok(())
+    }
+
+    /// Begins or extends a statement that begins with a test, up to the end of a word.
+    fn read_guard(&mut self, text: &[u8], word: Word, is_quoted: bool) {
+        if let Some(guard) = self.guard {
+            self.guard = Some(GuardCut {
+                end: word.end,
+                ..guard
+            });
+        } else if text == b"test".as_slice()
+            && self.is_list()
+            && self.front == Front::Statement
+            && !self.is_function
+            && !is_quoted
+        {
+            self.guard = Some(GuardCut {
+                start: word.start,
+                at_joint: 0,
+                end: word.end,
+            });
+        }
+    }
+
+    /// Reads the first or the second byte of a joint, in a statement that begins with a test.
+    fn join_guard(&mut self, at: usize) {
+        if let Some(guard) = self.guard {
+            let is_second = at > 0 && guard.at_joint == at.saturating_sub(1);
+            if !is_second {
+                self.guard = Some(GuardCut {
+                    at_joint: at,
+                    ..guard
+                });
+            }
+        }
     }
 
     /// Returns whether a call may be put in the list that is read.
@@ -141,6 +190,7 @@ impl Compounds {
         word: Word,
         is_quoted: bool,
     ) -> Result<(), AllocError> {
+        self.guard = None;
         let is_in_list = self.is_list();
         let is_allowed = is_in_list
             && self.front == Front::Statement
@@ -424,6 +474,7 @@ impl Compounds {
         if self.is_lost || self.read_of_case(text, word, is_quoted)? {
             return Ok(false);
         }
+        self.read_guard(text, word, is_quoted);
         if self.front == Front::Further {
             return Ok(false);
         }
@@ -488,6 +539,7 @@ impl Compounds {
         let is_second = at > 0 && self.semicolon == Some(first);
         self.semicolon = if is_second { None } else { Some(at) };
         self.front = Front::Statement;
+        self.end_guard()?;
         if let Some(last) = self.open.last_mut() {
             if is_second && last.kind == Kind::Case && last.stage == Stage::Body {
                 last.stage = Stage::Patterns;
@@ -511,17 +563,20 @@ impl Compounds {
         }
         self.semicolon = None;
         self.front = Front::Joined;
+        self.join_guard(at);
     }
 
     /// Reads a newline. What is joined to the next command stays so.
-    fn read_newline(&mut self) {
+    fn read_newline(&mut self) -> Result<(), AllocError> {
         self.semicolon = None;
-        if self.front != Front::Joined
-            && !self.open.last().is_some_and(|last| last.kind == Kind::Case
+        if self.front == Front::Joined
+            || self.open.last().is_some_and(|last| last.kind == Kind::Case
                 && last.stage == Stage::Head)
         {
-            self.front = Front::Statement;
+            return Ok(());
         }
+        self.front = Front::Statement;
+        self.end_guard()
     }
 
     /// Reads a sign at an offset.
@@ -533,10 +588,13 @@ impl Compounds {
     ) -> Result<(), AllocError> {
         match sign {
             Sign::Inside | Sign::Blank => {}
-            Sign::Newline => self.read_newline(),
+            Sign::Newline => self.read_newline()?,
             Sign::Semicolon => self.read_semicolon(at)?,
             Sign::Joint => self.read_joint(at),
-            Sign::Redirection => self.front = Front::Further,
+            Sign::Redirection => {
+                self.front = Front::Further;
+                self.guard = None;
+            }
             Sign::OpenParen => self.read_open_paren(alloc, at)?,
             Sign::CloseParen => self.read_close_paren(at),
         }

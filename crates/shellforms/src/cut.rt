@@ -1,12 +1,13 @@
 //! Where the words of a statement are.
 
-use shellcompounds::{CaseCut, IfCut};
+use shellcompounds::{CaseCut, GuardCut, IfCut};
 
-/// A compound statement by the offsets of its words.
+/// A statement by the offsets of its words.
 #[derive(Drop)]
 pub(crate) enum Cut {
     If(IfCut),
     Case(CaseCut),
+    Guard(GuardCut),
 }
 
 impl Cut {
@@ -15,6 +16,7 @@ impl Cut {
         match self {
             Cut::If(cut) => cut.start,
             Cut::Case(cut) => cut.start,
+            Cut::Guard(cut) => cut.start,
         }
     }
 }

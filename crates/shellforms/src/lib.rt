@@ -1,4 +1,5 @@
-//! Rewrites statements of a shell that mean the same as a statement that acrun reads: `if` becomes AS_IF, and `case` AS_CASE.
+//! Rewrites statements of a shell that mean the same as a statement that acrun reads: `if` becomes AS_IF, `case`
+//! AS_CASE, and a statement after `&&` or `||` AS_IF.
 //!
 //! A statement is rewritten only if the new call, read alone, is one call with the same parts, and acrun accepts it. All else is copied to
 //! the byte.
@@ -6,10 +7,11 @@
 //! ```text
 //! if test -n "$a"; then b=1; else b=2; fi    // becomes AS_IF([test -n "$a"], [b=1], [b=2])
 //! case $a in x | y) b=1 ;; *) b=2 ;; esac    // becomes AS_CASE([$a], [x | y], [b=1], [b=2])
+//! test -n "$a" || b=2                        // becomes AS_IF([test -n "$a"], [], [b=2])
 //! if test -f a; then b=1; fi                 // stays, since acrun reads no test of files
 //! ```
 //!
-//! Read the definitions first: those of `shellcompounds` say what an `if`, a `case` and their parts are, `specs/Calls` what is put in
+//! Read the definitions first: those of `shellcompounds` say what these statements and their parts are, `specs/Calls` what is put in
 //! their place, and `Formed` what is copied. In `src`, `shell` (what each byte is to a shell), `compounds` (which statements are open) and
 //! `lists` (each list of statements of a source) look for statements. Nothing is proved of what they find: `shellcompounds` reads the
 //! parts, `calls` the new call, and `puts` joins the two. `passing` is one pass over a text. A call fails only if memory runs out. "own"

@@ -255,7 +255,7 @@ fn read_list(
     }
     reader.end_word(alloc, text, calls, lists)?;
     let Reader { compounds, .. } = reader;
-    for cut in compounds.into_found() {
+    for cut in compounds.into_found()? {
         found.push(cut)?;
     }
     Ok(())

@@ -15,7 +15,7 @@ const PASSES: usize = 70;
 ///
 /// Fails only if memory runs out.
 pub fn formed(alloc: Global, text: &[u8]) -> Result<Vec<u8>, AllocError>
-    // An `if` may become the call of AS_IF with its parts, and a `case` that of AS_CASE. All else is copied.
+    // An `if` or a guarded statement may become the call of AS_IF with its parts, and a `case` that of AS_CASE. All else is copied.
     ensures formed { IfOk result (λ v. specs.IsFormed text.now v.items) }
 {
     let mut out = Vec::from_slice(alloc, text)?;

@@ -1,12 +1,13 @@
 //! One pass over a text, in which statements become calls.
 
-ghost use Rattle.std.specs.Prelude.{◌≡◌, ◌≤◌, ◌++◌, length, slice_range, IfOk, IfSome, OnOk};
+ghost use Rattle.std.specs.Prelude.{◌≡◌, ◌≤◌, ◌++◌, false, length, slice_range, IfOk, IfSome, OnOk};
+ghost use Rattle.shellcompounds.specs.Guards.{ReadsStatus};
 ghost use Rattle.shellforms.specs.Formed as specs;
 
 use crate::cut::Cut;
 use crate::lists::cuts_of;
-use crate::puts::{put_for_case, put_for_if};
-use shellcompounds::{CaseCut, IfCut};
+use crate::puts::{put_for_case, put_for_guard, put_for_if};
+use shellcompounds::{CaseCut, GuardCut, IfCut, reads_status};
 use std::alloc::{AllocError, Global};
 
 /// A text that is written while another is read.
@@ -83,14 +84,55 @@ fn pass_case(alloc: Global, text: &[u8], cut: &CaseCut, pass: &mut Pass) -> Resu
     }
 }
 
-/// Writes the call for a statement, if there is one, unless it was in what was rewritten.
-fn pass_cut(alloc: Global, text: &[u8], cut: &Cut, pass: &mut Pass) -> Result<(), AllocError>
+/// Writes the call for a statement that a condition guards, if there is one, unless it was in what was rewritten.
+fn pass_unread(alloc: Global, text: &[u8], cut: GuardCut, pass: &mut Pass) -> Result<(), AllocError>
     requires begun { specs.IsPass text.now pass.old.at pass.old.out.items }
+    requires no_status { ReadsStatus text.now → ⊥ }
+    ensures { OnOk result (specs.IsPass text.now pass.new.at pass.new.out.items) }
+{
+    if cut.start < pass.at {
+        return Ok(());
+    }
+    match put_for_guard(alloc, text, cut)? {
+        Some(put) => put_found(text, cut.start, cut.end, put.as_slice(), pass),
+        None => Ok(()),
+    }
+}
+
+/// Writes the call for a statement that a condition guards, unless the text reads the status of a command.
+fn pass_guard(
+    alloc: Global,
+    text: &[u8],
+    cut: GuardCut,
+    reads: bool,
+    pass: &mut Pass,
+) -> Result<(), AllocError>
+    requires begun { specs.IsPass text.now pass.old.at pass.old.out.items }
+    requires reads { reads ≡ false → ReadsStatus text.now → ⊥ }
+    ensures { OnOk result (specs.IsPass text.now pass.new.at pass.new.out.items) }
+{
+    if reads {
+        return Ok(());
+    }
+    pass_unread(alloc, text, cut, pass)
+}
+
+/// Writes the call for a statement, if there is one, unless it was in what was rewritten.
+fn pass_cut(
+    alloc: Global,
+    text: &[u8],
+    cut: &Cut,
+    reads: bool,
+    pass: &mut Pass,
+) -> Result<(), AllocError>
+    requires begun { specs.IsPass text.now pass.old.at pass.old.out.items }
+    requires reads { reads ≡ false → ReadsStatus text.now → ⊥ }
     ensures { OnOk result (specs.IsPass text.now pass.new.at pass.new.out.items) }
 {
     match cut {
         Cut::If(cut) => pass_if(alloc, text, cut, pass),
         Cut::Case(cut) => pass_case(alloc, text, cut, pass),
+        Cut::Guard(cut) => pass_guard(alloc, text, *cut, reads, pass),
     }
 }
 
@@ -99,8 +141,9 @@ fn pass_cuts(alloc: Global, text: &[u8], cuts: &[Cut], pass: &mut Pass) -> Resul
     requires begun { specs.IsPass text.now pass.old.at pass.old.out.items }
     ensures { OnOk result (specs.IsPass text.now pass.new.at pass.new.out.items) }
 {
+    let reads = reads_status(text);
     for i in 0..cuts.len() {
-        pass_cut(alloc, text, &cuts[i], pass)?;
+        pass_cut(alloc, text, &cuts[i], reads, pass)?;
     }
     Ok(())
 }

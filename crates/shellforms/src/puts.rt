@@ -2,11 +2,12 @@
 
 ghost use Rattle.std.specs.Prelude.{map, IfOk, IfSome};
 ghost use Rattle.shellcompounds.specs.Cases.{IsCase};
+ghost use Rattle.shellcompounds.specs.Guards.{IsGuarded, ReadsStatus};
 ghost use Rattle.shellcompounds.specs.Ifs.{IsIf};
 ghost use Rattle.shellforms.specs.Formed as specs;
 
 use crate::calls::accepted_call;
-use shellcompounds::{CaseCut, IfCut, case_parts, if_parts};
+use shellcompounds::{CaseCut, GuardCut, IfCut, case_parts, guard_parts, if_parts};
 use std::alloc::{AllocError, Global};
 
 /// Returns the call for an `if` with these parts, unless acrun doesn't accept it.
@@ -65,6 +66,38 @@ pub(crate) fn put_for_case(
 {
     match case_parts(alloc, text, cut)? {
         Some(parts) => put_case(alloc, text, cut, parts.as_slice()),
+        None => Ok(None),
+    }
+}
+
+/// Returns the call for a statement that a condition guards, with these parts, unless acrun doesn't accept it.
+#[tactic(auto, using(crate::proofs::Steps::guard_put))]
+fn put_guard(
+    alloc: Global,
+    text: &[u8],
+    cut: GuardCut,
+    parts: &[&[u8]],
+) -> Result<Option<Vec<u8>>, AllocError>
+    requires parts { IsGuarded text.now cut.start cut.end (map (λ p. p.now) parts.now) }
+    requires no_status { ReadsStatus text.now → ⊥ }
+    ensures { IfOk result (λ o. IfSome o (λ v. specs.MayPut text.now cut.start cut.end v.items)) }
+{
+    let _ = text;
+    let _ = cut;
+    accepted_call(alloc, b"AS_IF", parts)
+}
+
+/// Returns the call for a statement that a condition guards, unless it is none, or acrun doesn't accept it.
+pub(crate) fn put_for_guard(
+    alloc: Global,
+    text: &[u8],
+    cut: GuardCut,
+) -> Result<Option<Vec<u8>>, AllocError>
+    requires { ReadsStatus text.now → ⊥ }
+    ensures { IfOk result (λ o. IfSome o (λ v. specs.MayPut text.now cut.start cut.end v.items)) }
+{
+    match guard_parts(alloc, text, cut)? {
+        Some(parts) => put_guard(alloc, text, cut, parts.as_slice()),
         None => Ok(None),
     }
 }
