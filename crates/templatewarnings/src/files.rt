@@ -93,8 +93,53 @@ fn open_end(text: &[u8]) -> Option<(usize, usize)> {
     Some((text.len(), 0))
 }
 
+/// Returns the offset of the first line that begins a rule for `distclean`.
+fn distclean_at(text: &[u8]) -> Option<usize> {
+    let mut at = 0usize;
+    for line in text.split(|byte| *byte == b'\n') {
+        if line.starts_with(b"distclean:") || line.starts_with(b"distclean ") {
+            return Some(at);
+        }
+        at = at.saturating_add(line.len()).saturating_add(1);
+    }
+    None
+}
+
+/// Returns the length of the rule that a text begins with: its first line, and the lines after it that continue one, that begin with a
+/// tab, or that are empty.
+fn rule_length(text: &[u8]) -> usize {
+    let mut at = 0usize;
+    let mut is_joined = true;
+    for line in text.split(|byte| *byte == b'\n') {
+        if !is_joined && !line.is_empty() && !line.starts_with(b"\t") {
+            return at;
+        }
+        is_joined = line.ends_with(b"\\");
+        at = at.saturating_add(line.len()).saturating_add(1);
+    }
+    text.len()
+}
+
+/// Returns the rule for `distclean` with its offset, if there is one.
+fn distclean_in(text: &[u8]) -> Option<(usize, &[u8])> {
+    let at = distclean_at(text)?;
+    let rest = text.get(at..)?;
+    Some((at, rest.get(..rule_length(rest))?))
+}
+
+/// Returns where a rule for `distclean` names `config.status`, if it has no `conftest`.
+fn cleaned_in(text: &[u8]) -> Option<(usize, usize)> {
+    let (at, rule) = distclean_in(text)?;
+    if rule.contains_str(b"conftest") {
+        return None;
+    }
+    let (start, length) = first_of(rule, &[b"config.status"])?;
+    Some((at.saturating_add(start), length))
+}
+
 /// Adds the warnings about the template of a file: names between two `@` that no statement sets, a directory below `datarootdir`
-/// without that, a rule that runs `config.status`, and a last line without a newline (own).
+/// without that, a rule that runs `config.status`, a `distclean` that removes `config.status` and no conftest, and a last line without a
+/// newline (own).
 ///
 /// # Errors
 ///
@@ -120,6 +165,8 @@ pub fn warn_of_file(
     )?;
     let script = first_of(text, &[b"./config.status"]);
     warn_at(alloc, out, text, file, script, keys::CONFIG_STATUS_SCRIPT)?;
+    let cleaned = cleaned_in(text);
+    warn_at(alloc, out, text, file, cleaned, keys::CONFTESTS_LEFT)?;
     warn_at(
         alloc,
         out,

@@ -523,182 +523,185 @@ pub const NO_DATAROOTDIR: Key = Key((17223, 17237), (17238, 17351), (17352, 1739
 /// config.status is a record here, and no script that can be run
 pub const CONFIG_STATUS_SCRIPT: Key = Key((17395, 17415), (17416, 17477), (17478, 17577));
 
+/// this rule removes config.status, and leaves the conftests of a run
+pub const CONFTESTS_LEFT: Key = Key((17578, 17592), (17593, 17659), (17660, 17769));
+
 /// the last line has no newline, and so has that of the file that is made; Autoconf adds one
-pub const NO_NEWLINE_AT_END: Key = Key((17578, 17595), (17596, 17685), (17686, 17726));
+pub const NO_NEWLINE_AT_END: Key = Key((17770, 17787), (17788, 17877), (17878, 17918));
 
 /// no statement defines NAME
-pub const NEVER_DEFINED: Key = Key((17727, 17740), (17741, 17763), (17764, 17764));
+pub const NEVER_DEFINED: Key = Key((17919, 17932), (17933, 17955), (17956, 17956));
 
 /// did you mean NAME?
-pub const NEAR_DEFINITION: Key = Key((17764, 17779), (17780, 17780), (17780, 17795));
+pub const NEAR_DEFINITION: Key = Key((17956, 17971), (17972, 17972), (17972, 17987));
 
 /// Autoconf checks its default headers by itself; write
-pub const DEFAULT_HEADERS: Key = Key((17796, 17811), (17812, 17812), (17812, 17888));
+pub const DEFAULT_HEADERS: Key = Key((17988, 18003), (18004, 18004), (18004, 18080));
 
 /// no header template has NAME, so its definition goes nowhere
-pub const NOT_IN_HEADER: Key = Key((17889, 17902), (17903, 17959), (17960, 18018));
+pub const NOT_IN_HEADER: Key = Key((18081, 18094), (18095, 18151), (18152, 18210));
 
 /// write in configure.ac
-pub const SET_SHELL: Key = Key((18019, 18028), (18029, 18029), (18029, 18081));
+pub const SET_SHELL: Key = Key((18211, 18220), (18221, 18221), (18221, 18273));
 
 /// there is no config header; write the definitions into a header of AC_CONFIG_HEADERS, or build DEFS by hand with AC_SUBST
-pub const SET_DEFS: Key = Key((18082, 18090), (18091, 18091), (18091, 18211));
+pub const SET_DEFS: Key = Key((18274, 18282), (18283, 18283), (18283, 18403));
 
 /// leave it out: each make sets MAKE
-pub const SET_MAKE: Key = Key((18212, 18220), (18221, 18221), (18221, 18254));
+pub const SET_MAKE: Key = Key((18404, 18412), (18413, 18413), (18413, 18446));
 
 /// write in configure.ac
-pub const SET_INSTALL: Key = Key((18255, 18266), (18267, 18267), (18267, 18326));
+pub const SET_INSTALL: Key = Key((18447, 18458), (18459, 18459), (18459, 18518));
 
 /// write in configure.ac
-pub const SET_INSTALL_PROGRAM: Key = Key((18327, 18346), (18347, 18347), (18347, 18414));
+pub const SET_INSTALL_PROGRAM: Key = Key((18519, 18538), (18539, 18539), (18539, 18606));
 
 /// write in configure.ac
-pub const SET_INSTALL_SCRIPT: Key = Key((18415, 18433), (18434, 18434), (18434, 18500));
+pub const SET_INSTALL_SCRIPT: Key = Key((18607, 18625), (18626, 18626), (18626, 18692));
 
 /// write in configure.ac
-pub const SET_INSTALL_DATA: Key = Key((18501, 18517), (18518, 18518), (18518, 18589));
+pub const SET_INSTALL_DATA: Key = Key((18693, 18709), (18710, 18710), (18710, 18781));
 
 /// write in configure.ac
-pub const SET_MKDIR_P: Key = Key((18590, 18601), (18602, 18602), (18602, 18659));
+pub const SET_MKDIR_P: Key = Key((18782, 18793), (18794, 18794), (18794, 18851));
 
 /// write in configure.ac
-pub const SET_LN_S: Key = Key((18660, 18668), (18669, 18669), (18669, 18720));
+pub const SET_LN_S: Key = Key((18852, 18860), (18861, 18861), (18861, 18912));
 
 /// write in configure.ac
-pub const SET_RANLIB: Key = Key((18721, 18731), (18732, 18732), (18732, 18795));
+pub const SET_RANLIB: Key = Key((18913, 18923), (18924, 18924), (18924, 18987));
 
 /// write in configure.ac
-pub const SET_AR: Key = Key((18796, 18802), (18803, 18803), (18803, 18853));
+pub const SET_AR: Key = Key((18988, 18994), (18995, 18995), (18995, 19045));
 
 /// write in configure.ac
-pub const SET_AWK: Key = Key((18854, 18861), (18862, 18862), (18862, 18929));
+pub const SET_AWK: Key = Key((19046, 19053), (19054, 19054), (19054, 19121));
 
 /// write in configure.ac
-pub const SET_CPP: Key = Key((18930, 18937), (18938, 18938), (18938, 18989));
+pub const SET_CPP: Key = Key((19122, 19129), (19130, 19130), (19130, 19181));
 
 /// it is empty on this system; write in configure.ac
-pub const SET_EXEEXT: Key = Key((18990, 19000), (19001, 19001), (19001, 19075));
+pub const SET_EXEEXT: Key = Key((19182, 19192), (19193, 19193), (19193, 19267));
 
 /// write in configure.ac
-pub const SET_OBJEXT: Key = Key((19076, 19086), (19087, 19087), (19087, 19134));
+pub const SET_OBJEXT: Key = Key((19268, 19278), (19279, 19279), (19279, 19326));
 
 /// write in configure.ac
-pub const SET_LIBOBJS: Key = Key((19135, 19146), (19147, 19147), (19147, 19190));
+pub const SET_LIBOBJS: Key = Key((19327, 19338), (19339, 19339), (19339, 19382));
 
 /// acrun renames no programs; write in configure.ac
-pub const SET_TRANSFORM_NAME: Key = Key((19191, 19209), (19210, 19210), (19210, 19305));
+pub const SET_TRANSFORM_NAME: Key = Key((19383, 19401), (19402, 19402), (19402, 19497));
 
 /// use @srcdir@, or `cd` and `pwd` in the rule
-pub const SET_ABS_SRCDIR: Key = Key((19306, 19320), (19321, 19321), (19321, 19364));
+pub const SET_ABS_SRCDIR: Key = Key((19498, 19512), (19513, 19513), (19513, 19556));
 
 /// use @top_srcdir@, or `cd` and `pwd` in the rule
-pub const SET_ABS_TOP_SRCDIR: Key = Key((19365, 19383), (19384, 19384), (19384, 19431));
+pub const SET_ABS_TOP_SRCDIR: Key = Key((19557, 19575), (19576, 19576), (19576, 19623));
 
 /// use @top_builddir@, or `cd` and `pwd` in the rule
-pub const SET_ABS_TOP_BUILDDIR: Key = Key((19432, 19452), (19453, 19453), (19453, 19502));
+pub const SET_ABS_TOP_BUILDDIR: Key = Key((19624, 19644), (19645, 19645), (19645, 19694));
 
 /// libtool checks it; write
-pub const DEFINE_DLFCN_H: Key = Key((19503, 19517), (19518, 19518), (19518, 19572));
+pub const DEFINE_DLFCN_H: Key = Key((19695, 19709), (19710, 19710), (19710, 19764));
 
 /// every compiler of this century has them; write
-pub const DEFINE_STDC_HEADERS: Key = Key((19573, 19592), (19593, 19593), (19593, 19672));
+pub const DEFINE_STDC_HEADERS: Key = Key((19765, 19784), (19785, 19785), (19785, 19864));
 
 /// the option OPTION is not known
-pub const UNKNOWN_OPTION: Key = Key((19673, 19687), (19688, 19713), (19714, 19714));
+pub const UNKNOWN_OPTION: Key = Key((19865, 19879), (19880, 19905), (19906, 19906));
 
 /// write it before the command: acrun -j8 configure
-pub const OPTION_BEFORE_COMMAND: Key = Key((19714, 19735), (19736, 19736), (19736, 19784));
+pub const OPTION_BEFORE_COMMAND: Key = Key((19906, 19927), (19928, 19928), (19928, 19976));
 
 /// a similar option is OPTION
-pub const NEAR_OPTION: Key = Key((19785, 19796), (19797, 19797), (19797, 19818));
+pub const NEAR_OPTION: Key = Key((19977, 19988), (19989, 19989), (19989, 20010));
 
 /// acrun configure --help shows the options of the source, and man acrun all others
-pub const SEE_OPTIONS: Key = Key((19819, 19830), (19831, 19831), (19831, 19911));
+pub const SEE_OPTIONS: Key = Key((20011, 20022), (20023, 20023), (20023, 20103));
 
 /// an argument is an option or NAME=VALUE; man acrun has all options
-pub const NO_OPTION: Key = Key((19912, 19921), (19922, 19922), (19922, 19987));
+pub const NO_OPTION: Key = Key((20104, 20113), (20114, 20114), (20114, 20179));
 
 /// OPTION names no feature or package
-pub const NO_OPTION_NAME: Key = Key((19988, 20002), (20003, 20032), (20033, 20110));
+pub const NO_OPTION_NAME: Key = Key((20180, 20194), (20195, 20224), (20225, 20302));
 
 /// NAME is no name of a variable
-pub const NO_ASSIGNED_NAME: Key = Key((20111, 20127), (20128, 20154), (20155, 20222));
+pub const NO_ASSIGNED_NAME: Key = Key((20303, 20319), (20320, 20346), (20347, 20414));
 
 /// the option OPTION needs a value
-pub const OPTION_WITHOUT_VALUE: Key = Key((20223, 20243), (20244, 20270), (20271, 20310));
+pub const OPTION_WITHOUT_VALUE: Key = Key((20415, 20435), (20436, 20462), (20463, 20502));
 
 /// the source declares no option OPTION
-pub const UNDECLARED_OPTION: Key = Key((20311, 20328), (20329, 20360), (20361, 20471));
+pub const UNDECLARED_OPTION: Key = Key((20503, 20520), (20521, 20552), (20553, 20663));
 
 /// there is no command, and no line of the input is `%%`
-pub const NO_CALL: Key = Key((20472, 20479), (20480, 20533), (20534, 20534));
+pub const NO_CALL: Key = Key((20664, 20671), (20672, 20725), (20726, 20726));
 
 /// OPTION takes no other word
-pub const WORD_AFTER_OPTION: Key = Key((20534, 20551), (20552, 20573), (20574, 20611));
+pub const WORD_AFTER_OPTION: Key = Key((20726, 20743), (20744, 20765), (20766, 20803));
 
 /// -j is no number of children
-pub const NO_NUMBER_OF_CHILDREN: Key = Key((20612, 20633), (20634, 20661), (20662, 20737));
+pub const NO_NUMBER_OF_CHILDREN: Key = Key((20804, 20825), (20826, 20853), (20854, 20929));
 
 /// WORD is no command
-pub const NO_COMMAND: Key = Key((20738, 20748), (20749, 20764), (20765, 20765));
+pub const NO_COMMAND: Key = Key((20930, 20940), (20941, 20956), (20957, 20957));
 
 /// a similar name is NAME
-pub const NEAR_NAME: Key = Key((20765, 20774), (20775, 20775), (20775, 20794));
+pub const NEAR_NAME: Key = Key((20957, 20966), (20967, 20967), (20967, 20986));
 
 /// acrun help lists the commands
-pub const SEE_COMMANDS: Key = Key((20795, 20807), (20808, 20837), (20838, 20838));
+pub const SEE_COMMANDS: Key = Key((20987, 20999), (21000, 21029), (21030, 21030));
 
 /// --recheck is the only word after status
-pub const WORD_AFTER_STATUS: Key = Key((20838, 20855), (20856, 20895), (20896, 20896));
+pub const WORD_AFTER_STATUS: Key = Key((21030, 21047), (21048, 21087), (21088, 21088));
 
 /// -jN is followed by configure, and N is from 1 to 16
-pub const WINDOW_WITHOUT_CONFIGURE: Key = Key((20896, 20920), (20921, 20972), (20973, 20973));
+pub const WINDOW_WITHOUT_CONFIGURE: Key = Key((21088, 21112), (21113, 21164), (21165, 21165));
 
 /// the line LINE is none of a cache
-pub const NO_CACHE_LINE: Key = Key((20973, 20986), (20987, 21016), (21017, 21079));
+pub const NO_CACHE_LINE: Key = Key((21165, 21178), (21179, 21208), (21209, 21271));
 
 /// the line LINE sets what is no cached value
-pub const NO_CACHE_NAME: Key = Key((21080, 21093), (21094, 21133), (21134, 21220));
+pub const NO_CACHE_NAME: Key = Key((21272, 21285), (21286, 21325), (21326, 21412));
 
 /// the cache file has more than 4,194,304 bytes
-pub const CACHE_TOO_LARGE: Key = Key((21221, 21236), (21237, 21281), (21282, 21313));
+pub const CACHE_TOO_LARGE: Key = Key((21413, 21428), (21429, 21473), (21474, 21505));
 
 /// NAME was VALUE in the run that made the cache CACHE
-pub const WAS_SET: Key = Key((21314, 21321), (21322, 21362), (21363, 21446));
+pub const WAS_SET: Key = Key((21506, 21513), (21514, 21554), (21555, 21638));
 
 /// NAME was not set in the run that made the cache CACHE
-pub const WAS_UNSET: Key = Key((21447, 21456), (21457, 21503), (21504, 21574));
+pub const WAS_UNSET: Key = Key((21639, 21648), (21649, 21695), (21696, 21766));
 
 /// , and is now VALUE
-pub const IS_SET: Key = Key((21575, 21581), (21582, 21596), (21597, 21597));
+pub const IS_SET: Key = Key((21767, 21773), (21774, 21788), (21789, 21789));
 
 /// , and is now not set
-pub const IS_UNSET: Key = Key((21597, 21605), (21606, 21626), (21627, 21627));
+pub const IS_UNSET: Key = Key((21789, 21797), (21798, 21818), (21819, 21819));
 
 /// CACHE may hold a wrong "no", as a program found no room: remove it
-pub const WRONG_NO: Key = Key((21627, 21635), (21636, 21698), (21699, 21699));
+pub const WRONG_NO: Key = Key((21819, 21827), (21828, 21890), (21891, 21891));
 
 /// the file is no record of a run: it begins with LINE
-pub const NO_RECORD: Key = Key((21699, 21708), (21709, 21757), (21758, 21847));
+pub const NO_RECORD: Key = Key((21891, 21900), (21901, 21949), (21950, 22039));
 
 /// the record has another version: LINE
-pub const OTHER_RECORD: Key = Key((21848, 21860), (21861, 21894), (21895, 21950));
+pub const OTHER_RECORD: Key = Key((22040, 22052), (22053, 22086), (22087, 22142));
 
 /// the line LINE is wrong in the record
-pub const WRONG_RECORD_LINE: Key = Key((21951, 21968), (21969, 22002), (22003, 22028));
+pub const WRONG_RECORD_LINE: Key = Key((22143, 22160), (22161, 22194), (22195, 22220));
 
 /// the record is cut off
-pub const CUT_RECORD: Key = Key((22029, 22039), (22040, 22061), (22062, 22087));
+pub const CUT_RECORD: Key = Key((22221, 22231), (22232, 22253), (22254, 22279));
 
 /// NAME is no output of this package
-pub const NO_OUTPUT_NAME: Key = Key((22088, 22102), (22103, 22133), (22134, 22134));
+pub const NO_OUTPUT_NAME: Key = Key((22280, 22294), (22295, 22325), (22326, 22326));
 
 /// configure.in is there, and is not read: give it the name configure.ac
-pub const OLD_SOURCE_NAME: Key = Key((22134, 22149), (22150, 22219), (22220, 22220));
+pub const OLD_SOURCE_NAME: Key = Key((22326, 22341), (22342, 22411), (22412, 22412));
 
 /// no compiler job of this run succeeded: see config.log
-pub const NO_COMPILER_WORKS: Key = Key((22220, 22237), (22238, 22291), (22292, 22292));
+pub const NO_COMPILER_WORKS: Key = Key((22412, 22429), (22430, 22483), (22484, 22484));
 
 /// The names, the messages and the help. A place is the byte 1, 2 or 3.
 #[rattlefmt::skip]
@@ -1187,6 +1190,10 @@ add the line
 config-status-script
 config.status is a record here, and no script that can be run
 write `acrun status NAME` in the rule, and `acrun status --recheck` for `./config.status --recheck`
+conftests-left
+this rule removes config.status, and leaves the conftests of a run
+a run may leave these files besides its outputs
+  config.log config.status config.cache conftest* acrun-*.tmp
 no-newline-at-end
 the last line has no newline, and so has that of the file that is made; Autoconf adds one
 add a newline at the end of the template
