@@ -4,7 +4,7 @@ use Rattle.std.specs.Prelude.{IfOk, IfSome}
 use Rattle.std.specs.Io.KnownBytes.{Appends}
 use Rattle.replacing.specs.declared.idioms.Idioms.{Idioms}
 use Rattle.porting.specs.Ported.{IsPorted}
-use Rattle.portcommand.specs.Asked.{Asked}
+use Rattle.portcommand.specs.Asked.{Request}
 use Rattle.portcommand.specs.Printed.{IsPrinted, IsAnswer, status_of}
 
 pub answered : (idioms : Idioms) (text slice out : List ℕ) (has : Bool) (result : ℕ) (a b : Option (List ℕ)) → slice ≡ text → IsPorted idioms slice has out
@@ -18,7 +18,10 @@ pub read : (idioms : Idioms) (text : List ℕ) (result : ℕ) (a b : Option (Lis
     → result ≢ 2 → (o : List ℕ) × ((t : List ℕ) × IsPrinted idioms t o result) × Appends a b o
 read idioms text result a b gives ne = let g = gives ne in (g.0, (text, g.1), g.2)
 
-pub by_words : (words : Option Asked) (asked : Asked) (result : ℕ) (a b : Option (List ℕ)) → Some asked ≡ words
-    → (result ≢ 2 → (o : List ℕ) × ((t : List ℕ) × IsPrinted asked.idioms t o result) × Appends a b o)
+pub by_words : (words : Option Request) (request : Request) (result : ℕ) (a b : Option (List ℕ)) → Some request ≡ words
+    → (result ≢ 2 → (o : List ℕ) × ((t : List ℕ) × IsPrinted request.idioms t o result) × Appends a b o)
     → result ≢ 2 → (o : List ℕ) × IsAnswer words o result × Appends a b o
-by_words words asked result a b is gives ne = let g = gives ne in (g.0, subst (λ w. IsAnswer w g.0 result) is g.1, g.2)
+by_words words request result a b is gives ne = let g = gives ne in (g.0, subst (λ w. IsAnswer w g.0 result) is g.1, g.2)
+
+pub not_wrong : (words : Option Request) (request : Request) (result : ℕ) → Some request ≡ words → words ≡ None → result ≡ 2
+not_wrong words request result is none = absurd (let z : Some request ≡ None = is ∙ none in cc)

@@ -2,7 +2,7 @@
 use Rattle.std.specs.Prelude.{◌≡◌, ℕ, Bool, true, false, List, Option, Some, None}
 use Rattle.replacing.specs.declared.idioms.Idioms.{Idioms}
 use Rattle.porting.specs.Ported.{IsPorted}
-use Rattle.portcommand.specs.Asked.{Asked}
+use Rattle.portcommand.specs.Asked.{Request}
 
 -- The status after a text that has comments about what is left, or none.
 abbrev pub status_of : Bool → ℕ
@@ -16,6 +16,6 @@ pub record IsPrinted (idioms : Idioms) (text out : List ℕ) (status : ℕ) : Ty
   pub status_is : status ≡ status_of has_comments
 
 -- Some text becomes what is printed, by the idioms that are asked for. Wrong words ask for nothing.
-abbrev pub IsAnswer : Option Asked → List ℕ → ℕ → Type 0
-IsAnswer (Some asked) out status = (text : List ℕ) × IsPrinted asked.idioms text out status
+abbrev pub IsAnswer : Option Request → List ℕ → ℕ → Type 0
+IsAnswer (Some request) out status = (text : List ℕ) × IsPrinted request.idioms text out status
 IsAnswer None out status = ⊥

@@ -9,7 +9,7 @@ use replacing::Idioms;
 
 /// Which idioms are written, and the name of the source.
 #[derive(Clone, Copy)]
-pub(crate) struct Asked<'a> {
+pub(crate) struct Request<'a> {
     pub(crate) idioms: Idioms,
     pub(crate) source: &'a [u8],
 }
@@ -29,23 +29,23 @@ fn source() -> &'static [u8]
 }
 
 /// Returns what asks for the source in the current directory.
-fn here(idioms: Idioms) -> Asked<'static>
+fn here(idioms: Idioms) -> Request<'static>
     ensures { specs.seen result ≡ specs.here idioms }
 {
-    Asked {
+    Request {
         idioms,
         source: source(),
     }
 }
 
 /// Returns what asks for the source that the word names, or `None` if the word is an option.
-fn named(idioms: Idioms, word: &[u8]) -> Option<Asked<'_>>
+fn named(idioms: Idioms, word: &[u8]) -> Option<Request<'_>>
     ensures { option_map specs.seen result ≡ specs.named idioms word.now }
 {
     if is_option(word) {
         None
     } else {
-        Some(Asked {
+        Some(Request {
             idioms,
             source: word,
         })
@@ -53,7 +53,7 @@ fn named(idioms: Idioms, word: &[u8]) -> Option<Asked<'_>>
 }
 
 /// Returns what one word asks for.
-fn by_one(word: &[u8]) -> Option<Asked<'_>>
+fn by_one(word: &[u8]) -> Option<Request<'_>>
     ensures { option_map specs.seen result ≡ specs.by_one word.now }
 {
     if is_switch(word) {
@@ -64,7 +64,7 @@ fn by_one(word: &[u8]) -> Option<Asked<'_>>
 }
 
 /// Returns what two words ask for.
-fn by_two<'a>(first: &'a [u8], second: &'a [u8]) -> Option<Asked<'a>>
+fn by_two<'a>(first: &'a [u8], second: &'a [u8]) -> Option<Request<'a>>
     ensures { option_map specs.seen result ≡ specs.by_two first.now second.now }
 {
     if is_switch(first) {
@@ -77,8 +77,8 @@ fn by_two<'a>(first: &'a [u8], second: &'a [u8]) -> Option<Asked<'a>>
 }
 
 /// Returns what the words after the first ask for together with it.
-fn by_more<'a>(first: &'a [u8], more: &'a [Bytes]) -> Option<Asked<'a>>
-    ensures { option_map specs.seen result ≡ specs.asked (first.now ∷ more.now) }
+fn by_more<'a>(first: &'a [u8], more: &'a [Bytes]) -> Option<Request<'a>>
+    ensures { option_map specs.seen result ≡ specs.request_of (first.now ∷ more.now) }
 {
     match more.split_first() {
         None => by_one(first),
@@ -93,8 +93,8 @@ fn by_more<'a>(first: &'a [u8], more: &'a [Bytes]) -> Option<Asked<'a>>
 }
 
 /// Returns what the words ask for, or `None` if they are wrong.
-pub(crate) fn asked(words: &[Bytes]) -> Option<Asked<'_>>
-    ensures { option_map specs.seen result ≡ specs.asked words.now }
+pub(crate) fn request_of(words: &[Bytes]) -> Option<Request<'_>>
+    ensures { option_map specs.seen result ≡ specs.request_of words.now }
 {
     match words.split_first() {
         None => Some(here(Idioms::Exact)),

@@ -4,10 +4,10 @@ ghost use Rattle.std.specs.Prelude.{◌≡◌, ◌≢◌, ◌≤◌, false, ℕ,
 ghost use Rattle.std.specs.List.{list_any};
 ghost use Rattle.std.specs.Io.KnownBytes.{Appends};
 ghost use Rattle.invocation.specs.Calls as calls;
-ghost use Rattle.portcommand.specs.Asked as asking;
+ghost use Rattle.portcommand.specs.Asked as wanted;
 ghost use Rattle.portcommand.specs.Printed as specs;
 
-use crate::asking::asked;
+use crate::asking::request_of;
 use deftable::Bytes;
 use disk::Disk;
 use excerpts::excerpt_of;
@@ -66,7 +66,6 @@ fn put_text<W: Write, E: Write>(text: &[u8], status: u8, output: &mut W, errors:
 }
 
 /// Writes a source that was rewritten, and returns the exit status.
-#[tactic(auto, using(crate::proofs::Written::printed))]
 fn put_ported<W: Write, E: Write>(ported: &Ported, output: &mut W, errors: &mut E) -> u8
     ensures bound { result ≤ 2 }
     ensures status { result ≢ 2 → result ≡ specs.status_of ported.now.has_comments }
@@ -128,7 +127,7 @@ fn port_named<D: Disk, R: Read, W: Write, E: Write>(
 ///
 /// The status is 0 if nothing is left to do; 1 if the text has comments about what is left; and 2 if the source can't be read, if its
 /// quotes have an error, if the text can't be written, or if the words are wrong. Then standard error says so (own).
-#[tactic(auto, using(crate::proofs::Written::by_words))]
+#[tactic(auto, using(crate::proofs::Written::by_words, crate::proofs::Written::not_wrong))]
 pub fn run_port<D: Disk, R: Read, W: Write, E: Write>(
     alloc: Global,
     disk: &D,
@@ -144,18 +143,18 @@ pub fn run_port<D: Disk, R: Read, W: Write, E: Write>(
     // Standard error has something only if the status is 2.
     ensures silent { result ≢ 2 → errors.new ≡ errors.old }
     // It is 2 if the words are wrong.
-    ensures usage { asking.asked words.now ≡ None → result ≡ 2 }
+    ensures usage { wanted.request_of words.now ≡ None → result ≡ 2 }
     // Unless it is 2, a source that was rewritten is written. It is 1 if that has comments about what is left, and 0 otherwise.
-    ensures ported { result ≢ 2 → (out : List ℕ) × specs.IsAnswer (asking.asked words.now) out result × Appends (W.contents output.old) (W.contents output.new) out }
+    ensures ported { result ≢ 2 → (out : List ℕ) × specs.IsAnswer (wanted.request_of words.now) out result × Appends (W.contents output.old) (W.contents output.new) out }
 {
     let reads = has_input(words);
-    match asked(words) {
-        Some(asked) => port_named(
+    match request_of(words) {
+        Some(request) => port_named(
             alloc,
             disk,
             reads,
-            asked.idioms,
-            asked.source,
+            request.idioms,
+            request.source,
             input,
             output,
             errors,

@@ -1,8 +1,9 @@
 -- A text with a comment about what is left.
-use Rattle.std.proofs.Common.{◌≡◌, ◌⊎◌, inl, inr, ℕ, List, [], ◌∷◌, ◌++◌, length, take, Result, Ok, Err, sym, subst, ap, ◌∙◌, refl, true, append_assoc, append-nil, slice_range, arith}
-use Rattle.std.specs.Prelude.{IfOk}
+use Rattle.std.proofs.Common.{◌≡◌, ◌⊎◌, inl, inr, ℕ, List, [], ◌∷◌, ◌++◌, length, Bool, Result, Ok, Err, sym, subst, ap, ◌∙◌, refl, true, append_assoc, append-nil, slice_range, arith}
+use Rattle.std.specs.Prelude.{IfOk, IsTrue}
+use Rattle.std.specs.Global.{Vec}
 use Rattle.std.proofs.lemmas.List.{take_all}
-use Rattle.porting.specs.Ported.{IsCommented, HasLeft, comment, comment_line, is_left, unsaid}
+use Rattle.porting.specs.Ported.{IsCommented, HasLeft, comment, comment_line, is_left, is_line_start, unsaid}
 use Rattle.porting.specs.Ported as specs
 
 -- A comment may be before the whole.
@@ -17,13 +18,28 @@ pub unsaid_first : (text : List ℕ) → is_left (comment unsaid ++ text) ≡ tr
 unfolding comment comment_line unsaid
 unsaid_first text = refl
 
-pub front_left : (text out : List ℕ) → out ≡ comment unsaid ++ text → HasLeft out
-front_left text out is =
+pub whole_left : (text out : List ℕ) → out ≡ comment unsaid ++ text → HasLeft out
+whole_left text out is =
     let whole : slice_range out 0 (length out) ≡ out = take_all (length out) out (omega arith) in
     record { at = 0; is_line = refl; is_comment = ap is_left (whole ∙ is) ∙ unsaid_first text }
 
-pub kept_commented : {V E : Type 0} (items : V → List ℕ) (r : Result V E) (text mid : List ℕ) → IsCommented text (length text) mid
-    → IfOk r (λ v. (items v ≡ mid) ⊎ (items v ≡ comment unsaid ++ mid)) → IfOk r (λ v. IsCommented text (length text) (items v))
-kept_commented items (Ok v) text mid before (inl same) = subst (IsCommented text (length text)) (sym same) before
-kept_commented items (Ok v) text mid before (inr more) = subst (IsCommented text (length text)) (sym more) (front_put text unsaid (length text) mid before)
-kept_commented items (Err e) text mid before is = tt
+pub left_at : (text : List ℕ) (at : ℕ) (b : Bool) → is_line_start text at ≡ true → b ≡ is_left (slice_range text at (length text)) → IsTrue b → HasLeft text
+left_at text at b line is holds = record { at = at; is_line = line; is_comment = sym is ∙ holds }
+
+pub stays : (text more : List ℕ) → (text ≡ text) ⊎ (text ≡ more)
+stays text more = inl refl
+
+pub front_left : {E : Type 0} (r : Result (Vec ℕ) E) (text : List ℕ) → IfOk r (λ v. v.items ≡ comment unsaid ++ text) → IfOk r (λ v. HasLeft v.items)
+front_left (Ok v) text is = whole_left text v.items is
+front_left (Err e) text is = tt
+
+pub front_kept : {E : Type 0} (r : Result (Vec ℕ) E) (slice text : List ℕ) → slice ≡ text → IfOk r (λ v. v.items ≡ comment unsaid ++ slice)
+    → IfOk r (λ v. (v.items ≡ text) ⊎ (v.items ≡ comment unsaid ++ text))
+front_kept (Ok v) slice text lent is = inr (subst (λ t. v.items ≡ comment unsaid ++ t) lent is)
+front_kept (Err e) slice text lent is = tt
+
+pub kept_commented : {E : Type 0} (r : Result (Vec ℕ) E) (text mid : List ℕ) → IsCommented text (length text) mid
+    → IfOk r (λ v. (v.items ≡ mid) ⊎ (v.items ≡ comment unsaid ++ mid)) → IfOk r (λ v. IsCommented text (length text) v.items)
+kept_commented (Ok v) text mid before (inl same) = subst (IsCommented text (length text)) (sym same) before
+kept_commented (Ok v) text mid before (inr more) = subst (IsCommented text (length text)) (sym more) (front_put text unsaid (length text) mid before)
+kept_commented (Err e) text mid before is = tt

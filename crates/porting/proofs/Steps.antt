@@ -1,7 +1,7 @@
 -- What one step of writing comments makes.
 use Rattle.std.proofs.Common.{◌≡◌, ℕ, ◌≤◌, List, ◌++◌, length, Result, Ok, Err, OnOk, slice_range, sym, subst, Option, Some, None, true, false, arith}
 use Rattle.std.specs.Prelude.{IfSome, IfOk, MatchOption}
-use Rattle.porting.specs.Ported.{IsCommented, IsMoved, IsPorted, IsPrinted, IsTurn, is_line_start, comment}
+use Rattle.porting.specs.Ported.{HasLeft, IsCommented, IsMoved, IsPorted, IsPrinted, IsTurn, is_line_start, comment}
 use Rattle.porting.specs.Ported as specs
 use Rattle.porting.specs.declared.whole.Ported.{Ported}
 use Rattle.linting.specs.Errors.{IsAccepted}
@@ -37,3 +37,10 @@ pub turn_more : {V : Type 0} (idioms : Idioms) (items : V → List ℕ) (text mi
     → IfSome o (λ v. IsTurn idioms now (items v)) → IsMoved idioms text mid → IsMoved idioms text (items next)
 turn_more idioms items text mid now o next is same turn before =
     specs.IsMoved.turned before (subst (λ m. IsTurn idioms m (items next)) same (subst (λ o. IfSome o (λ v. IsTurn idioms now (items v))) is turn))
+
+-- A text with comments is printed.
+pub commented_printed : {E : Type 0} (r : Result Ported E) (slice text : List ℕ) → slice ≡ text → (IsAccepted text → ⊥) → IfOk r (λ p. IsCommented slice (length slice) p.text)
+    → IfOk r (λ p. HasLeft p.text) → IfOk r (λ p. p.has_comments ≡ true) → IfOk r (λ p. IsPrinted text p.has_comments p.text)
+commented_printed (Ok p) slice text lent refused commented left reported =
+    subst (λ b. IsPrinted text b p.text) (sym reported) (subst (λ t. IsCommented t (length t) p.text) lent commented, refused, left)
+commented_printed (Err e) slice text lent refused commented left reported = tt

@@ -1,7 +1,7 @@
 //! Lines of comment at errors.
 
-ghost use Rattle.std.specs.Prelude.{◌≡◌, ◌≤◌, ◌++◌, true, map, length, slice_range, ◌⊎◌, IfOk, OnOk, IsTrue};
-ghost use Rattle.std.specs.List.{flat_map};
+ghost use Rattle.std.specs.Prelude.{◌≡◌, ◌≤◌, ◌++◌, true, map, length, slice_range, ◌⊎◌, nat_eq, IfOk, OnOk, IsTrue};
+ghost use Rattle.std.specs.List.{flat_map, starts_with};
 ghost use Rattle.porting.specs.Ported as specs;
 
 use crate::lines::{FRONT, Line, comment_line, lines_of};
@@ -278,11 +278,30 @@ fn with_notes(alloc: Global, text: &[u8], notes: &[Note]) -> Result<Vec<u8>, All
     Ok(copy.out)
 }
 
+/// Returns whether the text begins with the other text.
+fn begins(text: &[u8], front: &[u8]) -> bool
+    ensures { result ≡ starts_with nat_eq text.now front.now }
+{
+    text.starts_with(front)
+}
+
 /// Returns whether the text begins with a comment about what is left.
 fn is_left(text: &[u8]) -> bool
     ensures { result ≡ specs.is_left text.now }
 {
-    text.starts_with(b"dnl acrun: ") && !text.starts_with(b"dnl acrun: in place of ")
+    begins(text, b"dnl acrun: ") && !begins(text, b"dnl acrun: in place of ")
+}
+
+/// Returns whether a line of the text begins at the offset, and is a comment about what is left.
+#[tactic(auto, using(crate::proofs::Left::left_at))]
+fn is_left_at(text: &[u8], at: usize) -> bool
+    requires { at ≤ length text.now }
+    ensures { IsTrue result → specs.HasLeft text.now }
+{
+    if !is_line_start(text, at) {
+        return false;
+    }
+    is_left(&text[at..text.len()])
 }
 
 /// Returns whether a line of the text is a comment about what is left.
@@ -290,7 +309,7 @@ fn has_left(text: &[u8]) -> bool
     ensures { IsTrue result → specs.HasLeft text.now }
 {
     for at in 0..text.len() {
-        if is_line_start(text, at) && is_left(&text[at..text.len()]) {
+        if is_left_at(text, at) {
             return true;
         }
     }
@@ -315,7 +334,7 @@ fn with_front(alloc: Global, text: &[u8]) -> Result<Vec<u8>, AllocError>
 }
 
 /// Returns the text if a line of it is a comment about what is left, and otherwise the text with one before it.
-#[tactic(auto, using(crate::proofs::Left::front_left))]
+#[tactic(auto, using(crate::proofs::Left::front_kept, crate::proofs::Left::front_left, crate::proofs::Left::stays))]
 fn with_left(alloc: Global, text: Vec<u8>) -> Result<Vec<u8>, AllocError>
     ensures kept { IfOk result (λ v. (v.items ≡ text.items) ⊎ (v.items ≡ specs.comment specs.unsaid ++ text.items)) }
     ensures left { IfOk result (λ v. specs.HasLeft v.items) }
@@ -337,6 +356,7 @@ fn commented_at(alloc: Global, text: &[u8], errors: &[Finding]) -> Result<Vec<u8
 }
 
 /// Returns the text with a comment at each error, and so with one at least. The errors are in order of their places.
+#[tactic(auto, using(crate::proofs::Left::kept_commented))]
 pub(crate) fn commented(
     alloc: Global,
     text: &[u8],

@@ -48,6 +48,7 @@ fn with_errors(alloc: Global, text: &[u8], errors: &[Finding]) -> Result<Ported,
 }
 
 /// Returns the source with a comment at each error.
+#[tactic(auto, using(crate::proofs::Steps::commented_printed))]
 fn printed(alloc: Global, text: Vec<u8>) -> Result<Ported, AllocError>
     ensures { IfOk result (λ p. specs.IsPrinted text.items p.has_comments p.text) }
 {

@@ -293,11 +293,10 @@ fn other_for(
     other_of(alloc, &known.index, name_of(text, call), call.args.len())
 }
 
-/// Returns whether a comment can be in the place of a call: nothing is before it on its line, or the bracket that an argument begins
-/// with is right before it, and it is in no argument without brackets.
-fn can_be_noted(known: &Known, text: &[u8], spot: Spot, call: &CallAt) -> bool {
-    let before = call.start.checked_sub(1).and_then(|at| text.get(at));
-    known.bare.get(call.start) == Some(&false) && (spot.is_first || before == Some(&b'['))
+/// Returns whether a comment can be right before a call that begins a statement: the call is in no argument without brackets, of which
+/// the comment would be a part.
+fn can_be_noted(known: &Known, call: &CallAt) -> bool {
+    known.bare.get(call.start) == Some(&false)
 }
 
 /// Returns the change of a call to a text below a comment.
@@ -328,7 +327,7 @@ fn noted_change(
 ) -> Result<Option<Change>, AllocError>
     ensures { IfOk result (λ o. IfSome o (λ change. specs.IsNoted text.now (seen call.now) change.put.items)) }
 {
-    if !can_be_noted(known, text, spot, call) {
+    if !can_be_noted(known, call) {
         return Ok(None);
     }
     match other_for(alloc, known, text, call)? {
@@ -338,7 +337,6 @@ fn noted_change(
 }
 
 /// Returns the change of a call that has to go and has no exact idiom, if it has an idiom that is wanted.
-#[tactic(auto, using(crate::proofs::Puts::noted_may))]
 fn other_change(
     alloc: Global,
     idioms: Idioms,

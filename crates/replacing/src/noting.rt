@@ -130,6 +130,7 @@ fn put_list(
 
 /// Appends an idiom, once or with each name of a list, each time after a newline and the indent. Returns whether each argument could be
 /// put there.
+#[tactic(auto, using(crate::proofs::Differing::once))]
 fn put_all(
     alloc: Global,
     out: &mut Vec<u8>,
@@ -151,7 +152,6 @@ fn put_all(
 
 /// Returns an idiom with the arguments of a call, below the comment that says in what it differs from the macro, unless an argument
 /// can't be put into it.
-#[tactic(auto, using(crate::proofs::Noting::noted_is))]
 pub(crate) fn noted_text(
     alloc: Global,
     text: &[u8],
