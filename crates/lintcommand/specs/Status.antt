@@ -81,9 +81,14 @@ pub data AreLinted (files : Option Known) : List (List ℕ) → ℕ → Type 0 w
   a_source : {word : List ℕ} {words : List (List ℕ)} {worst : ℕ} (status : ℕ) → is_option word ≡ false → IsLinted files word status → AreLinted files words worst
       → AreLinted files (word ∷ words) (max status worst)
 
--- The exit status after all sources: if the words are options alone, that after the configure.ac of the current directory.
+-- The exit status after the sources that the words name, or, if they are options alone, after the configure.ac of the current
+-- directory.
+abbrev pub IsStatusOf : Bool → Option Known → List (List ℕ) → ℕ → Type 0
+IsStatusOf true files words status = IsLinted files source_name status
+IsStatusOf false files words status = AreLinted files words status
+
 abbrev pub IsStatus : Option Known → List (List ℕ) → ℕ → Type 0
-IsStatus files words status = if list_all is_option words then IsLinted files source_name status else AreLinted files words status
+IsStatus files words status = IsStatusOf (list_all is_option words) files words status
 
 -- The word is no option, or a known one.
 abbrev pub is_known : List ℕ → Bool
