@@ -11,7 +11,6 @@ use shellcompounds::{CaseCut, GuardCut, IfCut, case_parts, guard_parts, if_parts
 use std::alloc::{AllocError, Global};
 
 /// Returns the call for an `if` with these parts, unless acrun doesn't accept it.
-#[tactic(auto, using(crate::proofs::Steps::if_put))]
 fn put_if(
     alloc: Global,
     text: &[u8],
@@ -41,7 +40,6 @@ pub(crate) fn put_for_if(
 }
 
 /// Returns the call for a `case` with these parts, unless acrun doesn't accept it.
-#[tactic(auto, using(crate::proofs::Steps::case_put))]
 fn put_case(
     alloc: Global,
     text: &[u8],
@@ -71,7 +69,6 @@ pub(crate) fn put_for_case(
 }
 
 /// Returns the call for a statement that a condition guards, with these parts, unless acrun doesn't accept it.
-#[tactic(auto, using(crate::proofs::Steps::guard_put))]
 fn put_guard(
     alloc: Global,
     text: &[u8],

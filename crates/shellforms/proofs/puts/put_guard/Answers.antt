@@ -1,0 +1,7 @@
+use Rattle.std.proofs.Common.{map}
+use Rattle.shellforms.proofs.Steps.{guard_put}
+use Rattle.shellforms.proofs.puts.put_guard.Goals as goal
+
+pub returns : goal.returns
+returns c =
+    guard_put (λ v. v.items) c.args.text.now c.args.cut.start c.args.cut.end (map (λ p. p.now) c.args.parts.now) c.accepted_call.result c.requires.parts c.requires.no_status c.accepted_call.ensures
