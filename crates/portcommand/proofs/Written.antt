@@ -7,6 +7,12 @@ use Rattle.porting.specs.Ported.{IsPorted}
 use Rattle.portcommand.specs.Asked.{Request}
 use Rattle.portcommand.specs.Printed.{IsPrinted, IsAnswer, status_of}
 
+pub put_lent : (slice text : List ℕ) (result : ℕ) (a b : Option (List ℕ)) → slice ≡ text → (result ≢ 2 → Appends a b slice) → result ≢ 2 → Appends a b text
+put_lent slice text result a b lent put ne = subst (λ t. Appends a b t) lent (put ne)
+
+pub status_lent : (status wanted result : ℕ) → status ≡ wanted → (result ≢ 2 → result ≡ status) → result ≢ 2 → result ≡ wanted
+status_lent status wanted result is same ne = same ne ∙ is
+
 pub answered : (idioms : Idioms) (text slice out : List ℕ) (has : Bool) (result : ℕ) (a b : Option (List ℕ)) → slice ≡ text → IsPorted idioms slice has out
     → (result ≢ 2 → result ≡ status_of has) → (result ≢ 2 → Appends a b out)
     → result ≢ 2 → (o : List ℕ) × IsPrinted idioms text o result × Appends a b o

@@ -66,6 +66,7 @@ fn put_text<W: Write, E: Write>(text: &[u8], status: u8, output: &mut W, errors:
 }
 
 /// Writes a source that was rewritten, and returns the exit status.
+#[tactic(auto, using(crate::proofs::Written::put_lent, crate::proofs::Written::status_lent))]
 fn put_ported<W: Write, E: Write>(ported: &Ported, output: &mut W, errors: &mut E) -> u8
     ensures bound { result ≤ 2 }
     ensures status { result ≢ 2 → result ≡ specs.status_of ported.now.has_comments }

@@ -1,8 +1,9 @@
 -- A text with a comment about what is left.
-use Rattle.std.proofs.Common.{◌≡◌, ◌⊎◌, inl, inr, ℕ, List, [], ◌∷◌, ◌++◌, length, Bool, Result, Ok, Err, sym, subst, ap, ◌∙◌, refl, true, append_assoc, append-nil, slice_range, arith}
+use Rattle.std.proofs.Common.{◌≡◌, ◌⊎◌, inl, inr, ℕ, List, [], ◌∷◌, ◌++◌, ◌-◌, length, Bool, Result, Ok, Err, sym, subst, ap, ◌∙◌, refl, true, append_assoc, append-nil, slice_range, arith}
 use Rattle.std.specs.Prelude.{IfOk, IsTrue}
 use Rattle.std.specs.Global.{Vec}
 use Rattle.std.proofs.lemmas.List.{take_all}
+use Rattle.textcut.specs.Cuts.{parts, parts_by}
 use Rattle.porting.specs.Ported.{IsCommented, HasLeft, comment, comment_line, is_left, is_line_start, unsaid}
 use Rattle.porting.specs.Ported as specs
 
@@ -15,16 +16,19 @@ front_put text words at out (specs.IsCommented.noted {a} {o} more before is) =
     subst (IsCommented text a) (append_assoc (comment words) o (comment more)) (specs.IsCommented.noted more (front_put text words a o before) is)
 
 pub unsaid_first : (text : List ℕ) → is_left (comment unsaid ++ text) ≡ true
-unfolding comment comment_line unsaid
+unfolding comment comment_line unsaid parts parts_by
 unsaid_first text = refl
 
 pub whole_left : (text out : List ℕ) → out ≡ comment unsaid ++ text → HasLeft out
 whole_left text out is =
-    let whole : slice_range out 0 (length out) ≡ out = take_all (length out) out (omega arith) in
+    let whole : slice_range out 0 (length out) ≡ out = take_all (length out - 0) out (omega arith) in
     record { at = 0; is_line = refl; is_comment = ap is_left (whole ∙ is) ∙ unsaid_first text }
 
 pub left_at : (text : List ℕ) (at : ℕ) (b : Bool) → is_line_start text at ≡ true → b ≡ is_left (slice_range text at (length text)) → IsTrue b → HasLeft text
 left_at text at b line is holds = record { at = at; is_line = line; is_comment = sym is ∙ holds }
+
+pub lent_left : (b : Bool) (slice text : List ℕ) → slice ≡ text → (IsTrue b → HasLeft slice) → b ≡ true → HasLeft text
+lent_left b slice text lent has is = subst HasLeft lent (has is)
 
 pub stays : (text more : List ℕ) → (text ≡ text) ⊎ (text ≡ more)
 stays text more = inl refl

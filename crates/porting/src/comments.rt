@@ -334,7 +334,7 @@ fn with_front(alloc: Global, text: &[u8]) -> Result<Vec<u8>, AllocError>
 }
 
 /// Returns the text if a line of it is a comment about what is left, and otherwise the text with one before it.
-#[tactic(auto, using(crate::proofs::Left::front_kept, crate::proofs::Left::front_left, crate::proofs::Left::stays))]
+#[tactic(auto, using(crate::proofs::Left::front_kept, crate::proofs::Left::front_left, crate::proofs::Left::lent_left, crate::proofs::Left::stays))]
 fn with_left(alloc: Global, text: Vec<u8>) -> Result<Vec<u8>, AllocError>
     ensures kept { IfOk result (λ v. (v.items ≡ text.items) ⊎ (v.items ≡ specs.comment specs.unsaid ++ text.items)) }
     ensures left { IfOk result (λ v. specs.HasLeft v.items) }
