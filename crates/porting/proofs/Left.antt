@@ -9,11 +9,11 @@ use Rattle.porting.specs.Ported as specs
 
 -- A comment may be before the whole.
 pub front_put : (text words : List ℕ) (at : ℕ) (out : List ℕ) → IsCommented text at out → IsCommented text at (comment words ++ out)
-front_put text words at out specs.IsCommented.begun = subst (IsCommented text 0) (sym (append-nil (comment words))) (specs.IsCommented.noted words specs.IsCommented.begun refl)
-front_put text words at out (specs.IsCommented.copied {a} {o} next before from to) =
-    subst (IsCommented text next) (append_assoc (comment words) o (slice_range text a next)) (specs.IsCommented.copied next (front_put text words a o before) from to)
-front_put text words at out (specs.IsCommented.noted {a} {o} more before is) =
-    subst (IsCommented text a) (append_assoc (comment words) o (comment more)) (specs.IsCommented.noted more (front_put text words a o before) is)
+front_put text words next new specs.IsCommented.begun = subst (IsCommented text 0) (sym (append-nil (comment words))) (specs.IsCommented.noted words specs.IsCommented.begun refl)
+front_put text words next new (specs.IsCommented.copied {at} {out} to before from within) =
+    subst (IsCommented text to) (append_assoc (comment words) out (slice_range text at to)) (specs.IsCommented.copied to (front_put text words at out before) from within)
+front_put text words next new (specs.IsCommented.noted {at} {out} more before is) =
+    subst (IsCommented text at) (append_assoc (comment words) out (comment more)) (specs.IsCommented.noted more (front_put text words at out before) is)
 
 pub unsaid_first : (text : List ℕ) → is_left (comment unsaid ++ text) ≡ true
 unfolding comment comment_line unsaid parts parts_by
