@@ -147,7 +147,6 @@ module _ (window : ℕ) (arguments : List (List ℕ)) (script : Script) (setting
     (c : IsCoherent files)
     (run : IsRun window arguments script settings before now (Some (after files [])) (Some left) out said status)
     (plain : HasPlainFiles files settings.srcdir run.templates (artifacts script run.start run.templates run.report)) where
-
   handed : List Artifact
   handed = artifacts script run.start run.templates run.report
 
@@ -170,10 +169,10 @@ module _ (window : ℕ) (arguments : List (List ℕ)) (script : Script) (setting
       → text_under (after files left.deeds) (path_of settings.srcdir name) ≡ Some text
   unfolding InputsAreKept
   template_there law name text read apart guards =
-    let path = path_of settings.srcdir name in
-    let held = guarded_at (after files []) run.guards path apart.place (guards (read_name (after files []) path text read)) apart.at in
-    law files run.guards handed (codes "config.log") (log_of run.report.log) plain.place left.deeds path apart.place text c plain.outputs plain.log over held apart.other
-    (record { end = path; leads = itself (apart.never []); at = apart.at; read = read_there (after files []) path text read })
+      let path = path_of settings.srcdir name in
+      let held = guarded_at (after files []) run.guards path apart.place (guards (read_name (after files []) path text read)) apart.at in
+      law files run.guards handed (codes "config.log") (log_of run.report.log) plain.place left.deeds path apart.place text c plain.outputs plain.log over held apart.other
+      (record { end = path; leads = itself (apart.never []); at = apart.at; read = read_there (after files []) path text read })
 
   -- What is there next is what is there after the run.
   next_is : (name : List ℕ) → text_under (handed_on left) name ≡ text_under (after files left.deeds) name
