@@ -1,14 +1,16 @@
 -- That `status` makes what the run made.
-use Rattle.std.proofs.Common.{◌≡◌, ◌≢◌, ℕ, Bool, true, false, List, [], ◌∷◌, ◌++◌, Option, Some, None, Result, Ok, Err, refl, sym, ap, subst, ◌∙◌}
+use Rattle.std.proofs.Common.{◌≡◌, ◌≢◌, ℕ, Bool, true, false, List, [], ◌∷◌, ◌++◌, Option, Some, None, Result, Ok, Err, refl, sym, ap, subst, ◌∙◌, get_or}
 use Rattle.std.specs.Prelude.{All, IfSome, filter, codes, map, bytes_eq}
-use Rattle.std.specs.List.{Contains, list_any}
-use Rattle.std.specs.Prelude.{◌==◌, ◌&&◌}
-use Rattle.std.proofs.lemmas.Bool.{and_from, eq-eqb}
+use Rattle.std.specs.List.{Contains, list_all, list_any}
+use Rattle.std.specs.Prelude.{◌==◌, ◌&&◌, ◌<◌, nat_lt}
+use Rattle.std.proofs.lemmas.Bool.{and_from, and_parts, eq-eqb}
 use Rattle.std.proofs.lemmas.Slice.Eq.{bytes_eq-Decides}
 use Rattle.std.proofs.lemmas.List.{append-nil}
 use Rattle.std.proofs.lemmas.List.Elements.{All-nil, All-cons, All-filter, All-head, All-tail}
 use Rattle.std.proofs.lemmas.List.Folds.{list_any-from_Any}
-use Rattle.std.proofs.lemmas.Str.{IsUtf8-from_is_utf8}
+use Rattle.std.proofs.lemmas.Str.{IsUtf8-from_ascii}
+use Rattle.std.proofs.lemmas.Str.Ascii.{IsAscii-from_all}
+use Rattle.std.proofs.lemmas.Bool.Decides.{Decides-ltb}
 use Rattle.cfglog.specs.Texts.{log_of}
 use Rattle.commandline.specs.Kept.{kept_args}
 use Rattle.commands.specs.Left.{IsLeft}
@@ -19,7 +21,7 @@ use Rattle.disk.specs.Known.{Known, Files, Deed, kind_under, text_under}
 use Rattle.diskfiles.specs.Coherent.{after, IsCoherent, ReadsAt}
 use Rattle.diskfiles.specs.Done.{AreDone}
 use Rattle.diskfiles.specs.Links.{itself}
-use Rattle.diskfiles.specs.Names.{IsFileName}
+use Rattle.diskfiles.specs.Names.{IsFileName, has_nul}
 use Rattle.diskfiles.specs.Places.{is_at, is_place, is_place_guarded, place_under}
 use Rattle.diskfiles.specs.Reading.{IsReadWhole}
 use Rattle.diskfiles.specs.Steps.{IsReplaced}
@@ -27,7 +29,7 @@ use Rattle.diskfiles.specs.declared.places.Guard.{Guard}
 use Rattle.diskfiles.specs.declared.places.Place.{Place}
 use Rattle.engine.specs.Configured.{artifacts, record_after}
 use Rattle.engine.specs.Remaking.{Remakes, is_chosen, is_record, outputs_with}
-use Rattle.fallible.proofs.Binds.{bind_ok}
+use Rattle.fallible.proofs.Binds.{bind_ok, ok_is}
 use Rattle.filelaws.specs.Rerun.{AreNeverLinks, InputsAreKept, IsNeverLink, IsOver, OutputsAreRead}
 use Rattle.framing.specs.Faults.{of_precious, named, ◌>>=◌}
 use Rattle.framing.specs.Given as given
@@ -92,11 +94,20 @@ guarded_at k guards name place has at =
 
 -- ---- the names that the program uses
 
+-- A text of bytes below 128 alone can be a name, if none of them is NUL.
+below : (bs : List ℕ) → list_all (λ b. nat_lt b 128) bs ≡ true → All (λ b. b < 128) bs
+below [] e = All-nil (λ b. b < 128)
+below (b ∷ bs) e =
+    let p = and_parts (nat_lt b 128) (list_all (λ x. nat_lt x 128) bs) e in All-cons (λ x. x < 128) b bs ((Decides-ltb b 128).0 p.0) (below bs p.1)
+
+plain_name : (name : List ℕ) → list_all (λ b. nat_lt b 128) name ≡ true → has_nul name ≡ false → IsFileName name
+plain_name name ascii whole = record { text = IsUtf8-from_ascii name (IsAscii-from_all name (below name ascii)); whole = whole }
+
 log_name : IsFileName (codes "config.log")
-log_name = record { text = IsUtf8-from_is_utf8 (codes "config.log") refl; whole = refl }
+log_name = plain_name (codes "config.log") refl refl
 
 status_name : IsFileName (codes "config.status")
-status_name = record { text = IsUtf8-from_is_utf8 (codes "config.status") refl; whole = refl }
+status_name = plain_name (codes "config.status") refl refl
 
 -- ---- guards of a run
 
@@ -147,8 +158,7 @@ module _ (window : ℕ) (arguments : List (List ℕ)) (script : Script) (setting
     (c : IsCoherent files)
     (run : IsRun window arguments script settings before now (Some (after files [])) (Some left) out said status)
     (plain : HasPlainFiles files settings.srcdir run.templates (artifacts script run.start run.templates run.report)) where
-
-  handed : List Artifact
+  abbrev handed : List Artifact
   handed = artifacts script run.start run.templates run.report
 
   over : IsOver files run.guards handed (codes "config.log") (log_of run.report.log) plain.place left.deeds
@@ -170,10 +180,10 @@ module _ (window : ℕ) (arguments : List (List ℕ)) (script : Script) (setting
       → text_under (after files left.deeds) (path_of settings.srcdir name) ≡ Some text
   unfolding InputsAreKept
   template_there law name text read apart guards =
-    let path = path_of settings.srcdir name in
-    let held = guarded_at (after files []) run.guards path apart.place (guards (read_name (after files []) path text read)) apart.at in
-    law files run.guards handed (codes "config.log") (log_of run.report.log) plain.place left.deeds path apart.place text c plain.outputs plain.log over held apart.other
-    (record { end = path; leads = itself (apart.never []); at = apart.at; read = read_there (after files []) path text read })
+      let path = path_of settings.srcdir name in
+      let held = guarded_at (after files []) run.guards path apart.place (guards (read_name (after files []) path text read)) apart.at in
+      law files run.guards handed (codes "config.log") (log_of run.report.log) plain.place left.deeds path apart.place text c plain.outputs plain.log over held apart.other
+      (record { end = path; leads = itself (apart.never []); at = apart.at; read = read_there (after files []) path text read })
 
   -- What is there next is what is there after the run.
   next_is : (name : List ℕ) → text_under (handed_on left) name ≡ text_under (after files left.deeds) name
@@ -207,9 +217,6 @@ module _ (window : ℕ) (arguments : List (List ℕ)) (script : Script) (setting
 
 -- ---- both together
 
-from_ok : (x y : List Artifact) → Ok {F = RemakeFault} x ≡ Ok y → x ≡ y
-from_ok x y e = cc
-
 pub makes_same : OutputsAreRead → InputsAreKept → StatusMakesTheSame
 unfolding StatusMakesTheSame
 makes_same outputs inputs window arguments script settings before now files left out said status next tags printed c run completed wanted plain again =
@@ -234,11 +241,11 @@ makes_same outputs inputs window arguments script settings before now files left
     let had : All (HasText run.templates) ((lists_of script).files ++ (lists_of script).headers) =
     have_texts settings.no_create run.templates (lists_of script).files (lists_of script).headers wanted begins.there in
     let all : All (HasSame again.templates run.templates) ((lists_of script).files ++ (lists_of script).headers) =
-    λ i d lt. same_template window arguments script settings before now files left out said status c run plain inputs again.templates same_filled.sound _ (had i d lt) (same_filled.complete i d lt) in
+    λ i d lt. same_template window arguments script settings before now files left out said status c run plain inputs again.templates same_filled.sound (get_or ((lists_of script).files ++ (lists_of script).headers) i d) (had i d lt) (same_filled.complete i d lt) in
     let made_is = sym (gives.again again.templates tags) ∙ ap (λ t. remade t again.templates tags) (sym text) ∙ again.remakes in
     let first = bind_ok (none_unknown (unknown rec tags)) _ again.made made_is in
     let second = bind_ok (present rec again.templates tags) _ again.made first.2 in
-    let made : outputs_with script start report again.templates tags ≡ again.made = from_ok _ _ second.2 in
+    let made : outputs_with script start report again.templates tags ≡ again.made = ok_is _ _ second.2 in
     sym made
     ∙ ap (filter (is_chosen tags)) (handed_same start.cache_name start.no_create report.outcome report.vars again.templates run.templates rec completed (begins.wanted ∙ wanted)
     (subst (λ l. All (HasSame again.templates run.templates) l) (sym lists) all))

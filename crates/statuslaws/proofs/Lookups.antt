@@ -4,7 +4,6 @@ use Rattle.std.specs.Prelude.{◌^◌, All, IfSome, is_some, unwrap_or, not, fil
 use Rattle.std.specs.List.{Contains}
 use Rattle.std.specs.Str.{IsUtf8, is_utf8}
 use Rattle.std.proofs.lemmas.Bool.{true≢false}
-use Rattle.std.proofs.lemmas.Bool.Decides.{Decides}
 use Rattle.std.proofs.lemmas.List.Elements.{All-nil, All-cons, All-head, All-tail, All-contains, All-weaker, All-append}
 use Rattle.std.proofs.lemmas.Slice.Eq.{bytes_eq-Decides}
 use Rattle.std.proofs.lemmas.Str.{IsUtf8-from_is_utf8, is_utf8-from_IsUtf8}
@@ -48,7 +47,7 @@ by_length : (b : Bool) (text read : List ℕ) → Some read ≡ (if b then Some 
 by_length true text read e = cc
 by_length false text read e = absurd cc
 
-whole_is : (there : Option (List ℕ)) (read : List ℕ) → Some read ≡ whole there → there ≡ Some read
+pub whole_is : (there : Option (List ℕ)) (read : List ℕ) → Some read ≡ whole there → there ≡ Some read
 whole_is None read e = absurd cc
 whole_is (Some text) read e = ap Some (by_length (nat_le (length text) (2 ^ 26)) text read e)
 
