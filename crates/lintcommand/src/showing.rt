@@ -1,14 +1,13 @@
 //! Prints what was found.
 
-ghost use Rattle.std.specs.Prelude.{◌≡◌};
-ghost use Rattle.lintcommand.specs.Status as specs;
+ghost use Rattle.std.specs.Prelude.{◌≤◌};
 
 use crate::errors::Found;
 use crate::reading::Linted;
 use crate::sheets::Sheets;
 use deftable::Bytes;
 use excerpts::{excerpt_of, json_of};
-use findings::Finding;
+use findings::{Finding, Severity};
 use std::alloc::{AllocError, Global};
 use wordtable::{Page, Part, keys};
 
@@ -102,9 +101,21 @@ pub(crate) fn page_of(
     Ok(page)
 }
 
-/// Returns the exit status after a source: 1 if it has an error, and 0 otherwise.
-pub(crate) fn status_of(has_error: bool) -> u8
-    ensures { result ≡ specs.status_of has_error }
+fn is_error(finding: &Finding) -> bool {
+    match finding.severity {
+        Severity::Error => true,
+        Severity::Warning => false,
+    }
+}
+
+/// Returns the exit status after these findings: 1 if one of them is an error, and 0 otherwise.
+pub(crate) fn status_of(found: &[Finding]) -> u8
+    ensures { result ≤ 2 }
 {
-    if has_error { 1 } else { 0 }
+    for finding in found {
+        if is_error(finding) {
+            return 1;
+        }
+    }
+    0
 }

@@ -46,10 +46,6 @@ pub unanswered_why : (n : ℕ) (P : List (List ℕ) → Type 0) (seen : Call) �
 unanswered_why n P (Why words) e = λ ne. absurd (ne e)
 unanswered_why n P call e = tt
 
-pub unanswered_lint : (n : ℕ) (P Q : List (List ℕ) → Type 0) (seen : Call) → n ≡ 2 → IfLint seen (λ words. (P words → n ≡ 2) × (n ≢ 2 → Q words))
-unanswered_lint n P Q (Lint words) e = (λ wrong. e, λ ne. absurd (ne e))
-unanswered_lint n P Q call e = tt
-
 pub failed_port : (n : ℕ) (P : Type 0) (seen : Call) → n ≡ 2 → IfPort seen (λ words. (n ≤ 2) × (n ≢ 2 → P))
 failed_port n P (Port words) e = (omega (arith, e), λ ne. absurd (ne e))
 failed_port n P call e = tt

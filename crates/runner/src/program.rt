@@ -2,7 +2,6 @@
 
 ghost use Rattle.std.specs.Prelude.{◌≡◌, false, ◌∷◌, ◌≢◌, ◌⊎◌, ◌≤◌, ◌<◌, ℕ, List, [], length, None, IfSome};
 ghost use Rattle.std.specs.Io.KnownBytes.{Appends};
-ghost use Rattle.std.specs.List.{list_all};
 ghost use Rattle.commands.specs.MadeAgain.{IsMadeAgain};
 ghost use Rattle.configuring.specs.Configures.{IsConfigured, IsRechecked, MayRun};
 ghost use Rattle.crew_trait.specs.Events.{IsIdle};
@@ -10,7 +9,6 @@ ghost use Rattle.diskfiles.specs.Held.{fresh};
 ghost use Rattle.filtering.specs.Filtered.{IsFiltered};
 ghost use Rattle.invocation.specs.Calls.{call_of, Unknown, Version, IfFilter, IfStandIn, IfConfigure, IfStatus, IfRecheck, IfWhy, IfHelp, IfLint, HasNoRun, HasNoInput, HasNoOutput};
 ghost use Rattle.invocation.specs.Errors.{AreTold};
-ghost use Rattle.lintcommand.specs.Status.{IsStatus, is_known};
 ghost use Rattle.portcommand.specs.Asked.{request_of};
 ghost use Rattle.portcommand.specs.Printed.{IsAnswer};
 ghost use Rattle.runner.specs.Ports.{IfPort};
@@ -62,7 +60,6 @@ fn explain<D: Disk, R: Read, W: Write, E: Write>(
     ensures help { IfHelp (call_of words.now) (λ asked. ((result ≡ 0) ⊎ (result ≡ 2)) × (1 < length asked → result ≡ 2) × (result ≡ 0 → terminal.new.errors ≡ terminal.old.errors)) }
     ensures version { call_of words.now ≡ Version → ((result ≡ 0) ⊎ (result ≡ 2)) × (result ≡ 0 → terminal.new.errors ≡ terminal.old.errors) }
     ensures linted { IfLint (call_of words.now) (λ asked. (result ≤ 2) × (result ≢ 2 → terminal.new.errors ≡ terminal.old.errors)) }
-    ensures lint { IfLint (call_of words.now) (λ asked. (list_all is_known asked ≡ false → result ≡ 2) × (result ≢ 2 → IsStatus (D.known terminal.old.outputs.disk) asked result)) }
     ensures ported { IfPort (call_of words.now) (λ asked. (result ≤ 2) × (result ≢ 2 → terminal.new.errors ≡ terminal.old.errors)) }
     ensures port { IfPort (call_of words.now) (λ asked. (request_of asked ≡ None → result ≡ 2)
         × (result ≢ 2 → (out : List ℕ) × IsAnswer (request_of asked) out result × Appends (W.contents terminal.old.output) (W.contents terminal.new.output) out)) }
@@ -145,9 +142,6 @@ pub fn run<F: Files, D: Disk, C: Crew + Causes, R: Read, W: Write, E: Write>(
     ensures help { IfHelp (call_of words.now) (λ asked. ((result ≡ 0) ⊎ (result ≡ 2)) × (1 < length asked → result ≡ 2) × (result ≡ 0 → terminal.new.errors ≡ terminal.old.errors)) }
     ensures version { call_of words.now ≡ Version → ((result ≡ 0) ⊎ (result ≡ 2)) × (result ≡ 0 → terminal.new.errors ≡ terminal.old.errors) }
     ensures linted { IfLint (call_of words.now) (λ asked. (result ≤ 2) × (result ≢ 2 → terminal.new.errors ≡ terminal.old.errors)) }
-    // Unless the status of `lint` is 2, the sources were read, and it is 1 exactly if one of them has an error. If an option isn't
-    // known, it is 2.
-    ensures lint { IfLint (call_of words.now) (λ asked. (list_all is_known asked ≡ false → result ≡ 2) × (result ≢ 2 → IsStatus (D.known terminal.old.outputs.disk) asked result)) }
     // Unless the status of `port` is 2, a source that was rewritten is written, and it is 1 exactly if that has comments about
     // what is left. If the words are wrong, it is 2.
     ensures ported { IfPort (call_of words.now) (λ asked. (result ≤ 2) × (result ≢ 2 → terminal.new.errors ≡ terminal.old.errors)) }
@@ -259,7 +253,6 @@ pub fn command<C: Crew + Causes + Children>(
     ensures help { IfHelp (call_of words.now) (λ asked. ((result ≡ 0) ⊎ (result ≡ 2)) × (1 < length asked → result ≡ 2)) }
     ensures version { call_of words.now ≡ Version → (result ≡ 0) ⊎ (result ≡ 2) }
     ensures linted { IfLint (call_of words.now) (λ asked. result ≤ 2) }
-    ensures lint { IfLint (call_of words.now) (λ asked. (list_all is_known asked ≡ false → result ≡ 2) × (result ≢ 2 → IsStatus None asked result)) }
     ensures port { IfPort (call_of words.now) (λ asked. (result ≤ 2) × (request_of asked ≡ None → result ≡ 2) × (result ≢ 2 → (out : List ℕ) × IsAnswer (request_of asked) out result)) }
     ensures unknown { call_of words.now ≡ Unknown → result ≡ 2 }
     ensures crew { HasNoRun (call_of words.now) → crew.new ≡ crew.old }

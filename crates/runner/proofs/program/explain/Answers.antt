@@ -1,4 +1,4 @@
-use Rattle.runner.proofs.Others.{failed_help, failed_lint, failed_port, failed_why, unanswered_lint, unanswered_port, unanswered_why}
+use Rattle.runner.proofs.Others.{failed_help, failed_lint, failed_port, failed_why, unanswered_port, unanswered_why}
 use Rattle.runner.proofs.program.explain.Goals as goal
 
 pub returns-in_default-clause-explained : goal.returns-in_default-clause-explained
@@ -12,9 +12,6 @@ returns-in_default-clause-linted g c = failed_lint _ _ _ c.tell_unknown.ensures
 
 pub returns-in_default-clause-why : goal.returns-in_default-clause-why
 returns-in_default-clause-why g c = unanswered_why _ _ _ c.tell_unknown.ensures
-
-pub returns-in_default-clause-lint : goal.returns-in_default-clause-lint
-returns-in_default-clause-lint g c = unanswered_lint _ _ _ _ c.tell_unknown.ensures
 
 pub returns-in_default-clause-ported : goal.returns-in_default-clause-ported
 returns-in_default-clause-ported g c = failed_port _ _ _ c.tell_unknown.ensures

@@ -1,3 +1,0 @@
-mod Missing
-mod Paths
-mod Words
