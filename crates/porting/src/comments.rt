@@ -356,7 +356,6 @@ fn commented_at(alloc: Global, text: &[u8], errors: &[Finding]) -> Result<Vec<u8
 }
 
 /// Returns the text with a comment at each error, and so with one at least. The errors are in order of their places.
-#[tactic(auto, using(crate::proofs::Left::kept_commented))]
 pub(crate) fn commented(
     alloc: Global,
     text: &[u8],
