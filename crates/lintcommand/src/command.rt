@@ -1,47 +1,50 @@
 //! The command.
 
-ghost use Rattle.std.specs.Prelude.{◌≡◌, ◌≢◌, ◌≤◌, false, IfOk, IfSome};
-ghost use Rattle.std.specs.List.{list_any};
+ghost use Rattle.std.specs.Prelude.{◌≡◌, ◌≢◌, ◌≤◌, ◌&&◌, ◌||◌, Bool, true, false, [], ◌∷◌, IfOk, IfSome, codes};
+ghost use Rattle.std.specs.List.{list_any, filter};
 ghost use Rattle.invocation.specs.Calls as calls;
+ghost use Rattle.lintcommand.specs.Status as specs;
 
 use crate::errors::found_in;
-use crate::reading::{Linted, SOURCE, has_input, is_option, read_named};
-use crate::showing::{Form, page_of, status_of};
+use crate::reading::{Linted, SOURCE, read_named};
+use crate::showing::{Form, page_of};
+use crate::words::{asks_json, has_input, has_name, has_unknown, is_name};
 use deftable::Bytes;
 use disk::Disk;
 use invocation::{tell_file, tell_memory, tell_usage};
 use std::alloc::{AllocError, Global};
 use std::io::{Read, Write};
 
-/// The option for JSON.
-const JSON: &[u8] = b"--json";
-
 /// The name of standard output in the line of a fault.
 const OUTPUT: &[u8] = b"standard output";
 
-/// Returns whether each option is known.
-fn are_known(words: &[Bytes]) -> bool {
-    words.iter().all(|word| !is_option(word.as_slice()) || word.as_slice() == JSON)
+/// Returns the exit status after what was found in a source.
+fn status_of(has_error: bool) -> u8
+    ensures status { result ≡ specs.status_of has_error }
+    ensures bound { result ≤ 1 }
+{
+    if has_error { 1 } else { 0 }
 }
 
-/// Returns the page of what is found in a source, and the exit status.
+/// Returns the page of what is found in a source, and whether that has an error.
 fn lint_text<D: Disk>(
     alloc: Global,
     disk: &D,
     form: Form,
     linted: &Linted,
-) -> Result<(Vec<u8>, u8), AllocError>
-    ensures { IfOk result (λ r. r.1 ≤ 2) }
+) -> Result<(Vec<u8>, bool), AllocError>
+    ensures { IfOk result (λ r. specs.HasError (D.known disk.now) linted.now.directory linted.now.text r.1) }
 {
     let found = found_in(alloc, disk, linted)?;
     let page = page_of(alloc, form, linted, &found)?;
-    Ok((page, status_of(found.findings.as_slice())))
+    Ok((page, found.has_error))
 }
 
 /// Writes a page, and returns the exit status: that which is given, unless the page can't be written.
-pub fn put_page<W: Write, E: Write>(page: &[u8], status: u8, output: &mut W, errors: &mut E) -> u8
-    requires { status ≤ 2 }
-    ensures status { result ≤ 2 }
+fn put_page<W: Write, E: Write>(page: &[u8], status: u8, output: &mut W, errors: &mut E) -> u8
+    requires { status ≤ 1 }
+    ensures bound { result ≤ 2 }
+    ensures status { result ≢ 2 → result ≡ status }
     ensures silent { result ≢ 2 → errors.new ≡ errors.old }
 {
     match output.write_all(page) {
@@ -50,8 +53,8 @@ pub fn put_page<W: Write, E: Write>(page: &[u8], status: u8, output: &mut W, err
     }
 }
 
-/// Reads the source that a word names, and returns the page of what is found in it with the exit
-/// status, or `None` if it can't be read.
+/// Reads the source that a word names, and returns the page of what is found in it and whether that has an error, or `None` if it can't be
+/// read.
 fn page_for<D: Disk, R: Read>(
     alloc: Global,
     disk: &D,
@@ -59,9 +62,9 @@ fn page_for<D: Disk, R: Read>(
     word: &[u8],
     reads: bool,
     input: &mut R,
-) -> Result<Option<(Vec<u8>, u8)>, AllocError>
+) -> Result<Option<(Vec<u8>, bool)>, AllocError>
     ensures input { reads ≡ false → input.new ≡ input.old }
-    ensures status { IfOk result (λ o. IfSome o (λ r. r.1 ≤ 2)) }
+    ensures linted { IfOk result (λ o. IfSome o (λ r. specs.IsLinted (D.known disk.now) (reads && calls.is_input word.now) word.now r.1)) }
 {
     match read_named(alloc, disk, reads, input, word)? {
         Some(linted) => Ok(Some(lint_text(alloc, disk, form, &linted)?)),
@@ -69,36 +72,92 @@ fn page_for<D: Disk, R: Read>(
     }
 }
 
-/// Writes the page for a word, or says why there is none, and returns the exit status.
-fn put_found<W: Write, E: Write>(
-    word: &[u8],
-    found: Result<Option<(Vec<u8>, u8)>, AllocError>,
+/// Lints the source of a name, and returns the exit status.
+fn lint_name<D: Disk, R: Read, W: Write, E: Write>(
+    alloc: Global,
+    disk: &D,
+    form: Form,
+    name: &[u8],
+    reads: bool,
+    input: &mut R,
     output: &mut W,
     errors: &mut E,
 ) -> u8
-    requires status { IfOk found (λ o. IfSome o (λ r. r.1 ≤ 2)) }
-    ensures status { result ≤ 2 }
+    ensures input { reads ≡ false → input.new ≡ input.old }
+    ensures bound { result ≤ 2 }
     ensures silent { result ≢ 2 → errors.new ≡ errors.old }
+    ensures linted { result ≢ 2 → (has : Bool) × specs.IsLinted (D.known disk.now) (reads && calls.is_input name.now) name.now has × (result ≡ specs.status_of has) }
 {
-    match found {
-        Ok(Some((page, status))) => put_page(page.as_slice(), status, output, errors),
-        Ok(None) => tell_file(errors, word),
+    match page_for(alloc, disk, form, name, reads, input) {
+        Ok(Some((page, has_error))) => {
+            put_page(page.as_slice(), status_of(has_error), output, errors)
+        }
+        Ok(None) => tell_file(errors, name),
         Err(_) => tell_memory(errors),
     }
 }
 
 /// Returns the larger of two exit statuses.
+#[tactic(auto, using(crate::proofs::Statuses::worse_next, crate::proofs::Statuses::worse_first))]
 fn worse(status: u8, next: u8) -> u8
     requires status { status ≤ 2 }
     requires next { next ≤ 2 }
-    ensures status { result ≤ 2 }
+    ensures bound { result ≤ 2 }
     ensures first { result ≢ 2 → status ≢ 2 }
     ensures second { result ≢ 2 → next ≢ 2 }
+    ensures both { (has also : Bool) → status ≡ specs.status_of has → next ≡ specs.status_of also → result ≡ specs.status_of (has || also) }
 {
     if status < next { next } else { status }
 }
 
-/// Lints each source that the words name, and returns the exit status, which is the largest of theirs.
+/// Lints each source that words name, and returns the exit status, which is the largest of theirs.
+fn lint_names<D: Disk, R: Read, W: Write, E: Write>(
+    alloc: Global,
+    disk: &D,
+    form: Form,
+    words: &[Bytes],
+    reads: bool,
+    input: &mut R,
+    output: &mut W,
+    errors: &mut E,
+) -> u8
+    requires { reads ≡ list_any calls.is_input words.now }
+    ensures input { reads ≡ false → input.new ≡ input.old }
+    ensures bound { result ≤ 2 }
+    ensures silent { result ≢ 2 → errors.new ≡ errors.old }
+    ensures linted { result ≢ 2 → (has : Bool) × specs.AreLinted (D.known disk.now) (filter specs.is_name words.now) has × (result ≡ specs.status_of has) }
+{
+    let mut status: u8 = 0;
+    'words: for word in words {
+        if is_name(word) {
+            let name = word.as_slice();
+            let next = lint_name(alloc, disk, form, name, reads, input, output, errors);
+            status = worse(status, next);
+        }
+    }
+    status
+}
+
+/// Lints the source in the current directory, and returns the exit status.
+#[tactic(auto, using(crate::proofs::Statuses::here))]
+fn lint_here<D: Disk, R: Read, W: Write, E: Write>(
+    alloc: Global,
+    disk: &D,
+    form: Form,
+    input: &mut R,
+    output: &mut W,
+    errors: &mut E,
+) -> u8
+    ensures input { input.new ≡ input.old }
+    ensures bound { result ≤ 2 }
+    ensures silent { result ≢ 2 → errors.new ≡ errors.old }
+    ensures linted { result ≢ 2 → (has : Bool) × specs.AreLinted (D.known disk.now) (codes "configure.ac" ∷ []) has × (result ≡ specs.status_of has) }
+{
+    lint_name(alloc, disk, form, SOURCE, false, input, output, errors)
+}
+
+/// Lints each source that words name, or the one in the current directory, and returns the exit status.
+#[tactic(auto, using(crate::proofs::Statuses::by_names, crate::proofs::Statuses::by_none))]
 fn lint_all<D: Disk, R: Read, W: Write, E: Write>(
     alloc: Global,
     disk: &D,
@@ -109,23 +168,16 @@ fn lint_all<D: Disk, R: Read, W: Write, E: Write>(
     errors: &mut E,
 ) -> u8
     ensures input { list_any calls.is_input words.now ≡ false → input.new ≡ input.old }
-    ensures status { result ≤ 2 }
+    ensures bound { result ≤ 2 }
     ensures silent { result ≢ 2 → errors.new ≡ errors.old }
+    ensures linted { result ≢ 2 → specs.IsStatus (D.known disk.now) words.now result }
 {
     let reads = has_input(words);
-    if words.iter().all(|word| is_option(word.as_slice())) {
-        let found = page_for(alloc, disk, form, SOURCE, false, input);
-        return put_found(SOURCE, found, output, errors);
+    if has_name(words) {
+        lint_names(alloc, disk, form, words, reads, input, output, errors)
+    } else {
+        lint_here(alloc, disk, form, input, output, errors)
     }
-    let mut status: u8 = 0;
-    for word in words {
-        if !is_option(word.as_slice()) {
-            let name = word.as_slice();
-            let found = page_for(alloc, disk, form, name, reads, input);
-            status = worse(status, put_found(name, found, output, errors));
-        }
-    }
-    status
 }
 
 /// Prints what is wrong with the sources that the words name, and returns the exit status.
@@ -151,12 +203,16 @@ pub fn run_lint<D: Disk, R: Read, W: Write, E: Write>(
     ensures status { result ≤ 2 }
     // Nothing is on standard error unless something could not be read, written or understood.
     ensures silent { result ≢ 2 → errors.new ≡ errors.old }
+    // It is 2 if an option isn't known.
+    ensures unknown { list_any specs.is_unknown words.now ≡ true → result ≡ 2 }
+    // Unless it is 2, the sources that the words name were read, and it is 1 exactly if one of them has an error.
+    ensures linted { result ≢ 2 → specs.IsStatus (D.known disk.now) words.now result }
 {
-    if !are_known(words) {
+    if has_unknown(words) {
         return tell_usage(errors);
     }
     let form = Form {
-        is_json: words.iter().any(|word| word.as_slice() == JSON),
+        is_json: asks_json(words),
         is_coloured,
     };
     lint_all(alloc, disk, form, words, input, output, errors)

@@ -1,7 +1,13 @@
 //! What is found in a source: its errors, the templates that are not there, and the warnings.
 
+ghost use Rattle.std.specs.Prelude.{option_map, Some, IfOk};
+ghost use Rattle.lintcommand.specs.Missing as specs;
+ghost use Rattle.lintcommand.specs.Status.{HasError};
+ghost use Rattle.syntax.specs.Script.{script_of};
+
 use crate::reading::Linted;
-use crate::sheets::{Sheets, read_sheets};
+use crate::sheets::{Sheets, sheets_of};
+use crate::templates::read_all;
 use crate::warnings::add_warnings;
 use acparse::{ParseFault, parse};
 use disk::Disk;
@@ -17,35 +23,86 @@ use syntax::Source;
 pub(crate) struct Found {
     pub(crate) findings: Vec<Finding>,
     pub(crate) sheets: Sheets,
+    /// Whether one of them is an error.
+    pub(crate) has_error: bool,
 }
 
-/// Appends what is found in a source that is read and in its templates, and returns the templates.
-fn add_of_read<D: Disk>(
+/// Returns the statements of a source, unless it is refused.
+fn parsed(alloc: Global, text: &[u8]) -> Result<Option<Source>, AllocError>
+    ensures { IfOk result (λ o. specs.IsParsed text.now (option_map script_of o)) }
+{
+    match parse(alloc, text) {
+        Ok(source) => Ok(Some(source)),
+        Err(ParseFault::OutOfMemory) => Err(AllocError),
+        Err(_) => Ok(None),
+    }
+}
+
+/// Reads the templates of a source that has statements, and appends an error for each output whose template can't be read.
+fn templates_of<D: Disk>(
     alloc: Global,
     disk: &D,
     linted: &Linted,
-    calls: &[CallAt],
     source: &Source,
     found: &mut Vec<Finding>,
-) -> Result<Sheets, AllocError> {
-    let sheets = read_sheets(alloc, disk, linted, source, found)?;
-    add_warnings(alloc, linted.text.as_slice(), calls, source, &sheets, found)?;
-    Ok(sheets)
+) -> Result<Sheets, AllocError>
+    ensures { IfOk result (λ _. specs.AreCheckedOf (D.known disk.now) linted.now.directory (Some (script_of source.now)) found.old.items found.new.items) }
+{
+    let templates = read_all(alloc, disk, linted, source, found)?;
+    sheets_of(alloc, linted.directory.as_slice(), source, templates)
 }
 
-/// Appends what is found in the templates and the statements, if the source is read, and returns the templates.
-fn add_further<D: Disk>(
+/// Reads the templates of a source, if it has statements, and appends an error for each output whose template can't be read.
+fn sheets_for<D: Disk>(
     alloc: Global,
     disk: &D,
     linted: &Linted,
-    calls: &[CallAt],
+    source: &Option<Source>,
     found: &mut Vec<Finding>,
-) -> Result<Sheets, AllocError> {
-    match parse(alloc, linted.text.as_slice()) {
-        Ok(source) => add_of_read(alloc, disk, linted, calls, &source, found),
-        Err(ParseFault::OutOfMemory) => Err(AllocError),
-        Err(_) => Ok(Sheets::none(alloc)),
+) -> Result<Sheets, AllocError>
+    ensures { IfOk result (λ _. specs.AreCheckedOf (D.known disk.now) linted.now.directory (option_map script_of source.now) found.old.items found.new.items) }
+{
+    match source {
+        Some(source) => templates_of(alloc, disk, linted, source, found),
+        None => Ok(Sheets::none(alloc)),
     }
+}
+
+/// Returns whether there are errors.
+#[tactic(auto, using(crate::proofs::Lost::has_some))]
+fn has_some(errors: &[Finding]) -> bool
+    ensures { specs.HasSome errors.now result }
+{
+    !errors.is_empty()
+}
+
+/// Appends the warnings about a source and its templates: if it is refused, those about its calls alone.
+fn add_all_warnings(
+    alloc: Global,
+    text: &[u8],
+    calls: &[CallAt],
+    source: &Option<Source>,
+    sheets: &Sheets,
+    found: &mut Vec<Finding>,
+) -> Result<(), AllocError> {
+    warn_of_calls(alloc, text, calls, found)?;
+    match source {
+        Some(source) => add_warnings(alloc, text, calls, source, sheets, found),
+        None => Ok(()),
+    }
+}
+
+/// Appends the warnings about a source and its templates, and puts what was found in order of place.
+fn finish(
+    alloc: Global,
+    text: &[u8],
+    source: &Option<Source>,
+    sheets: &Sheets,
+    found: &mut Vec<Finding>,
+) -> Result<(), AllocError> {
+    let calls = calls_of(alloc, text)?;
+    add_all_warnings(alloc, text, calls.as_slice(), source, sheets, found)?;
+    put_in_order(found)
 }
 
 /// Returns what is found in a source, in order of place: its errors, the templates that are not there, and the warnings. If the source
@@ -54,12 +111,18 @@ pub(crate) fn found_in<D: Disk>(
     alloc: Global,
     disk: &D,
     linted: &Linted,
-) -> Result<Found, AllocError> {
+) -> Result<Found, AllocError>
+    ensures { IfOk result (λ f. HasError (D.known disk.now) linted.now.directory linted.now.text f.has_error) }
+{
     let text = linted.text.as_slice();
     let mut findings = all_errors(alloc, text)?;
-    let calls = calls_of(alloc, text)?;
-    warn_of_calls(alloc, text, calls.as_slice(), &mut findings)?;
-    let sheets = add_further(alloc, disk, linted, calls.as_slice(), &mut findings)?;
-    put_in_order(&mut findings)?;
-    Ok(Found { findings, sheets })
+    let source = parsed(alloc, text)?;
+    let sheets = sheets_for(alloc, disk, linted, &source, &mut findings)?;
+    let has_error = has_some(findings.as_slice());
+    finish(alloc, text, &source, &sheets, &mut findings)?;
+    Ok(Found {
+        findings,
+        sheets,
+        has_error,
+    })
 }

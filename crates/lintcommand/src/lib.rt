@@ -19,6 +19,8 @@ mod sheets;
 mod showing;
 mod templates;
 mod warnings;
+mod words;
 
-pub use command::{may_colour, put_page, run_lint};
-pub use reading::{Linted, SOURCE, has_input, is_option, read_named};
+pub use command::{may_colour, run_lint};
+pub use reading::{Linted, SOURCE, read_named};
+pub use words::{has_input, is_option};

@@ -1,12 +1,7 @@
 //! The templates of a source, as they are read for warnings.
 
-use crate::reading::Linted;
-use crate::templates::missing;
 use deftable::Bytes;
-use disk::Disk;
 use diskfiles::path_in;
-use findings::Finding;
-use invocation::read_templates;
 use outputlist::Output;
 use std::alloc::{AllocError, Global};
 use syntax::Source;
@@ -62,48 +57,34 @@ impl Sheets {
     }
 }
 
-/// Appends the place of the template of an output, unless it was appended before, or an error if it was not read.
+/// Appends the place of the template of an output among those that were read, unless it isn't there, or was appended before.
 fn add_place(
-    alloc: Global,
-    linted: &Linted,
     templates: &[(Bytes, Bytes)],
     output: &Output,
     places: &mut Vec<usize>,
-    found: &mut Vec<Finding>,
 ) -> Result<(), AllocError> {
     let name = output.template.as_slice();
-    match templates
+    let place = templates
         .iter()
-        .position(|template| template.0.as_slice() == name)
-    {
-        Some(place) => {
-            if !places.iter().any(|other| *other == place) {
-                places.push(place)?;
-            }
-            Ok(())
-        }
-        None => {
-            let path = path_in(alloc, linted.directory.as_slice(), name)?;
-            let text = linted.text.as_slice();
-            let error = missing(alloc, text, output.name.as_slice(), path.as_slice())?;
-            found.push(error)?;
-            Ok(())
-        }
+        .position(|template| template.0.as_slice() == name);
+    let Some(place) = place else {
+        return Ok(());
+    };
+    if !places.iter().any(|other| *other == place) {
+        places.push(place)?;
     }
+    Ok(())
 }
 
-/// Returns the places of the templates of outputs among those that were read, and appends an error for each output whose template
-/// was not.
+/// Returns the places of the templates of outputs among those that were read.
 fn places_of(
     alloc: Global,
-    linted: &Linted,
     templates: &[(Bytes, Bytes)],
     outputs: &[Output],
-    found: &mut Vec<Finding>,
 ) -> Result<Vec<usize>, AllocError> {
     let mut places = Vec::new(alloc);
     for output in outputs {
-        add_place(alloc, linted, templates, output, &mut places, found)?;
+        add_place(templates, output, &mut places)?;
     }
     Ok(places)
 }
@@ -122,20 +103,15 @@ fn sheets_in(
     Ok(sheets)
 }
 
-/// Reads the templates of a source, each once, and appends an error for each output whose template can't be read.
-pub(crate) fn read_sheets<D: Disk>(
+/// Returns the templates of a source that were read.
+pub(crate) fn sheets_of(
     alloc: Global,
-    disk: &D,
-    linted: &Linted,
+    directory: &[u8],
     source: &Source,
-    found: &mut Vec<Finding>,
+    templates: Vec<(Bytes, Bytes)>,
 ) -> Result<Sheets, AllocError> {
-    let directory = linted.directory.as_slice();
-    let of_files = source.files().as_slice();
-    let of_headers = source.headers().as_slice();
-    let templates = read_templates(alloc, disk, directory, of_files, of_headers)?;
-    let files = places_of(alloc, linted, templates.as_slice(), of_files, found)?;
-    let headers = places_of(alloc, linted, templates.as_slice(), of_headers, found)?;
+    let files = places_of(alloc, templates.as_slice(), source.files().as_slice())?;
+    let headers = places_of(alloc, templates.as_slice(), source.headers().as_slice())?;
     let read = sheets_in(alloc, directory, templates)?;
     Ok(Sheets {
         read,

@@ -1,13 +1,11 @@
 //! Prints what was found.
 
-ghost use Rattle.std.specs.Prelude.{◌≤◌};
-
 use crate::errors::Found;
 use crate::reading::Linted;
 use crate::sheets::Sheets;
 use deftable::Bytes;
 use excerpts::{excerpt_of, json_of};
-use findings::{Finding, Severity};
+use findings::Finding;
 use std::alloc::{AllocError, Global};
 use wordtable::{Page, Part, keys};
 
@@ -99,23 +97,4 @@ pub(crate) fn page_of(
         put_rest(alloc, &mut page, linted, findings.len())?;
     }
     Ok(page)
-}
-
-fn is_error(finding: &Finding) -> bool {
-    match finding.severity {
-        Severity::Error => true,
-        Severity::Warning => false,
-    }
-}
-
-/// Returns the exit status after these findings: 1 if one of them is an error, and 0 otherwise.
-pub(crate) fn status_of(found: &[Finding]) -> u8
-    ensures { result ≤ 2 }
-{
-    for finding in found {
-        if is_error(finding) {
-            return 1;
-        }
-    }
-    0
 }

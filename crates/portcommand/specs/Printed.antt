@@ -1,5 +1,8 @@
 -- What `acrun port` prints, and its exit status. All of this is own.
 use Rattle.std.specs.Prelude.{◌≡◌, ℕ, Bool, true, false, List, Option, Some, None}
+use Rattle.disk.specs.Known.{Known}
+use Rattle.invocation.specs.Calls.{is_input}
+use Rattle.lintcommand.specs.Status.{IsNamed}
 use Rattle.replacing.specs.declared.idioms.Idioms.{Idioms}
 use Rattle.porting.specs.Ported.{IsPorted}
 use Rattle.portcommand.specs.Asked.{Request}
@@ -15,7 +18,8 @@ pub record IsPrinted (idioms : Idioms) (text out : List ℕ) (status : ℕ) : Ty
   pub ported : IsPorted idioms text has_comments out
   pub status_is : status ≡ status_of has_comments
 
--- Some text becomes what is printed, by the idioms that are asked for. Wrong words ask for nothing.
-abbrev pub IsAnswer : Option Request → List ℕ → ℕ → Type 0
-IsAnswer (Some request) out status = (text : List ℕ) × IsPrinted request.idioms text out status
-IsAnswer None out status = ⊥
+-- The source that is asked for has a text, which becomes what is printed by the idioms that are asked for. Wrong words ask for nothing.
+abbrev pub IsAnswer : Option Known → Option Request → List ℕ → ℕ → Type 0
+IsAnswer files (Some request) out status =
+    (text : List ℕ) × (directory : List ℕ) × IsNamed files (is_input request.source) request.source text directory × IsPrinted request.idioms text out status
+IsAnswer files None out status = ⊥

@@ -1,9 +1,10 @@
 //! The command.
 
-ghost use Rattle.std.specs.Prelude.{◌≡◌, ◌≢◌, ◌≤◌, false, ℕ, List, option_map, None};
+ghost use Rattle.std.specs.Prelude.{◌≡◌, ◌≢◌, ◌≤◌, ◌&&◌, false, ℕ, List, option_map, None};
 ghost use Rattle.std.specs.List.{list_any};
 ghost use Rattle.std.specs.Io.KnownBytes.{Appends};
 ghost use Rattle.invocation.specs.Calls as calls;
+ghost use Rattle.lintcommand.specs.Status.{IsNamed};
 ghost use Rattle.portcommand.specs.Asked as wanted;
 ghost use Rattle.portcommand.specs.Printed as specs;
 
@@ -111,7 +112,9 @@ fn port_named<D: Disk, R: Read, W: Write, E: Write>(
     ensures input { reads ≡ false → input.new ≡ input.old }
     ensures bound { result ≤ 2 }
     ensures silent { result ≢ 2 → errors.new ≡ errors.old }
-    ensures ported { result ≢ 2 → (out : List ℕ) × ((text : List ℕ) × specs.IsPrinted idioms text out result) × Appends (W.contents output.old) (W.contents output.new) out }
+    ensures ported { result ≢ 2 → (out : List ℕ) × ((text : List ℕ) × (directory : List ℕ)
+        × IsNamed (D.known disk.now) (reads && calls.is_input name.now) name.now text directory × specs.IsPrinted idioms text out result)
+        × Appends (W.contents output.old) (W.contents output.new) out }
 {
     match read_named(alloc, disk, reads, input, name) {
         Ok(Some(linted)) => port_source(alloc, idioms, &linted, output, errors),
@@ -145,8 +148,9 @@ pub fn run_port<D: Disk, R: Read, W: Write, E: Write>(
     ensures silent { result ≢ 2 → errors.new ≡ errors.old }
     // It is 2 if the words are wrong.
     ensures usage { wanted.request_of words.now ≡ None → result ≡ 2 }
-    // Unless it is 2, a source that was rewritten is written. It is 1 if that has comments about what is left, and 0 otherwise.
-    ensures ported { result ≢ 2 → (out : List ℕ) × specs.IsAnswer (wanted.request_of words.now) out result × Appends (W.contents output.old) (W.contents output.new) out }
+    // Unless it is 2, the source that the words name is written as it was rewritten. It is 1 if that has comments about what is left,
+    // and 0 otherwise.
+    ensures ported { result ≢ 2 → (out : List ℕ) × specs.IsAnswer (D.known disk.now) (wanted.request_of words.now) out result × Appends (W.contents output.old) (W.contents output.new) out }
 {
     let reads = has_input(words);
     match request_of(words) {

@@ -53,3 +53,7 @@ failed_port n P call e = tt
 pub unanswered_port : (n : ℕ) (P Q : List (List ℕ) → Type 0) (seen : Call) → n ≡ 2 → IfPort seen (λ words. (P words → n ≡ 2) × (n ≢ 2 → Q words))
 unanswered_port n P Q (Port words) e = (λ wrong. e, λ ne. absurd (ne e))
 unanswered_port n P Q call e = tt
+
+pub unanswered_lint : (n : ℕ) (P Q : List (List ℕ) → Type 0) (seen : Call) → n ≡ 2 → IfLint seen (λ words. (P words → n ≡ 2) × (n ≢ 2 → Q words))
+unanswered_lint n P Q (Lint words) e = (λ unknown. e, λ ne. absurd (ne e))
+unanswered_lint n P Q call e = tt

@@ -1,7 +1,8 @@
 //! The program's commands, over its streams, its files and a crew.
 
-ghost use Rattle.std.specs.Prelude.{◌≡◌, false, ◌∷◌, ◌≢◌, ◌⊎◌, ◌≤◌, ◌<◌, ℕ, List, [], length, None, IfSome};
+ghost use Rattle.std.specs.Prelude.{◌≡◌, true, false, ◌∷◌, ◌≢◌, ◌⊎◌, ◌≤◌, ◌<◌, ℕ, List, [], length, None, IfSome};
 ghost use Rattle.std.specs.Io.KnownBytes.{Appends};
+ghost use Rattle.std.specs.List.{list_any};
 ghost use Rattle.commands.specs.MadeAgain.{IsMadeAgain};
 ghost use Rattle.configuring.specs.Configures.{IsConfigured, IsRechecked, MayRun};
 ghost use Rattle.crew_trait.specs.Events.{IsIdle};
@@ -9,6 +10,7 @@ ghost use Rattle.diskfiles.specs.Held.{fresh};
 ghost use Rattle.filtering.specs.Filtered.{IsFiltered};
 ghost use Rattle.invocation.specs.Calls.{call_of, Unknown, Version, IfFilter, IfStandIn, IfConfigure, IfStatus, IfRecheck, IfWhy, IfHelp, IfLint, HasNoRun, HasNoInput, HasNoOutput};
 ghost use Rattle.invocation.specs.Errors.{AreTold};
+ghost use Rattle.lintcommand.specs.Status.{IsStatus, is_unknown};
 ghost use Rattle.portcommand.specs.Asked.{request_of};
 ghost use Rattle.portcommand.specs.Printed.{IsAnswer};
 ghost use Rattle.runner.specs.Ports.{IfPort};
@@ -60,9 +62,11 @@ fn explain<D: Disk, R: Read, W: Write, E: Write>(
     ensures help { IfHelp (call_of words.now) (λ asked. ((result ≡ 0) ⊎ (result ≡ 2)) × (1 < length asked → result ≡ 2) × (result ≡ 0 → terminal.new.errors ≡ terminal.old.errors)) }
     ensures version { call_of words.now ≡ Version → ((result ≡ 0) ⊎ (result ≡ 2)) × (result ≡ 0 → terminal.new.errors ≡ terminal.old.errors) }
     ensures linted { IfLint (call_of words.now) (λ asked. (result ≤ 2) × (result ≢ 2 → terminal.new.errors ≡ terminal.old.errors)) }
+    ensures lint { IfLint (call_of words.now) (λ asked. (list_any is_unknown asked ≡ true → result ≡ 2)
+        × (result ≢ 2 → IsStatus (D.known terminal.old.outputs.disk) asked result)) }
     ensures ported { IfPort (call_of words.now) (λ asked. (result ≤ 2) × (result ≢ 2 → terminal.new.errors ≡ terminal.old.errors)) }
     ensures port { IfPort (call_of words.now) (λ asked. (request_of asked ≡ None → result ≡ 2)
-        × (result ≢ 2 → (out : List ℕ) × IsAnswer (request_of asked) out result × Appends (W.contents terminal.old.output) (W.contents terminal.new.output) out)) }
+        × (result ≢ 2 → (out : List ℕ) × IsAnswer (D.known terminal.old.outputs.disk) (request_of asked) out result × Appends (W.contents terminal.old.output) (W.contents terminal.new.output) out)) }
     ensures unknown { call_of words.now ≡ Unknown → result ≡ 2 }
     ensures input { HasNoInput (call_of words.now) → terminal.new.input ≡ terminal.old.input }
     ensures output { HasNoOutput (call_of words.now) → terminal.new.output ≡ terminal.old.output }
@@ -141,12 +145,16 @@ pub fn run<F: Files, D: Disk, C: Crew + Causes, R: Read, W: Write, E: Write>(
         × Appends (W.contents terminal.old.output) (W.contents terminal.new.output) out) }
     ensures help { IfHelp (call_of words.now) (λ asked. ((result ≡ 0) ⊎ (result ≡ 2)) × (1 < length asked → result ≡ 2) × (result ≡ 0 → terminal.new.errors ≡ terminal.old.errors)) }
     ensures version { call_of words.now ≡ Version → ((result ≡ 0) ⊎ (result ≡ 2)) × (result ≡ 0 → terminal.new.errors ≡ terminal.old.errors) }
+    // Unless the status of `lint` is 2, the sources that the words name were read, and it is 1 exactly if one of them has an error. If
+    // an option isn't known, it is 2.
     ensures linted { IfLint (call_of words.now) (λ asked. (result ≤ 2) × (result ≢ 2 → terminal.new.errors ≡ terminal.old.errors)) }
-    // Unless the status of `port` is 2, a source that was rewritten is written, and it is 1 exactly if that has comments about
-    // what is left. If the words are wrong, it is 2.
+    ensures lint { IfLint (call_of words.now) (λ asked. (list_any is_unknown asked ≡ true → result ≡ 2)
+        × (result ≢ 2 → IsStatus (D.known terminal.old.outputs.disk) asked result)) }
+    // Unless the status of `port` is 2, the source that the words name is written as it was rewritten, and it is 1 exactly if that has
+    // comments about what is left. If the words are wrong, it is 2.
     ensures ported { IfPort (call_of words.now) (λ asked. (result ≤ 2) × (result ≢ 2 → terminal.new.errors ≡ terminal.old.errors)) }
     ensures port { IfPort (call_of words.now) (λ asked. (request_of asked ≡ None → result ≡ 2)
-        × (result ≢ 2 → (out : List ℕ) × IsAnswer (request_of asked) out result × Appends (W.contents terminal.old.output) (W.contents terminal.new.output) out)) }
+        × (result ≢ 2 → (out : List ℕ) × IsAnswer (D.known terminal.old.outputs.disk) (request_of asked) out result × Appends (W.contents terminal.old.output) (W.contents terminal.new.output) out)) }
     ensures unknown { call_of words.now ≡ Unknown → result ≡ 2 }
     // Only a run starts children, only the filter, `lint` and `port` read the input, and the stand-in
     // writes no output. Only a run, and outputs that are made again, change files through
@@ -252,8 +260,8 @@ pub fn command<C: Crew + Causes + Children>(
     ensures why { IfWhy (call_of words.now) (λ asked. result ≢ 2 → (out : List ℕ) × IsWhy None asked out result) }
     ensures help { IfHelp (call_of words.now) (λ asked. ((result ≡ 0) ⊎ (result ≡ 2)) × (1 < length asked → result ≡ 2)) }
     ensures version { call_of words.now ≡ Version → (result ≡ 0) ⊎ (result ≡ 2) }
-    ensures linted { IfLint (call_of words.now) (λ asked. result ≤ 2) }
-    ensures port { IfPort (call_of words.now) (λ asked. (result ≤ 2) × (request_of asked ≡ None → result ≡ 2) × (result ≢ 2 → (out : List ℕ) × IsAnswer (request_of asked) out result)) }
+    ensures lint { IfLint (call_of words.now) (λ asked. (result ≤ 2) × (list_any is_unknown asked ≡ true → result ≡ 2) × (result ≢ 2 → IsStatus None asked result)) }
+    ensures port { IfPort (call_of words.now) (λ asked. (result ≤ 2) × (request_of asked ≡ None → result ≡ 2) × (result ≢ 2 → (out : List ℕ) × IsAnswer None (request_of asked) out result)) }
     ensures unknown { call_of words.now ≡ Unknown → result ≡ 2 }
     ensures crew { HasNoRun (call_of words.now) → crew.new ≡ crew.old }
     ensures idle { IsIdle (C.account crew.new).events }

@@ -1,4 +1,4 @@
-use Rattle.runner.proofs.Others.{failed_help, failed_lint, failed_port, failed_why, unanswered_port, unanswered_why}
+use Rattle.runner.proofs.Others.{failed_help, failed_lint, failed_port, failed_why, unanswered_lint, unanswered_port, unanswered_why}
 use Rattle.runner.proofs.program.explain.Goals as goal
 
 pub returns-in_default-clause-explained : goal.returns-in_default-clause-explained
@@ -18,3 +18,6 @@ returns-in_default-clause-ported g c = failed_port _ _ _ c.tell_unknown.ensures
 
 pub returns-in_default-clause-port : goal.returns-in_default-clause-port
 returns-in_default-clause-port g c = unanswered_port _ _ _ _ c.tell_unknown.ensures
+
+pub returns-in_default-clause-lint : goal.returns-in_default-clause-lint
+returns-in_default-clause-lint g c = unanswered_lint _ _ _ _ c.tell_unknown.ensures

@@ -1,0 +1,3 @@
+pub mod Lost
+pub mod Paths
+pub mod Statuses
