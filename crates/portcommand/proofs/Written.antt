@@ -1,8 +1,7 @@
 -- What is printed, and its status.
-use Rattle.std.proofs.Common.{◌≡◌, ◌≢◌, ◌⊎◌, inl, inr, ℕ, List, [], ◌∷◌, Option, Some, None, Result, Ok, Err, Bool, true, false, ◌&&◌, ◌||◌, ap, subst, sym, refl, ◌∙◌, option_map, true≢false}
-use Rattle.std.specs.Prelude.{IfOk, IfSome, if◌then◌else◌}
+use Rattle.std.proofs.Common.{◌≡◌, ◌≢◌, ◌⊎◌, inl, inr, ℕ, List, [], ◌∷◌, Option, Some, None, Bool, true, false, ◌&&◌, ◌||◌, ap, subst, sym, refl, ◌∙◌, true≢false}
+use Rattle.std.specs.Prelude.{if◌then◌else◌}
 use Rattle.std.specs.List.{list_any}
-use Rattle.std.proofs.lemmas.Bool.{or-true}
 use Rattle.disk.specs.Known.{Known}
 use Rattle.invocation.specs.Calls.{is_input, is_option}
 use Rattle.lintcommand.specs.Status.{IsNamed}
@@ -62,9 +61,13 @@ from_two first second request false is = inr (from_second first second request (
 among_one : (word source : List ℕ) → source ≡ word → is_input source ≡ true → list_any is_input (word ∷ []) ≡ true
 among_one word source same input = ap (λ b. b || false) (ap is_input (sym same) ∙ input)
 
+or_true : (b : Bool) → (b || true) ≡ true
+or_true true = refl
+or_true false = refl
+
 among_two : (first second source : List ℕ) → (source ≡ second) ⊎ (source ≡ first) → is_input source ≡ true → list_any is_input (first ∷ second ∷ []) ≡ true
 among_two first second source (inr same) input = ap (λ b. b || list_any is_input (second ∷ [])) (ap is_input (sym same) ∙ input)
-among_two first second source (inl same) input = ap (λ b. is_input first || b) (among_one second source same input) ∙ or-true (is_input first)
+among_two first second source (inl same) input = ap (λ b. is_input first || b) (among_one second source same input) ∙ or_true (is_input first)
 
 named_among : (words : List (List ℕ)) (request : Request) → request_of words ≡ Some request → is_input request.source ≡ true → list_any is_input words ≡ true
 named_among [] request is input = absurd (from_here Exact request is input)
