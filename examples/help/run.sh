@@ -41,7 +41,7 @@ done
 has() {
     "$acrun" help "$1" | grep -q -F -e "$2" || { wrong=1; echo "help $1 does not say: $2"; }
 }
-has port '`if` becomes AS_IF, and `case` becomes AS_CASE'
+has port '`if`, and a statement after a test and `&&` or `||`, become AS_IF, and `case` becomes AS_CASE'
 has port '--idioms'
 has configure 'Besides its outputs a run may leave: config.log config.status config.cache conftest* acrun-*.tmp'
 

@@ -1,11 +1,11 @@
 -- What one step of a pass makes.
-use Rattle.std.proofs.Common.{◌≡◌, ℕ, ◌≤◌, List, ◌++◌, length, Result, Ok, Err, is_ok, OnOk, if◌then◌else◌, slice_range, sym, subst, ap, ◌∙◌, map, get_or, ◌<◌, Option, Some, None, arith}
+use Rattle.std.proofs.Common.{◌≡◌, ℕ, ◌≤◌, List, ◌++◌, length, Result, Ok, Err, is_ok, OnOk, if◌then◌else◌, slice_range, sym, subst, ap, ◌∙◌, map, get_or, ◌<◌, ◌+◌, [], append-nil, Option, Some, None, arith}
 use Rattle.std.specs.Prelude.{Contains, IfSome, codes}
 use Rattle.std.proofs.lemmas.List.{get_or-map, length-map}
 use Rattle.std.proofs.lemmas.List.Elements.{Contains-get_or}
 use Rattle.sourcecalls.specs.declared.call.CallAt.{CallAt}
 use Rattle.sourcecalls.specs.Calls.{Call, calls_in, seen}
-use Rattle.replacing.specs.Rewritten.{IsPass, IsRewritten, HasToGo, IsAround, DeclaresOption, IsOldHelp}
+use Rattle.replacing.specs.Rewritten.{IsPass, IsRewritten, HasToGo, IsAround, DeclaresOption, IsOldHelp, JoinsWords}
 use Rattle.replacing.specs.Rewritten as specs
 use Rattle.replacing.specs.Put.{MayPut}
 use Rattle.replacing.specs.declared.idioms.Idioms.{Idioms}
@@ -15,6 +15,7 @@ pass_bound idioms text at out specs.IsPass.begun = omega arith
 pass_bound idioms text at out (specs.IsPass.copied next before from to) = to
 pass_bound idioms text at out (specs.IsPass.replaced c put end before is goes puts around to) = to
 pass_bound idioms text at out (specs.IsPass.renamed c end before is declares help to) = to
+pass_bound idioms text at out (specs.IsPass.parted c before is joins) = omega (arith, joins.joint.within)
 
 -- What follows from what an `Ok` says holds of the `Ok`.
 pub on_ok : {T E P Q : Type 0} → (P → Q) → (r : Result T E) → OnOk r P → OnOk r Q
@@ -32,6 +33,14 @@ pub help_step : (idioms : Idioms) (text : List ℕ) (at : ℕ) (out : List ℕ) 
     → (new_at ≡ end) × (new ≡ (out ++ slice_range text at start) ++ codes "AS_HELP_STRING") → IsPass idioms text new_at new
 help_step idioms text at out c start end new_at new before is declares from (help, to, within) (at_is, new_is) =
     subst (λ a. IsPass idioms text a new) (sym at_is) (subst (IsPass idioms text end) (sym new_is) (specs.IsPass.renamed c end (specs.IsPass.copied start before from within) is declares help to))
+
+pub part_step : (idioms : Idioms) (text : List ℕ) (at : ℕ) (out : List ℕ) (c : Call) (start : ℕ) (new_at : ℕ) (new : List ℕ)
+    → IsPass idioms text at out → Contains (calls_in text) c → JoinsWords text c start → at ≤ start
+    → (new_at ≡ start + 1) × (new ≡ (out ++ slice_range text at start) ++ []) → IsPass idioms text new_at new
+part_step idioms text at out c start new_at new before is joins from (at_is, new_is) =
+    let copied = specs.IsPass.copied start before from (omega (arith, joins.joint.within)) in
+    subst (λ a. IsPass idioms text a new) (sym at_is)
+    (subst (IsPass idioms text (start + 1)) (sym (new_is ∙ append-nil (out ++ slice_range text at start))) (specs.IsPass.parted c copied is joins))
 
 pub pass_end : {T E : Type 0} (idioms : Idioms) (r : Result T E) (text : List ℕ) (at : ℕ) (out new : List ℕ) → IsPass idioms text at out
     → new ≡ (if is_ok r then out ++ slice_range text at (length text) else out) → OnOk r (IsPass idioms text (length text) new)

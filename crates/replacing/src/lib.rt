@@ -1,8 +1,8 @@
 //! Replaces the calls of other macros in a configure.ac by the idioms of the table of other macros.
 //!
 //! A call is replaced if its idiom is exact, which means that it leaves the same definitions and output variables. If all idioms are
-//! wanted, it is also replaced by one that differs, below a comment that says in what. The old name of AS_HELP_STRING is replaced too.
-//! All else is copied to the byte.
+//! wanted, it is also replaced by one that differs, below a comment that says in what. The old name of AS_HELP_STRING is replaced too,
+//! and a backslash that joins two lines of a list of words goes. All else is copied to the byte.
 //!
 //! ```text
 //! AC_HAVE_FUNCS(getcwd)        // becomes AC_CHECK_FUNCS([getcwd])

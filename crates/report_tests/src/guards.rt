@@ -14,6 +14,12 @@ test a&&x=1 => AS_IF([test a], [x=1])
 test a &&^J  x=1 => AS_IF([test a], [x=1])
 test "a && b" && x=1 => AS_IF([test "a && b"], [x=1])
 test a && x=1; test b || y=2 => AS_IF([test a], [x=1]); AS_IF([test b], [], [y=2])
+test a -a b && x=1 => AS_IF([test a && test b], [x=1])
+test a -o "$b" || x=1 => AS_IF([test a || test "$b"], [], [x=1])
+test a -o b && x=1 => AS_IF([test a || test b], [x=1])
+test a && test b -a c && x=1 => AS_IF([test a && test b && test c], [x=1])
+test a || test b -a c && x=1 => the same
+test a -a b && test c -o d && x=1 => the same
 // definitions and messages
 test a && AC_DEFINE([X], [1; 2]) => AS_IF([test a], [AC_DEFINE([X], [1; 2])])
 test a && AC_DEFINE_UNQUOTED([X], [$a],^J  [an X]) => AS_IF([test a], [AC_DEFINE_UNQUOTED([X], [$a],^J  [an X])])

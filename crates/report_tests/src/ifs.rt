@@ -90,6 +90,37 @@ if :; then x='; fi'; fi => AS_IF([:], [x='; fi'])
 if :; then x=a\;b; fi => AS_IF([:], [x=a\;b])
 if :; then x="dnl"; fi => the same
 if test 'a; then b' = "c; then d"; then x=1; fi => AS_IF([test 'a; then b' = "c; then d"], [x=1])
+// `-a` and `-o`
+if test "$a" = b -a -n "$c"; then x=1; fi => AS_IF([test "$a" = b && test -n "$c"], [x=1])
+if test "$a" = b -o -z "$c" -o $d != e; then x=1; else x=2; fi => AS_IF([test "$a" = b || test -z "$c" || test $d != e], [x=1], [x=2])
+if :; then x=1; elif test a -a "$b"; then x=2; fi => AS_IF([:], [x=1], [test a && test "$b"], [x=2])
+if test a -a b && test c -a d; then x=1; fi => AS_IF([test a && test b && test c && test d], [x=1])
+if test a -o b ||  test c; then x=1; fi => AS_IF([test a || test b ||  test c], [x=1])
+if test "a -a b" = c -a "d -o e" != "f && g"; then x=1; fi => AS_IF([test "a -a b" = c && test "d -o e" != "f && g"], [x=1])
+if test a  -a^Ib ; then x=1; fi => AS_IF([test a  && test^Ib], [x=1])
+if test x$a = x-a -a -z ${b}; then x=1; fi => AS_IF([test x$a = x-a && test -z ${b}], [x=1])
+if test $a = -a -a b; then x=1; fi => AS_IF([test $a = -a && test b], [x=1])
+if test a -o b -a c; then x=1; fi => the same
+if test a -a b || test c; then x=1; fi => the same
+if test a || test b -a c; then x=1; fi => the same
+if test a -a b && ! test c; then x=1; fi => the same
+if ! test a -a b; then x=1; fi => the same
+if test ! a -a b; then x=1; fi => the same
+if test a -a ! b; then x=1; fi => the same
+if test "!" -a b; then x=1; fi => the same
+if test \( a -a b \); then x=1; fi => the same
+if test "(" -a ")"; then x=1; fi => the same
+if test -n = -a b; then x=1; fi => the same
+if test -n -a b; then x=1; fi => the same
+if test a -a -f b; then x=1; fi => the same
+if test a -eq b -a c; then x=1; fi => the same
+if test a\ -a b; then x=1; fi => the same
+if test a = [b] -a c; then x=1; fi => the same
+if test a -a; then x=1; fi => the same
+if test -a b; then x=1; fi => the same
+if test a-a b; then x=1; fi => the same
+if test a -ab; then x=1; fi => the same
+if :; then x=1; else test a -a b; fi => the same
 // where it isn't done
 [if :; then x=1; fi] => the same
 [if] :; then x=1; fi => the same

@@ -1,5 +1,5 @@
 -- What ends a part of a compound statement of a shell. The offsets are those of the text.
-use Rattle.std.specs.Prelude.{◌≡◌, ◌⊎◌, ℕ, ◌-◌, ◌+◌, ◌<◌, ◌≤◌, ◌==◌, Bool, true, false, List, [], ◌∷◌, slice_range, slice_index, codes}
+use Rattle.std.specs.Prelude.{◌≡◌, ◌⊎◌, ℕ, ◌-◌, ◌+◌, ◌<◌, ◌≤◌, ◌==◌, Bool, false, List, [], ◌∷◌, slice_range, slice_index, codes}
 use Rattle.std.specs.List.{list_any}
 use Rattle.m4quote.specs.Entry.{bare}
 use Rattle.m4quote.specs.Spelling.{IsSpelling}

@@ -4,6 +4,7 @@ use Rattle.std.specs.Prelude.{IfOk, IfSome, codes}
 use Rattle.shellcompounds.specs.Cases.{IsCase}
 use Rattle.shellcompounds.specs.Guards.{IsGuarded, ReadsStatus}
 use Rattle.shellcompounds.specs.Ifs.{IsIf}
+use Rattle.shellcompounds.specs.Joints.{AllBecome}
 use Rattle.shellcompounds.specs.Places.{EndsStatement}
 use Rattle.shellforms.specs.Calls.{IsPut}
 use Rattle.shellforms.specs.Formed.{IsPass, IsFormed, MayPut}
@@ -15,9 +16,9 @@ guard_bound text end ends = omega (arith, ends.order.0, ends.order.1)
 pub pass_bound : (text : List ℕ) (at : ℕ) (out : List ℕ) → IsPass text at out → at ≤ length text
 pass_bound text at out specs.IsPass.begun = omega arith
 pass_bound text at out (specs.IsPass.copied next before from to) = to
-pass_bound text at out (specs.IsPass.chosen end parts put before is puts) = is.statement.word.0
+pass_bound text at out (specs.IsPass.chosen end parts texts put before is become puts) = is.statement.word.0
 pass_bound text at out (specs.IsPass.cased end parts put before is puts) = is.statement.word.0
-pass_bound text at out (specs.IsPass.guarded end parts put before is unread puts) = guard_bound text end is.ends
+pass_bound text at out (specs.IsPass.guarded end parts texts put before is unread become puts) = guard_bound text end is.ends
 
 -- What follows from what an `Ok` says holds of the `Ok`.
 pub on_ok : {T E P Q : Type 0} → (P → Q) → (r : Result T E) → OnOk r P → OnOk r Q
@@ -37,11 +38,12 @@ on_put P Q f (Ok (Some v)) p = f v p
 on_put P Q f (Ok None) p = tt
 on_put P Q f (Err e) p = tt
 
-pub if_put : {E V : Type 0} (items : V → List ℕ) (text : List ℕ) (start end : ℕ) (parts : List (List ℕ)) (r : Result (Option V) E) → IsIf text start end parts
-    → IfOk r (λ o. IfSome o (λ v. IsPut (codes "AS_IF") parts (items v))) → IfOk r (λ o. IfSome o (λ v. MayPut text start end (items v)))
+pub if_put : {E V : Type 0} (items : V → List ℕ) (text : List ℕ) (start end : ℕ) (parts texts : List (List ℕ)) (r : Result (Option V) E)
+    → IsIf text start end parts → AllBecome parts texts
+    → IfOk r (λ o. IfSome o (λ v. IsPut (codes "AS_IF") texts (items v))) → IfOk r (λ o. IfSome o (λ v. MayPut text start end (items v)))
 unfolding MayPut
-if_put items text start end parts r is =
-    on_put (λ v. IsPut (codes "AS_IF") parts (items v)) (λ v. MayPut text start end (items v)) (λ v puts out before. specs.IsPass.chosen end parts (items v) before is puts) r
+if_put items text start end parts texts r is become =
+    on_put (λ v. IsPut (codes "AS_IF") texts (items v)) (λ v. MayPut text start end (items v)) (λ v puts out before. specs.IsPass.chosen end parts texts (items v) before is become puts) r
 
 pub case_put : {E V : Type 0} (items : V → List ℕ) (text : List ℕ) (start end : ℕ) (parts : List (List ℕ)) (r : Result (Option V) E) → IsCase text start end parts
     → IfOk r (λ o. IfSome o (λ v. IsPut (codes "AS_CASE") parts (items v))) → IfOk r (λ o. IfSome o (λ v. MayPut text start end (items v)))
@@ -49,11 +51,12 @@ unfolding MayPut
 case_put items text start end parts r is =
     on_put (λ v. IsPut (codes "AS_CASE") parts (items v)) (λ v. MayPut text start end (items v)) (λ v puts out before. specs.IsPass.cased end parts (items v) before is puts) r
 
-pub guard_put : {E V : Type 0} (items : V → List ℕ) (text : List ℕ) (start end : ℕ) (parts : List (List ℕ)) (r : Result (Option V) E) → IsGuarded text start end parts
-    → (ReadsStatus text → ⊥) → IfOk r (λ o. IfSome o (λ v. IsPut (codes "AS_IF") parts (items v))) → IfOk r (λ o. IfSome o (λ v. MayPut text start end (items v)))
+pub guard_put : {E V : Type 0} (items : V → List ℕ) (text : List ℕ) (start end : ℕ) (parts texts : List (List ℕ)) (r : Result (Option V) E)
+    → IsGuarded text start end parts → (ReadsStatus text → ⊥) → AllBecome parts texts
+    → IfOk r (λ o. IfSome o (λ v. IsPut (codes "AS_IF") texts (items v))) → IfOk r (λ o. IfSome o (λ v. MayPut text start end (items v)))
 unfolding MayPut
-guard_put items text start end parts r is unread =
-    on_put (λ v. IsPut (codes "AS_IF") parts (items v)) (λ v. MayPut text start end (items v)) (λ v puts out before. specs.IsPass.guarded end parts (items v) before is unread puts) r
+guard_put items text start end parts texts r is unread become =
+    on_put (λ v. IsPut (codes "AS_IF") texts (items v)) (λ v. MayPut text start end (items v)) (λ v puts out before. specs.IsPass.guarded end parts texts (items v) before is unread become puts) r
 
 pub pass_end : {T E : Type 0} (r : Result T E) (text : List ℕ) (at : ℕ) (out new : List ℕ) → IsPass text at out
     → new ≡ (if is_ok r then out ++ slice_range text at (length text) else out) → OnOk r (IsPass text (length text) new)
