@@ -9,27 +9,21 @@
 //! test -n "$a" || b=2                        // test -n "$a", nothing, b=2
 //! ```
 //!
-//! In a condition, `-a` and `-o` of `test` are written as `&&` and `||` if that means the same, so that
-//! `test -n "$a" -a -z "$b"` becomes `test -n "$a" && test -z "$b"`.
-//!
 //! Read `specs/Places` (where a statement may begin and end) and `specs/Parts` first, and then `specs/Ifs`, `specs/Cases`
-//! and `specs/Guards`, which say what the parts are, and `specs/Joints`, which says what conditions become. A call fails only if memory
-//! runs out. "own" marks a rule that no manual gives.
+//! and `specs/Guards`, which say what the parts are. A call fails only if memory runs out. "own" marks a rule that no manual gives.
 #![tactic(auto)]
 
 mod branches;
 mod cases;
-mod conditions;
 mod cut;
 mod guards;
-mod joints;
 mod parts;
 mod places;
 mod status;
 
 pub use branches::if_parts;
 pub use cases::case_parts;
-pub use conditions::put_texts;
 pub use cut::{CaseBranch, CaseCut, GuardCut, IfBranch, IfCut};
 pub use guards::guard_parts;
+pub use places::is_word;
 pub use status::reads_status;

@@ -34,7 +34,7 @@ pub(crate) fn are_spaces(text: &[u8]) -> bool
 }
 
 /// Returns whether this word is between two offsets.
-pub(crate) fn is_word(text: &[u8], start: usize, word: &[u8], end: usize) -> bool
+pub fn is_word(text: &[u8], start: usize, word: &[u8], end: usize) -> bool
     ensures { IsTrue result → specs.IsWord text.now start word.now end }
 {
     start <= end && end <= text.len() && &text[start..end] == word

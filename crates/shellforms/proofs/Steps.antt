@@ -4,7 +4,7 @@ use Rattle.std.specs.Prelude.{IfOk, IfSome, codes}
 use Rattle.shellcompounds.specs.Cases.{IsCase}
 use Rattle.shellcompounds.specs.Guards.{IsGuarded, ReadsStatus}
 use Rattle.shellcompounds.specs.Ifs.{IsIf}
-use Rattle.shellcompounds.specs.Joints.{AllBecome}
+use Rattle.shelljoints.specs.Joints.{AllBecome}
 use Rattle.shellcompounds.specs.Places.{EndsStatement}
 use Rattle.shellforms.specs.Calls.{IsPut}
 use Rattle.shellforms.specs.Formed.{IsPass, IsFormed, MayPut}

@@ -3,7 +3,7 @@ use Rattle.std.specs.Prelude.{◌≡◌, ℕ, ◌≤◌, List, [], ◌++◌, len
 use Rattle.shellcompounds.specs.Cases.{IsCase}
 use Rattle.shellcompounds.specs.Guards.{IsGuarded, ReadsStatus}
 use Rattle.shellcompounds.specs.Ifs.{IsIf}
-use Rattle.shellcompounds.specs.Joints.{AllBecome}
+use Rattle.shelljoints.specs.Joints.{AllBecome}
 use Rattle.shellforms.specs.Calls.{IsPut}
 
 -- One pass over a text has read so much of it, and written this. Everything is copied, but an `if` may become the call of AS_IF with the

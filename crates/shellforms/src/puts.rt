@@ -4,13 +4,14 @@ ghost use Rattle.std.specs.Prelude.{◌≡◌, map, codes, IfOk, IfSome};
 ghost use Rattle.shellcompounds.specs.Cases.{IsCase};
 ghost use Rattle.shellcompounds.specs.Guards.{IsGuarded, ReadsStatus};
 ghost use Rattle.shellcompounds.specs.Ifs.{IsIf};
-ghost use Rattle.shellcompounds.specs.Joints.{AllBecome};
+ghost use Rattle.shelljoints.specs.Joints.{AllBecome};
 ghost use Rattle.shellforms.specs.Calls.{IsPut};
 ghost use Rattle.shellforms.specs.Formed as specs;
 
 use crate::calls::accepted_call;
 use deftable::Bytes;
-use shellcompounds::{CaseCut, GuardCut, IfCut, case_parts, guard_parts, if_parts, put_texts};
+use shellcompounds::{CaseCut, GuardCut, IfCut, case_parts, guard_parts, if_parts};
+use shelljoints::put_texts;
 use std::alloc::{AllocError, Global};
 
 /// Returns the texts as slices.
