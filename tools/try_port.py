@@ -22,6 +22,7 @@ import tempfile
 FRONT = b"dnl acrun: "
 DIFFERS = FRONT + b"in place of "
 SWITCH = []
+FRONT_OF_TRACE = "acrun-trace "
 TRACES = ["AC_DEFINE_TRACE_LITERAL", "AC_SUBST", "AC_CONFIG_FILES", "AC_CONFIG_HEADERS"]
 # What Autoconf looks for by itself, with the default includes of a macro; acrun has none of these.
 OWN = ("HAVE_STDIO_H", "HAVE_STDLIB_H", "HAVE_STRING_H", "HAVE_STRINGS_H", "HAVE_INTTYPES_H", "HAVE_STDINT_H", "HAVE_UNISTD_H",
@@ -42,10 +43,12 @@ def errors(program, text):
 
 def traced(folder, name):
     """Returns what Autoconf finds defined and substituted, or None if it refuses the source."""
-    made = run(["autoconf", *(f"--trace={it}:$n:$1" for it in TRACES), name], folder=folder)
+    made = run(["autoconf", *(f"--trace={it}:{FRONT_OF_TRACE}$n:$1" for it in TRACES), name], folder=folder)
     if made.returncode:
         return None
-    return {line for line in made.stdout.decode(errors="replace").split("\n") if line.split(":")[-1] not in OWN}
+    # Autoconf drops a backslash at the end of a line of a list, and takes blanks and newlines for the same.
+    found = (it.replace("\\\n", "\n").partition(":") for it in made.stdout.decode(errors="replace").split(FRONT_OF_TRACE))
+    return {f"{macro}:{' '.join(text.split())}" for macro, _, text in found if text.strip() not in OWN}
 
 
 def in_autoconf(file, text):
