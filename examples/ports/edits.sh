@@ -1,8 +1,8 @@
 #!/bin/sh
 # Makes the edits of a package anew, of files that were edited by hand.
-#   edits.sh PORTED EDITED EDITS
-# PORTED has the files as `acrun port` and the archive have them, and EDITED the same after they were edited. Of each file that differs
-# a file below EDITS is made, as apply.sh reads it. Files that are in one of the two alone are passed over.
+#   edits.sh UNEDITED EDITED EDITS
+# UNEDITED has the files of the archive, and EDITED the same after they were edited. Of each file that differs a file below EDITS is made,
+# as apply.sh reads it. Files that are in one of the two alone are passed over.
 set -u
 rm -rf "$3"
 (cd "$2" && find . -name autom4te.cache -prune -o -type f -print) | while IFS= read -r file; do

@@ -1,6 +1,6 @@
-# Moves a package of Debian over to acrun: `acrun port --idioms` rewrites its configure.ac, and NAME/edits has what is left to do there and in the
-# templates. The result is configured with acrun, and beside it the original and the result with Autoconf. All three have to agree, but for
-# what is named. Then it builds the package with acrun's files and runs its tests.
+# Moves a package of Debian over to acrun: NAME/edits has what `acrun port` can't do in its configure.ac, and what is to be done in the
+# templates, and `acrun port --idioms` does the rest. The result is configured with acrun, and beside it the original and the result with
+# Autoconf. All three have to agree, but for what is named. Then it builds the package with acrun's files and runs its tests.
 #   port.sh PROGRAM NAME LISTS
 # LISTS is the directory that sources.sh filled: APT fetches the archive, and the checksum decides whether it is the one that is meant.
 # NAME/settings sets the variables below:
@@ -9,17 +9,19 @@
 #   autoconf     commands that make the package's own script, `autoconf` if there are none
 #   header       the config header, if there is one
 #   macros       the macros of the header that may differ
-#   variables    the variables of the Makefile whose lines may differ
-#   texts        the texts, one a line, that make it no fault if a line of the Makefile differs
+#   makefiles    the Makefiles, `Makefile` if it is the only one
+#   variables    the variables of a Makefile whose lines may differ
+#   texts        the texts, one a line, that make it no fault if a line of a Makefile differs
 #   others       further outputs, which may not differ
 #   tests        commands that run the package's own tests
 #   tools        commands that the tests need
-# The edits are of configure.ac and templates alone, and have the new lines alone: see apply.sh. What is needed: the network, APT with an
-# archive of Debian, make, a C compiler, Autoconf 2.71, and the libraries of the package. If one is missing, or if the machine's archives
-# have the package in another version alone, it says so and ends with 77. It ends with 1 if something is otherwise than it should be.
-# If ROWS is set in the environment, it prints the package's row of docs/guide.md too.
-# If `acrun port` makes another text than before, the edits don't apply, and are made anew: with PORTED=DIRECTORY in the environment the
-# sources are copied there as `acrun port` left them, and with EDITED=DIRECTORY the edits are first made of the edited files there.
+# The edits are of configure.ac and templates alone, as the archive has them, and have the new lines alone: see apply.sh. `acrun port` has
+# to leave nothing after them. What is needed: the network, APT with an archive of Debian, make, a C compiler, Autoconf 2.71, and the
+# libraries of the package. If one is missing, or if the machine's archives have the package in another version alone, it says so and ends
+# with 77. It ends with 1 if something is otherwise than it should be.
+# If ROWS is set in the environment, it prints the package's rows of docs/guide.md too.
+# The edits are made anew by hand: with UNEDITED=DIRECTORY in the environment the sources are copied there as the edits are of them, and
+# with EDITED=DIRECTORY the edits are first made of the edited files there.
 set -u
 acrun=$(realpath "$1") || exit 2
 here=$(realpath "$(dirname "$0")/$2") || exit 2
@@ -79,14 +81,16 @@ compare() {
             case " ${macros-} " in *" $macro "*) ;; *) wrong "$header differs in $macro from that of $2" ;; esac
         done
     fi
-    [ -f "$1/Makefile" ] || wrong "there is no Makefile of $2"
     printf '%s\n' "$texts" > "$work/texts"
-    diff "$1/Makefile" "$work/ours/Makefile" | sed -n 's/^[<>] \{0,1\}//p' |
-        grep -E -v "^($(echo $variables | tr ' ' '|'))[ 	]*=|^[ 	]*\$" | grep -F -v -f "$work/texts" > "$work/rest"
-    if [ -s "$work/rest" ]; then
-        wrong "the Makefile differs from that of $2 in"
-        cat "$work/rest"
-    fi
+    for makefile in ${makefiles-Makefile}; do
+        [ -f "$1/$makefile" ] || wrong "there is no $makefile of $2"
+        diff "$1/$makefile" "$work/ours/$makefile" | sed -n 's/^[<>] \{0,1\}//p' |
+            grep -E -v "^($(echo $variables | tr ' ' '|'))[ 	]*=|^[ 	]*\$" | grep -F -v -f "$work/texts" > "$work/rest"
+        if [ -s "$work/rest" ]; then
+            wrong "$makefile differs from that of $2 in"
+            cat "$work/rest"
+        fi
+    done
     for other in ${others-}; do
         cmp -s "$1/$other" "$work/ours/$other" || wrong "$other differs from that of $2"
     done
@@ -101,15 +105,27 @@ seconds() {
     echo "$began $(date +%s%N)" | awk '{ printf "%.2f s", ($2 - $1) / 1000000000 }'
 }
 
-# Prints the package's row of the table: it configures copies of the sources, made before they were configured.
-row() {
-    by_hand=$(cd "$here/edits" && find . -type f | while IFS= read -r file; do diff "$work/ported/$file" "$work/both/$file"; done |
-        grep '^[<>]' | grep -c -v '^< *dnl acrun: ')
+# How many lines differ between two files, counted in both, without comments of `acrun port`.
+changed() {
+    diff "$1" "$2" | grep '^[<>]' | grep -c -v '^> dnl acrun: '
+}
+
+# Prints the package's rows of the tables: it ports the original, and configures copies of the sources, made before they were configured.
+rows() {
+    acrun port "$work/unedited/configure.ac" > "$work/exact"
+    acrun port --idioms "$work/unedited/configure.ac" > "$work/idioms"
+    by_hand=0
+    for file in $(cd "$here/edits" && find . -type f); do
+        by_hand=$((by_hand + $(changed "$work/unedited/$file" "$work/edited/$file")))
+    done
+    echo "| $name $version | $(wc -l < "$work/unedited/configure.ac") | $(changed "$work/unedited/configure.ac" "$work/exact") |" \
+        "$(changed "$work/unedited/configure.ac" "$work/idioms") | $by_hand |" \
+        "$(changed "$work/edited/configure.ac" "$work/both/configure.ac") |"
     one=$(seconds "$work/one" acrun -j1 configure)
     four=$(seconds "$work/four" acrun -j4 configure -C)
     cached=$(seconds "$work/four" acrun -j4 configure -C)
     autoconf=$(seconds "$work/autoconf" ./configure)
-    echo "| $name | $lines | $by_port | $by_hand | $checks | $one | $four | $cached | $autoconf |"
+    echo "| $name $version | $checks | $one | $four | $cached | $autoconf |"
 }
 
 for tool in apt-get make cc ${tools-}; do
@@ -127,14 +143,13 @@ cd "$work/theirs" && rm -f configure && eval "${autoconf-autoconf}" > autoconf.o
 ./configure -q > configure.out 2>&1 || { tail -n 3 configure.out; skip 'its own configure fails on this machine, so there is nothing to compare with'; }
 
 cd "$work/ours" || exit 2
-lines=$(wc -l < configure.ac)
-mv configure.ac "$work/original" && acrun port --idioms "$work/original" > configure.ac
-[ $? -le 1 ] || wrong 'port fails'
-by_port=$(grep -v '^dnl acrun: ' configure.ac | diff "$work/original" - | grep -c '^[<>]')
-cp -R . "$work/ported"
-[ -z "${PORTED-}" ] || { mkdir -p "$PORTED" && cp -R . "$PORTED"; }
-[ -z "${EDITED-}" ] || sh "$here/../edits.sh" "$work/ported" "$(realpath "$EDITED")" "$here/edits"
+cp -R . "$work/unedited"
+[ -z "${UNEDITED-}" ] || { mkdir -p "$UNEDITED" && cp -R . "$UNEDITED"; }
+[ -z "${EDITED-}" ] || sh "$here/../edits.sh" "$work/unedited" "$(realpath "$EDITED")" "$here/edits"
 sh "$here/../apply.sh" "$here/edits" . || { wrong 'the edits do not apply'; exit 1; }
+cp -R . "$work/edited"
+acrun port --idioms "$work/edited/configure.ac" > configure.ac
+[ $? = 0 ] || wrong 'port leaves something to do'
 [ -z "${ROWS-}" ] || { cp -R . "$work/one" && cp -R . "$work/four"; }
 cp -R . "$work/both"
 acrun lint --json . | grep -q '"severity":"error"' && wrong 'lint finds an error'
@@ -146,5 +161,5 @@ checks=$(grep -c '^checking' config.log)
 make -s > make.out 2>&1 || { wrong 'make fails'; tail -n 5 make.out; }
 (eval "$tests") > tests.out 2>&1 || { wrong 'its tests fail'; tail -n 5 tests.out; }
 [ "$status" = 0 ] && echo "$name: $checks checks, equal but for what is named, built and tested"
-[ -z "${ROWS-}" ] || row
+[ -z "${ROWS-}" ] || rows
 exit $status

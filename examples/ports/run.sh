@@ -7,7 +7,7 @@ set -u
 here=$(dirname "$0")
 program=$1
 shift
-[ $# -gt 0 ] || set -- units pwgen less pv liblockfile dtach hexedit catdoc bridge-utils
+[ $# -gt 0 ] || set -- units pwgen less pv liblockfile dtach hexedit catdoc bridge-utils mtools
 lists=$(mktemp -d) || exit 2
 trap 'rm -rf "$lists"' EXIT
 sh "$here/sources.sh" "$lists" || exit
