@@ -20,8 +20,8 @@
 # libraries of the package. If one is missing, or if the machine's archives have the package in another version alone, it says so and ends
 # with 77. It ends with 1 if something is otherwise than it should be.
 # If ROWS is set in the environment, it prints the package's rows of docs/guide.md too.
-# The edits are made anew by hand: with UNEDITED=DIRECTORY in the environment the sources are copied there as the edits are of them, and
-# with EDITED=DIRECTORY the edits are first made of the edited files there.
+# To make the edits anew, set UNEDITED=DIRECTORY in the environment, which copies the sources there, edit a copy of them, and set
+# EDITED=COPY, which first makes the edits of it. Both are absolute paths.
 set -u
 acrun=$(realpath "$1") || exit 2
 here=$(realpath "$(dirname "$0")/$2") || exit 2
