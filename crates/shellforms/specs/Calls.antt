@@ -1,5 +1,5 @@
 -- The call of a macro that is put in the place of a statement of a shell. All of this is own.
-use Rattle.std.specs.Prelude.{◌≡◌, ℕ, List, [], ◌∷◌, ◌++◌, map, codes}
+use Rattle.std.specs.Prelude.{◌≡◌, ℕ, ◌+◌, List, [], ◌∷◌, ◌++◌, map, slice_range, codes}
 use Rattle.std.specs.List.{flat_map}
 use Rattle.m4quote.specs.Entry.{Span, Entry, call}
 use Rattle.m4quote.specs.Spelling.{IsSpelling}
@@ -54,7 +54,13 @@ pub record IsCallWith (name : List ℕ) (parts : List (List ℕ)) : Type 0 where
   pub one_call : IsOneCall (call_text name parts) name (map quoted parts)
   pub accepted : IsAccepted (source_with (call_text name parts))
 
--- This text may be put for a statement with these parts: it is the call of the macro with them.
+-- A backslash is before a closing bracket at some place of the text.
+abbrev pub HasEscapedEnd : List ℕ → Type 0
+HasEscapedEnd text = (at : ℕ) × (slice_range text at (at + 2) ≡ 92 ∷ 93 ∷ [])
+
+-- This text may be put for a statement with these parts: it is the call of the macro with them. None of them ends in a backslash, which
+-- in the statement may be before a blank, and so be a part of the word.
 pub record IsPut (name : List ℕ) (parts : List (List ℕ)) (put : List ℕ) : Type 0 where
   pub text : put ≡ call_text name parts
   pub call : IsCallWith name parts
+  pub plain_ends : HasEscapedEnd put → ⊥

@@ -1,6 +1,6 @@
 //! The call that is put in the place of a statement.
 
-ghost use Rattle.std.specs.Prelude.{◌≡◌, ◌++◌, ◌∷◌, [], map, IfOk, IfSome, OnOk, IsTrue, codes};
+ghost use Rattle.std.specs.Prelude.{◌≡◌, ◌≤◌, ◌+◌, ◌++◌, ◌∷◌, [], false, length, slice_range, map, IfOk, IfSome, OnOk, IsTrue, codes};
 ghost use Rattle.std.specs.List.{flat_map};
 ghost use Rattle.m4quote.specs.Entry.{span, view, views};
 ghost use Rattle.linting.specs.Errors.{IsAccepted};
@@ -172,7 +172,28 @@ fn is_accepted(alloc: Global, text: &[u8]) -> Result<bool, AllocError>
     }
 }
 
-/// Returns the call of a macro with these arguments, unless it is none, or acrun doesn't accept it.
+/// Returns whether at an offset a backslash is before a closing bracket.
+fn is_escaped_end(text: &[u8], at: usize) -> bool
+    requires { at ≤ length text.now }
+    ensures { result ≡ false → slice_range text.now at (at + 2) ≡ 92 ∷ 93 ∷ [] → ⊥ }
+{
+    let rest = &text[at..];
+    rest.len() >= 2 && &rest[..2] == b"\\]".as_slice()
+}
+
+/// Returns whether a backslash is before a closing bracket at some place of the text.
+fn has_escaped_end(text: &[u8]) -> bool
+    ensures { result ≡ false → specs.HasEscapedEnd text.now → ⊥ }
+{
+    for i in 0..text.len() {
+        if is_escaped_end(text, i) {
+            return true;
+        }
+    }
+    false
+}
+
+/// Returns the call of a macro with these arguments, unless it is none, one of them ends in a backslash, or acrun doesn't accept it.
 pub(crate) fn accepted_call(
     alloc: Global,
     name: &[u8],
@@ -181,6 +202,9 @@ pub(crate) fn accepted_call(
     ensures { IfOk result (λ o. IfSome o (λ v. specs.IsPut name.now (map (λ p. p.now) parts.now) v.items)) }
 {
     let text = call_text(alloc, name, parts)?;
+    if has_escaped_end(text.as_slice()) {
+        return Ok(None);
+    }
     if is_one_call(alloc, text.as_slice(), name, parts)? && is_accepted(alloc, text.as_slice())? {
         Ok(Some(text))
     } else {
