@@ -48,8 +48,8 @@ ports: all
 	@sh examples/ports/run.sh out/acrun || [ $$? -eq 77 ]
 
 compile:
-	@sh tools/build.sh conftest_samples
-	@sh examples/conftest_samples/run.sh out/conftest_samples
+	@sh tools/build.sh tests_compiler
+	@sh examples/conftest_samples/run.sh out/tests_compiler
 
 check:
 	@python3 tools/gate.py

@@ -2,7 +2,7 @@
 """Tries the wrong bodies of the crates: the prover must refuse each.
 
     python3 tools/edits_together.py [OPTION..] [CRATE..]    at the top of the repository; no CRATE: all that have wrong bodies
-    python3 tools/edits_together.py --selftest              tries the script itself, on a copy of the crate textcut
+    python3 tools/edits_together.py --selftest              tries the script itself, on a copy of the crate text_cut
 
 A wrong body is a file crates/NAME/wrong-bodies/*.edit, in the form of a must-fail edit: a line 'file: PATH', then pairs of lines
 'old: TEXT' and 'new: TEXT'. One check of a copy of the crate tries many edits, at most one in each function. That is sound: a
@@ -427,7 +427,7 @@ class Trial:
         return [*told, *self.strangers.values(), f"{self.crate.name}: {self.counts()[0]} of {len(self.crate.edits)} edits refused, {cost}"]
 
 
-# The test of this script: edits of textcut, whether each must pass, and a part of what must be told of it.
+# The test of this script: edits of text_cut, whether each must pass, and a part of what must be told of it.
 BLANK = "    byte == b' ' || byte == b'\\t' || byte == b'\\n'"
 EDITS_OF_SELFTEST = {
     "a-wrong-body": ("src/lib.rt", BLANK, BLANK + " || byte == b'\\r'", True, "what the function ensures"),
@@ -443,7 +443,7 @@ EDITS_OF_SELFTEST = {
 
 def of_texts(repository, options):
     """What comes of a missing name on a later line of an error, and of an open goal in a function that no edit changes."""
-    trial, end = Trial(repository, "textcut", options), "\nlogic=not-proved"
+    trial, end = Trial(repository, "text_cut", options), "\nlogic=not-proved"
     functions = trial.crate.functions({})
     error = "./proofs/trim/Answers.antt:1:1: error: `returns`: record `After` (nearest: .all)\n  has no field `trim_with`"
     said = Said(error + end, 1, functions)
@@ -455,21 +455,21 @@ def of_texts(repository, options):
 
 
 def selftest(kit, options):
-    """Tries small edits of a copy of textcut, which stands on no crate of the repository, and libraries that are not to be taken."""
+    """Tries small edits of a copy of text_cut, which stands on no crate of the repository, and libraries that are not to be taken."""
     with tempfile.TemporaryDirectory(prefix="edits-selftest-") as room:
-        for path, text in texts_below("crates/textcut").items():
-            write(f"{room}/crates/textcut/{path}", text)
+        for path, text in texts_below("crates/text_cut").items():
+            write(f"{room}/crates/text_cut/{path}", text)
         for name, (path, old, new, _, _) in EDITS_OF_SELFTEST.items():
-            write(f"{room}/crates/textcut/wrong-bodies/{name}.edit", f"file: {path}\nold: {old}\nnew: {new}\n")
-        write(f"{room}/crates.txt", "textcut: bstr\nabove: textcut\nbeside: no_such_library\n")
+            write(f"{room}/crates/text_cut/wrong-bodies/{name}.edit", f"file: {path}\nold: {old}\nnew: {new}\n")
+        write(f"{room}/crates.txt", "text_cut: bstr\nabove: text_cut\nbeside: no_such_library\n")
         repository = Repository(room, [room], kit)
-        trial = Trial(repository, "textcut", options).run()
+        trial = Trial(repository, "text_cut", options).run()
         told = {os.path.basename(it.name)[: -len(".edit")]: verdict for it, verdict in trial.verdicts.items()}
         wanted = [(name, told[name], (is_well, part)) for name, (_, _, _, is_well, part) in EDITS_OF_SELFTEST.items()]
         wanted.append(("no-stranger", (not trial.strangers, "; ".join(trial.strangers.values())), (True, "")))
         wanted += of_texts(repository, options)
-        made = f"{room}/crates/textcut/out/rlib/textcut.rlib/format"
-        wanted.append(("no-library", (False, repository.words("above")[1] or ""), (False, "there is no crates/textcut/out/rlib")))
+        made = f"{room}/crates/text_cut/out/rlib/text_cut.rlib/format"
+        wanted.append(("no-library", (False, repository.words("above")[1] or ""), (False, "there is no crates/text_cut/out/rlib")))
         write(made, "")
         wanted.append(("a-library", (not repository.words("above")[1], ""), (True, "")))
         os.utime(made, (0, 0))

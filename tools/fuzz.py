@@ -5,7 +5,7 @@
     tools/fuzz.py PROGRAM --replay N        runs input N again, and shows what it is and what comes of it
     tools/fuzz.py PROGRAM --minimize N      makes input N shorter while what is wrong stays the same, and shows it
 
-An input is a function of its number and of the repository: of examples/, crates/case_tests/data and docs/. A line `corpus` names the
+An input is a function of its number and of the repository: of examples/, crates/tests_cases/data and docs/. A line `corpus` names the
 state of these. An input is given to the filter, to `configure` with `acrun standin` in the compiler's place, to `status`, or it is
 words of a command line.
 
@@ -75,7 +75,7 @@ class Corpus:
     def __init__(self):
         self.sources, self.right, self.templates, self.arguments, self.statements = [], [], [], [], []
         digest = hashlib.sha256()
-        paths = sorted(ROOT.glob("crates/case_tests/data/*.cases")) + sorted(ROOT.glob("examples/*/configure.ac"))
+        paths = sorted(ROOT.glob("crates/tests_cases/data/*.cases")) + sorted(ROOT.glob("examples/*/configure.ac"))
         paths += sorted(ROOT.glob("examples/*/**/*.in")) + [ROOT / "docs/guide.md", ROOT / "docs/language.md"]
         for path in paths:
             text = path.read_bytes()

@@ -5,7 +5,7 @@
     tools/lint_codes.py --check    prints what differs from them, and then exits with status 1
 
 The code of an error of the source is `parse-` and the number by which a fault prints, and what it says is the comment of the fault.
-Every other code is a key of crates/wordtable/words.txt, and what it says is the message there. A place of a message is in capitals.
+Every other code is a key of crates/lint_table/words.txt, and what it says is the message there. A place of a message is in capitals.
 """
 import pathlib
 import re
@@ -15,7 +15,7 @@ import word_table
 
 ROOT = pathlib.Path(__file__).resolve().parent.parent
 CRATES = ROOT / "crates"
-FAULTS = {"": "acstatement", "1.": "m4quote", "6.": "shellword"}
+FAULTS = {"": "ac_statement", "1.": "m4quote", "6.": "shellword"}
 BEGIN, END = "tools/lint_codes.py writes what follows", "up to here"
 PAGE, MANUAL = ROOT / "docs/running.md", ROOT / "share/acrun.1"
 

@@ -5,7 +5,7 @@
 
 The second reading has its own rules of quotes, and is written for this alone (docs/language.md, "Quoting" and "Statements in
 arguments"). It finds each call in the text of a source and in the arguments that hold statements, at any depth, and the calls whose macro
-is not in crates/acmacros/src/table.rt have to be exactly those of the lines with the code `parse-2` of `lint --json`, by line and column.
+is not in crates/ac_macros/src/table.rt have to be exactly those of the lines with the code `parse-2` of `lint --json`, by line and column.
 An argument with an error in its quotes has no calls, in both readings. Prints each difference, and last a count.
 """
 import json
@@ -16,7 +16,7 @@ import sys
 import tempfile
 
 ROOT = pathlib.Path(__file__).resolve().parent.parent
-PROFILE = {*re.findall(rb'\(b"(\w+)", (?:Statement|Argument)', (ROOT / "crates/acmacros/src/table.rt").read_bytes())}
+PROFILE = {*re.findall(rb'\(b"(\w+)", (?:Statement|Argument)', (ROOT / "crates/ac_macros/src/table.rt").read_bytes())}
 MACRO = re.compile(rb"(?:AC|AS|AH|AM|AX|LT|PKG|m4)_")
 WORD = re.compile(rb"[A-Za-z_0-9]+")
 TWO_ACTIONS = {b"AC_ARG_ENABLE": 2, b"AC_ARG_WITH": 2, b"AC_CHECK_LIB": 2, b"AC_SEARCH_LIBS": 2}

@@ -1,5 +1,5 @@
 #!/usr/bin/env python3
-"""Writes what is made of crates/macrotable/macros.txt: the text of the crate, the list of exact idioms in `exactidioms`, and a part of
+"""Writes what is made of crates/lint_macros/macros.txt: the text of the crate, the list of exact idioms in `port_idioms`, and a part of
 docs/guide.md.
   macro_table.py           writes all three
   macro_table.py --check   prints a line for each that is not what it would write, and ends with 1 if there is one
@@ -32,11 +32,11 @@ import sys
 import textwrap
 
 ROOT = pathlib.Path(__file__).resolve().parent.parent
-DATA = ROOT / "crates/macrotable/macros.txt"
-TEXT = ROOT / "crates/macrotable/src/text.rt"
-EXACT = ROOT / "crates/exactidioms/src/table.rt"
+DATA = ROOT / "crates/lint_macros/macros.txt"
+TEXT = ROOT / "crates/lint_macros/src/text.rt"
+EXACT = ROOT / "crates/port_idioms/src/table.rt"
 GUIDE = ROOT / "docs/guide.md"
-PROFILE = ROOT / "crates/acmacros/src/table.rt"
+PROFILE = ROOT / "crates/ac_macros/src/table.rt"
 BEGIN = "## Macros that are not read\n"
 END = "## Packages that were moved over\n"
 KINDS = ("idiom", "drop", "none", "family")
@@ -303,9 +303,9 @@ def constant(about, name, rows):
 
 
 def text_of_exact():
-    """Returns the file of `exactidioms`: a row for each of these names."""
+    """Returns the file of `port_idioms`: a row for each of these names."""
     return (
-        "//! The macros whose idioms `acrun port` writes. `tools/macro_table.py` writes this file from `macros.txt` of `macrotable`.\n\n"
+        "//! The macros whose idioms `acrun port` writes. `tools/macro_table.py` writes this file from `macros.txt` of `lint_macros`.\n\n"
         "ghost use Rattle.std.specs.Prelude.{◌≡◌};\n"
         + constant(
             "The macros that have an exact idiom, each with the least and the largest number of arguments that it is exact for.",
@@ -392,7 +392,7 @@ def part_of_guide():
     lines = [
         BEGIN.rstrip("\n"),
         "",
-        "`tools/macro_table.py` writes this part of the guide from `crates/macrotable/macros.txt`. What is used most comes first.",
+        "`tools/macro_table.py` writes this part of the guide from `crates/lint_macros/macros.txt`. What is used most comes first.",
         "",
         "| Macro | What to do |",
         "|---|---|",

@@ -6,8 +6,8 @@
 # of each file is that of the last commit, or SOURCE_DATE_EPOCH.
 set -e
 kind=$1
-version=$(sed -n 's/^pub const VERSION: &str = "\(.*\)";$/\1/p' crates/helptext/src/texts.rt)
-[ -n "$version" ] || { echo 'package.sh: crates/helptext/src/texts.rt names no version' >&2; exit 2; }
+version=$(sed -n 's/^pub const VERSION: &str = "\(.*\)";$/\1/p' crates/cmd_help/src/texts.rt)
+[ -n "$version" ] || { echo 'package.sh: crates/cmd_help/src/texts.rt names no version' >&2; exit 2; }
 SOURCE_DATE_EPOCH=${SOURCE_DATE_EPOCH:-$(git log -1 --format=%ct 2> /dev/null || echo 0)}
 export SOURCE_DATE_EPOCH
 folder=$(mktemp -d)

@@ -19,11 +19,11 @@ import sys
 DOCUMENT = pathlib.Path("docs/architecture.md")
 BEGIN, END = "<!-- tools/places.py writes what follows -->", "<!-- up to here -->"
 WIDTH = 116
-CASES = ["crates/case_tests/data", "crates/case_tests/stdout"]
+CASES = ["crates/tests_cases/data", "crates/tests_cases/stdout"]
 PAGE = ["docs/language.md", "CHANGELOG.md"]
-MACRO = [*CASES, *PAGE, "docs/guide.md", "README.md", "crates/macrotable/macros.txt"]
+MACRO = [*CASES, *PAGE, "docs/guide.md", "README.md", "crates/lint_macros/macros.txt"]
 # The crates in which `lint`, `why` and `port` say something of a macro.
-SAYING = ("sourcewords", "sourcewarnings", "templatewarnings", "whycommand", "porting")
+SAYING = ("lint_words", "lint_warnings", "lint_templates", "cmd_why", "cmd_port")
 # In rows of tests a newline is `^J`.
 LINES = "J?(?:start refused|failed program was)"
 CODES = ["docs/running.md", "share/acrun.1"]
@@ -55,15 +55,15 @@ KINDS = [
     ("A line of the log", "`start refused` and `failed program was`", LINES, LINES, (),
      [*CASES, "docs/formats.md", "tools/fuzz_why.py", "tools/cut_and_resume.py", "bench/windows.py"]),
     ("The words of a fault", "`CacheBody`", r"CacheBody|CACHE_BODY", "",
-     ("sourcewords", "wordtable"), ["crates/wordtable/words.txt", *LINT]),
+     ("lint_words", "lint_table"), ["crates/lint_table/words.txt", *LINT]),
     ("A warning of `lint`", "`warn_of_compiler`", r"warn_of_compiler", "", (),
-     ["crates/wordtable/words.txt", *LINT, *CODES, "docs/promises.md"]),
+     ["crates/lint_table/words.txt", *LINT, *CODES, "docs/promises.md"]),
 ]
 
 
 def is_test(file):
     """Returns whether a file is of a crate that tests others."""
-    return bool(re.search(r"/\w+_tests/", str(file)))
+    return bool(re.search(r"/tests_\w+/", str(file)))
 
 
 @functools.cache
@@ -83,7 +83,7 @@ def is_used(file, words, name):
     """Returns whether a file uses one of the identifiers, or has the name in a text."""
     if re.search(rf"\b(?:{words})\b", code(file, is_test(file))):
         return True
-    if not name or is_test(file) or file.parts[1] in ("macrotable", "wordtable"):
+    if not name or is_test(file) or file.parts[1] in ("lint_macros", "lint_table"):
         return False
     return bool(re.search(rf'"[^"]*(?<![\w-]){name}(?![\w-])', code(file, True)))
 

@@ -1,7 +1,7 @@
 #!/usr/bin/env python3
-"""Refuses each allocation of the program `growth_tests` in turn, and checks what it then answers. `make
+"""Refuses each allocation of the program `tests_growth` in turn, and checks what it then answers. `make
 check` runs this after `rt ci`, which proves the program and leaves it as
-crates/growth_tests/out/growth_tests. It may be run alone:
+crates/tests_growth/out/tests_growth. It may be run alone:
 
     tools/refuse_each.py [PROGRAM] [--jobs N]
 
@@ -30,7 +30,7 @@ import tempfile
 from concurrent.futures import ThreadPoolExecutor
 
 ROOT = pathlib.Path(__file__).resolve().parent.parent
-PROGRAM = ROOT / "crates/growth_tests/out/growth_tests"
+PROGRAM = ROOT / "crates/tests_growth/out/tests_growth"
 WORDS = {3: "answers of no memory", 4: "refused puts", 0: "whole answers", 2: "before a call"}
 
 

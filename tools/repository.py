@@ -179,7 +179,7 @@ def tested_bodies_that_are_not_told():
     for edit in sorted(CRATES.glob("*/tested-bodies/*.edit")):
         said = dict(line.split(": ", 1) for line in edit.read_text().splitlines() if line.startswith(("test: ", "fails: ")))
         test, crate = said.get("test", ""), edit.parts[1]
-        files = [CRATES / "case_tests" / it if test.startswith("case_tests ") else pathlib.Path(it) for it in test.split()[1:]]
+        files = [CRATES / "tests_cases" / it if test.startswith("tests_cases ") else pathlib.Path(it) for it in test.split()[1:]]
         if not said.get("fails") or not test or test.split()[0] not in rows() or not all(it.is_file() for it in files):
             yield f"{edit}: it names no test, or not what that says"
         name = edit.stem.replace("-", " ")
@@ -215,12 +215,12 @@ def headings(file):
 
 
 def macros_that_do_not_agree():
-    """The crate macrotable or the guide is not what is written from macros.txt."""
+    """The crate lint_macros or the guide is not what is written from macros.txt."""
     yield from macro_table.differences()
 
 
 def words_that_do_not_agree():
-    """The crate wordtable is not what is written from words.txt, a key is not used, or a call has other parts than its words."""
+    """The crate lint_table is not what is written from words.txt, a key is not used, or a call has other parts than its words."""
     yield from word_table.differences()
 
 
@@ -238,7 +238,7 @@ def manual_page_faults():
             said = subprocess.run(words, stdout=subprocess.PIPE, stderr=subprocess.PIPE, env={**os.environ, "MANPAGER": "cat"}, text=True)
             yield from (said.stdout if words[0] == "mandoc" else said.stderr).splitlines()
             break
-    version = re.search(r'VERSION: &str = "(.*)"', (CRATES / "helptext/src/texts.rt").read_text())[1]
+    version = re.search(r'VERSION: &str = "(.*)"', (CRATES / "cmd_help/src/texts.rt").read_text())[1]
     if f'"acrun {version}"' not in pathlib.Path(page).read_text():
         yield f"{page} is not of version {version}"
     if f"## [{version}]" not in pathlib.Path("CHANGELOG.md").read_text():
@@ -255,12 +255,12 @@ def literals(text):
 
 def command_lists():
     """Returns a place and the names there, for each place that names all commands."""
-    call, texts, running = ((CRATES / it).read_text() for it in ("invocation/src/call.rt", "helptext/src/texts.rt", "faultwords/src/running.rt"))
+    call, texts, running = ((CRATES / it).read_text() for it in ("cmd_call/src/call.rt", "cmd_help/src/texts.rt", "lint_words/src/running.rt"))
     page = pathlib.Path("share/acrun.1").read_text().partition(".SH COMMANDS\n")[2].partition("\n.SH ")[0]
     bash, zsh, fish = ((COMPLETIONS / it).read_text() for it in ("acrun.bash", "_acrun", "acrun.fish"))
-    yield "crates/invocation/src/call.rt", {it for it in literals(call) if not it.startswith("-")}
-    yield "crates/helptext/src/texts.rt", {*re.findall(r'\(b"(\w+)", [A-Z]+\)', texts)}
-    yield "crates/faultwords/src/running.rt", literals(running.partition("const COMMANDS")[2].partition(";\n")[0].partition("=")[2])
+    yield "crates/cmd_call/src/call.rt", {it for it in literals(call) if not it.startswith("-")}
+    yield "crates/cmd_help/src/texts.rt", {*re.findall(r'\(b"(\w+)", [A-Z]+\)', texts)}
+    yield "crates/lint_words/src/running.rt", literals(running.partition("const COMMANDS")[2].partition(";\n")[0].partition("=")[2])
     yield "share/acrun.1", {*re.findall(r"(?m)^\.TP\n\.BR? ([a-z]+)", page)}
     yield "the commands of acrun.bash", {*re.findall(r"\b(?<!-)[a-z]+", re.search(r"words='(configure [^']*)'", bash)[1])}
     yield "the help of acrun.bash", {*re.search(r"help\) .* -W '([^']*)'", bash)[1].split()}
@@ -286,8 +286,8 @@ def package_names(file):
 
 def package_names_that_do_not_agree():
     """A table of the macros or variables that AC_INIT sets has other names than a run sets."""
-    wanted = package_names("runstate/src/package.rt")
-    for file in ("sourcewarnings/src/foreign.rt", "sourcewords/src/parse.rt", "templatewarnings/src/given.rt"):
+    wanted = package_names("run_state/src/package.rt")
+    for file in ("lint_warnings/src/foreign.rt", "lint_words/src/parse.rt", "lint_templates/src/given.rt"):
         found = package_names(file)
         if sorted(found) != sorted(wanted):
             yield f"crates/{file} names {' '.join(found)}; a run sets {' '.join(wanted)}"
@@ -296,14 +296,14 @@ def package_names_that_do_not_agree():
 def options_that_do_not_agree():
     """The options among which a similar one is sought are not those that are read, the manual page lacks one of these, or a completion
     lacks one with a value."""
-    text = {file.name: file.read_text() for file in (CRATES / "commandline/src").glob("*.rt")}
+    text = {file.name: file.read_text() for file in (CRATES / "options_line/src").glob("*.rt")}
     of_variables = text["directory.rt"].partition("fn variable")[2].partition("fn default_value")[0]
     directories = {it.replace("_", "-") for it in re.findall(r'=> b"(\w+)"', of_variables)}
     read = {it for it in literals("".join(text.values())) if it.startswith("--")} | {f"--{it}" for it in directories}
-    running = (CRATES / "faultwords/src/running.rt").read_text()
+    running = (CRATES / "lint_words/src/running.rt").read_text()
     said = literals(running.partition("const OPTIONS")[2].partition(";\n")[0].partition("=")[2])
     for name in sorted((said ^ read) - {"--disable-option-checking", "--enable-option-checking"}):
-        yield f"crates/faultwords/src/running.rt and crates/commandline do not agree on the option {name}"
+        yield f"crates/lint_words/src/running.rt and crates/options_line do not agree on the option {name}"
     page = {*re.findall(r"--[a-z-]*", pathlib.Path("share/acrun.1").read_text().replace("\\-", "-"))}
     for name in sorted(read - page):
         yield f"share/acrun.1 does not name {name}"

@@ -1,5 +1,5 @@
 #!/usr/bin/env python3
-"""Runs each macro that crates/macrotable/macros.txt has an exact idiom of in Autoconf 2.71, and its idiom too, and compares.
+"""Runs each macro that crates/lint_macros/macros.txt has an exact idiom of in Autoconf 2.71, and its idiom too, and compares.
   try_exact.py [NAME]..     only these macros, if there are any
 For each there are two sources with AC_PROG_CC: one with the macro, with the arguments that the guide shows, and one with the idiom.
 Both are given to `autoconf`, and configured. All definitions and all output variables have to be the same, but that a program may be

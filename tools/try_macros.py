@@ -1,5 +1,5 @@
 #!/usr/bin/env python3
-"""Compares each idiom of crates/macrotable/macros.txt with its macro.
+"""Compares each idiom of crates/lint_macros/macros.txt with its macro.
   try_macros.py PROGRAM [NAME]..     PROGRAM is a built acrun; only the idioms of these macros, if there are any
 If Autoconf 2.71 has the macro, it is given a source with the call that the guide shows, and acrun one with the idiom. Both runs have to
 leave the same definitions, output variables, variables that the idiom assigns, outputs, messages and exit status. A name of a `? ` line

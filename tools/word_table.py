@@ -1,7 +1,7 @@
 #!/usr/bin/env python3
-"""Writes the crate wordtable's keys and text from crates/wordtable/words.txt, which has what acrun says of errors and warnings.
+"""Writes the crate lint_table's keys and text from crates/lint_table/words.txt, which has what acrun says of errors and warnings.
 
-    tools/word_table.py            writes crates/wordtable/src/keys.rt
+    tools/word_table.py            writes crates/lint_table/src/keys.rt
     tools/word_table.py --check    prints what is wrong with the words and with the calls that name them, and then exits with status 1
     tools/word_table.py --show     prints each key with its message and its help, as a reader sees them
 
@@ -32,11 +32,11 @@ import macro_table
 
 ROOT = pathlib.Path(__file__).resolve().parent.parent
 CRATES = ROOT / "crates"
-WORDS, KEYS = CRATES / "wordtable/words.txt", CRATES / "wordtable/src/keys.rt"
+WORDS, KEYS = CRATES / "lint_table/words.txt", CRATES / "lint_table/src/keys.rt"
 PLACE = re.compile(r"%(.)")
 # The crates with tables of macros, and the file that names the variables of AC_INIT.
-LINT = ("linting", "shellfaults", "sourcewarnings", "sourcewords", "templatewarnings")
-GIVEN = CRATES / "templatewarnings/src/given.rt"
+LINT = ("lint_errors", "lint_templates", "lint_warnings", "lint_words")
+GIVEN = CRATES / "lint_templates/src/given.rt"
 MACRO = r"\b(?:AC|AM|AS|AX|m4)_\w+"
 
 
@@ -210,7 +210,7 @@ def wrong_calls():
 
 
 def unknown_macros():
-    """Yields a line for each macro that the words name, or a table of lint, and that is neither read nor in crates/macrotable/macros.txt. A
+    """Yields a line for each macro that the words name, or a table of lint, and that is neither read nor in crates/lint_macros/macros.txt. A
     name of what AC_INIT says is the name of its variable after `AC_`."""
     known = macro_table.profile().union(*(entry.names for entry in macro_table.entries()))
     known |= {f"AC_{name}" for name in re.findall(r'b"(PACKAGE_\w+)"', GIVEN.read_text())}

@@ -1,6 +1,6 @@
 #!/bin/sh
 # Does what the jobs of the crate `conftest` say, with a real compiler, and looks whether each succeeds or fails as it
-# should. The words and the texts come from the crate itself, by the program of crates/conftest_samples.
+# should. The words and the texts come from the crate itself, by the program of crates/tests_compiler.
 #   run.sh PROGRAM
 # The compiler is the one that CC names, and `cc` where CC is unset.
 set -uf

@@ -5,7 +5,7 @@ set -u
 acrun=$(realpath "$1") || exit 2
 root=$(realpath "$(dirname "$0")/../..") || exit 2
 unset ACRUN_WHY
-version=$(sed -n 's/^pub const VERSION: &str = "\(.*\)";$/\1/p' "$root/crates/helptext/src/texts.rt")
+version=$(sed -n 's/^pub const VERSION: &str = "\(.*\)";$/\1/p' "$root/crates/cmd_help/src/texts.rt")
 wrong=0
 
 # expect STATUS FIRST WORD..: the exit status, and the first line that is printed on either stream.

@@ -2,35 +2,35 @@
 use Rattle.std.proofs.Common.{◌≡◌, ℕ, zero, suc, List, [], ◌∷◌, drop, Option, Some, None, Result, Ok, Err, refl, sym, subst, inl, inr}
 use Rattle.m4quote.specs.Entry.{Span, Entry, call, bare}
 use Rattle.m4quote.specs.declared.fault.QuoteFault.{QuoteFault}
-use Rattle.acstatement.specs.declared.fault.ParseFault.{ParseFault}
-use Rattle.acstatement.specs.declared.fault.ParseFault.TheVariants.{UnknownMacro}
-use Rattle.acstatement.specs.declared.placement.LineStart.{LineStart}
-use Rattle.acstatement.specs.Reading.{quoted, quote_fault}
-use Rattle.acstatement.specs.Stand.{line_start_of, no_line_start}
-use Rattle.acstatement.proofs.Binds.{bind_err, wants_err, err_is}
-use Rattle.acargs.specs.Arguments.{cache_name, is_given}
-use Rattle.acargs.specs.Shell.{here_text}
-use Rattle.acstatement.specs.Texts.{arg_at}
-use Rattle.acmacros.specs.declared.macros.ArgumentMacro.{ArgumentMacro}
-use Rattle.acmacros.specs.declared.macros.ChoiceMacro.{ChoiceMacro}
-use Rattle.acmacros.specs.declared.macros.Macro.{Macro}
-use Rattle.acmacros.specs.declared.macros.Macro.TheVariants.{Plain, Choice as A_choice, Question as A_question, Check as A_check}
-use Rattle.acmacros.specs.declared.macros.Named.{Named}
-use Rattle.acmacros.specs.declared.macros.Named.TheVariants.{Statement, Argument}
-use Rattle.acmacros.specs.declared.macros.QuestionMacro.{QuestionMacro}
-use Rattle.acmacros.specs.Checks.{completed_of}
-use Rattle.acmacros.specs.Placement.{as_statement, bare_fault}
-use Rattle.syntax.specs.declared.tree.When.{When}
-use Rattle.syntax.specs.declared.tree.When.TheVariants.{Yes, No, Always}
-use Rattle.syntax.specs.declared.declarations.Declarations as declarations
-use Rattle.syntax.specs.declared.declarations.Stage.{Stage}
-use Rattle.acmacros.specs.ListKind.{ListKind, Commands, of_case}
-use Rattle.acmacros.specs.Table.{row_named}
-use Rattle.acmacros.specs.declared.table.Row.{Row}
+use Rattle.ac_statement.specs.declared.fault.ParseFault.{ParseFault}
+use Rattle.ac_statement.specs.declared.fault.ParseFault.TheVariants.{UnknownMacro}
+use Rattle.ac_statement.specs.declared.placement.LineStart.{LineStart}
+use Rattle.ac_statement.specs.Reading.{quoted, quote_fault}
+use Rattle.ac_statement.specs.Stand.{line_start_of, no_line_start}
+use Rattle.ac_statement.proofs.Binds.{bind_err, wants_err, err_is}
+use Rattle.ac_args.specs.Arguments.{cache_name, is_given}
+use Rattle.ac_args.specs.Shell.{here_text}
+use Rattle.ac_statement.specs.Texts.{arg_at}
+use Rattle.ac_macros.specs.declared.macros.ArgumentMacro.{ArgumentMacro}
+use Rattle.ac_macros.specs.declared.macros.ChoiceMacro.{ChoiceMacro}
+use Rattle.ac_macros.specs.declared.macros.Macro.{Macro}
+use Rattle.ac_macros.specs.declared.macros.Macro.TheVariants.{Plain, Choice as A_choice, Question as A_question, Check as A_check}
+use Rattle.ac_macros.specs.declared.macros.Named.{Named}
+use Rattle.ac_macros.specs.declared.macros.Named.TheVariants.{Statement, Argument}
+use Rattle.ac_macros.specs.declared.macros.QuestionMacro.{QuestionMacro}
+use Rattle.ac_macros.specs.Checks.{completed_of}
+use Rattle.ac_macros.specs.Placement.{as_statement, bare_fault}
+use Rattle.ac_tree.specs.declared.tree.When.{When}
+use Rattle.ac_tree.specs.declared.tree.When.TheVariants.{Yes, No, Always}
+use Rattle.ac_tree.specs.declared.declarations.Declarations as declarations
+use Rattle.ac_tree.specs.declared.declarations.Stage.{Stage}
+use Rattle.ac_macros.specs.ListKind.{ListKind, Commands, of_case}
+use Rattle.ac_macros.specs.Table.{row_named}
+use Rattle.ac_macros.specs.declared.table.Row.{Row}
 use Rattle.m4quote.proofs.Laws.{outcome_is_spelling, outcome_is_fault}
 use Rattle.m4quote.specs.Scan.{outcome}
-use Rattle.syntax.specs.Lists.{after, after_all, after_cases}
-use Rattle.syntax.specs.Script.{Script, Cases}
+use Rattle.ac_tree.specs.Lists.{after, after_all, after_cases}
+use Rattle.ac_tree.specs.Script.{Script, Cases}
 use Rattle.acparse.specs.Breaks.{WithinBreaks, MayNotStand, unknown, other_arguments, in_arguments_alone, not_here, in_text, not_held, CasesBreak, in_condition, in_body, after_case, in_default, ActionBreaks, in_action, ItemBreaks, other_text, may_not_stand, argument, in_subject, in_cases, in_question, in_yes, in_no, in_includes, in_message, in_name, in_commands, Breaks, here, following, TextBreaks, no_items, in_items, IsBroken}
 use Rattle.acparse.specs.Asked.{asked_with}
 use Rattle.acparse.specs.Profile.{Bodies, body_of, items_of, item_of, call_of, checked, known, case_args, case_if, cases_in, choice_of, action_in, action_args, asked_of, check_of}

@@ -2,39 +2,39 @@
 use Rattle.std.proofs.Common.{◌≡◌, ℕ, zero, suc, Bool, true, false, List, [], ◌∷◌, drop, Option, Some, None, Result, Ok, Err, refl, subst}
 use Rattle.m4quote.specs.Entry.{Span, Entry, call, bare}
 use Rattle.m4quote.specs.declared.fault.QuoteFault.{QuoteFault}
-use Rattle.acstatement.specs.declared.placement.LineStart.{LineStart}
-use Rattle.acstatement.specs.Idle.{is_idle}
-use Rattle.acstatement.specs.Reading.{quoted}
-use Rattle.acstatement.specs.Stand.{line_start_of, no_line_start}
-use Rattle.acstatement.proofs.Binds.{bind_ok, ok_is, wants_ok}
-use Rattle.acmacros.specs.declared.macros.Macro.{Macro}
-use Rattle.acmacros.specs.declared.macros.ChoiceMacro.{ChoiceMacro}
-use Rattle.acmacros.specs.declared.macros.Macro.TheVariants.{Plain, Choice as A_choice, Question as A_question, Check as A_check}
-use Rattle.acmacros.specs.declared.macros.Named.{Named}
-use Rattle.acmacros.specs.declared.macros.Named.TheVariants.{Statement, Argument}
-use Rattle.acmacros.specs.declared.macros.QuestionMacro.{QuestionMacro}
-use Rattle.acmacros.specs.Checks.{completed_of}
-use Rattle.acmacros.specs.Placement.{as_statement}
-use Rattle.acmacros.specs.ListKind.{ListKind, Commands, of_case}
-use Rattle.acmacros.specs.Table.{row_named}
-use Rattle.acmacros.specs.declared.table.Row.{Row}
-use Rattle.syntax.specs.declared.tree.When.{When}
-use Rattle.syntax.specs.declared.tree.When.TheVariants.{Yes, No, Always}
-use Rattle.syntax.specs.declared.declarations.Declarations as declarations
-use Rattle.syntax.specs.declared.declarations.Stage.{Stage}
-use Rattle.syntax.specs.declared.declarations.Stage.TheVariants.{Before, Open, Ended}
+use Rattle.ac_statement.specs.declared.placement.LineStart.{LineStart}
+use Rattle.ac_statement.specs.Idle.{is_idle}
+use Rattle.ac_statement.specs.Reading.{quoted}
+use Rattle.ac_statement.specs.Stand.{line_start_of, no_line_start}
+use Rattle.ac_statement.proofs.Binds.{bind_ok, ok_is, wants_ok}
+use Rattle.ac_macros.specs.declared.macros.Macro.{Macro}
+use Rattle.ac_macros.specs.declared.macros.ChoiceMacro.{ChoiceMacro}
+use Rattle.ac_macros.specs.declared.macros.Macro.TheVariants.{Plain, Choice as A_choice, Question as A_question, Check as A_check}
+use Rattle.ac_macros.specs.declared.macros.Named.{Named}
+use Rattle.ac_macros.specs.declared.macros.Named.TheVariants.{Statement, Argument}
+use Rattle.ac_macros.specs.declared.macros.QuestionMacro.{QuestionMacro}
+use Rattle.ac_macros.specs.Checks.{completed_of}
+use Rattle.ac_macros.specs.Placement.{as_statement}
+use Rattle.ac_macros.specs.ListKind.{ListKind, Commands, of_case}
+use Rattle.ac_macros.specs.Table.{row_named}
+use Rattle.ac_macros.specs.declared.table.Row.{Row}
+use Rattle.ac_tree.specs.declared.tree.When.{When}
+use Rattle.ac_tree.specs.declared.tree.When.TheVariants.{Yes, No, Always}
+use Rattle.ac_tree.specs.declared.declarations.Declarations as declarations
+use Rattle.ac_tree.specs.declared.declarations.Stage.{Stage}
+use Rattle.ac_tree.specs.declared.declarations.Stage.TheVariants.{Before, Open, Ended}
 use Rattle.m4quote.specs.Scan.{outcome, bare_value_of}
 use Rattle.m4quote.proofs.Laws.{outcome_is_spelling, bare_value_is_value}
-use Rattle.baretext.proofs.Laws.{read-text}
-use Rattle.baretext.specs.Reading.{statements_of}
-use Rattle.baretext.specs.declared.fault.BareFault.{BareFault}
-use Rattle.acstatement.specs.declared.fault.ParseFault.{ParseFault}
-use Rattle.acargs.specs.Arguments.{cache_name, is_given}
-use Rattle.acargs.specs.Shell.{here_text}
-use Rattle.acstatement.specs.Texts.{arg_at}
-use Rattle.baretext.specs.declared.assignments.Assignment.{Assignment}
-use Rattle.syntax.specs.Lists.{after, after_all, after_cases}
-use Rattle.syntax.specs.Script.{Script, Done, Cases, No_case}
+use Rattle.shell_bare.proofs.Laws.{read-text}
+use Rattle.shell_bare.specs.Reading.{statements_of}
+use Rattle.shell_bare.specs.declared.fault.BareFault.{BareFault}
+use Rattle.ac_statement.specs.declared.fault.ParseFault.{ParseFault}
+use Rattle.ac_args.specs.Arguments.{cache_name, is_given}
+use Rattle.ac_args.specs.Shell.{here_text}
+use Rattle.ac_statement.specs.Texts.{arg_at}
+use Rattle.shell_bare.specs.declared.assignments.Assignment.{Assignment}
+use Rattle.ac_tree.specs.Lists.{after, after_all, after_cases}
+use Rattle.ac_tree.specs.Script.{Script, Done, Cases, No_case}
 use Rattle.acparse.specs.Asked.{asked_with}
 use Rattle.acparse.specs.Bare.{bare_at, assigned, may_assign, of_value, assigned_in, idle_or, bare_of}
 use Rattle.acparse.specs.Profile.{action_in, asked_of, action_args, Bodies, body_of, items_of, item_of, call_of, checked, known, case_args, case_if, cases_in, choice_of, check_of}

@@ -2,24 +2,24 @@
 use Rattle.std.proofs.Common.{ℕ, zero, suc, Bool, true, false, List, Result, Ok, Err, sym, ◌∙◌, subst}
 use Rattle.std.specs.Prelude.{IfOk}
 use Rattle.m4quote.specs.Entry.{Span, Entry}
-use Rattle.acstatement.specs.declared.fault.ParseFault.{ParseFault}
-use Rattle.acstatement.specs.declared.placement.LineStart.{LineStart}
-use Rattle.acargs.specs.Arguments.{is_given}
-use Rattle.acstatement.specs.Reading.{Gives}
-use Rattle.acmacros.specs.declared.macros.ChoiceMacro.{ChoiceMacro}
-use Rattle.syntax.specs.declared.declarations.Declarations as declarations
-use Rattle.syntax.specs.declared.declarations.Stage.{Stage}
-use Rattle.syntax.specs.Limits.{IsWithinLimits, HasShortLists}
-use Rattle.syntax.specs.Lists.{start, after}
-use Rattle.outputlist.specs.Output.{AreOutputs}
-use Rattle.acmacros.specs.ListKind.{ListKind, Top, of_case}
-use Rattle.acmacros.proofs.LimitLemmas.{plain_keeps, question_keeps, precious_count, start_fits}
-use Rattle.syntax.specs.declared.tree.When.{When}
-use Rattle.syntax.specs.declared.tree.When.TheVariants.{Always}
-use Rattle.syntax.specs.Lists.{after_all, after_cases, lists_of}
-use Rattle.syntax.specs.declared.tree.Stmt.{Stmt}
-use Rattle.syntax.specs.Script.{Script, Done, Then, Choice, Check, Cases, followed, script_of}
-use Rattle.syntax.proofs.ScriptLemmas.{after_joined, after_followed}
+use Rattle.ac_statement.specs.declared.fault.ParseFault.{ParseFault}
+use Rattle.ac_statement.specs.declared.placement.LineStart.{LineStart}
+use Rattle.ac_args.specs.Arguments.{is_given}
+use Rattle.ac_statement.specs.Reading.{Gives}
+use Rattle.ac_macros.specs.declared.macros.ChoiceMacro.{ChoiceMacro}
+use Rattle.ac_tree.specs.declared.declarations.Declarations as declarations
+use Rattle.ac_tree.specs.declared.declarations.Stage.{Stage}
+use Rattle.ac_tree.specs.Limits.{IsWithinLimits, HasShortLists}
+use Rattle.ac_tree.specs.Lists.{start, after}
+use Rattle.output_list.specs.Output.{AreOutputs}
+use Rattle.ac_macros.specs.ListKind.{ListKind, Top, of_case}
+use Rattle.ac_macros.proofs.LimitLemmas.{plain_keeps, question_keeps, precious_count, start_fits}
+use Rattle.ac_tree.specs.declared.tree.When.{When}
+use Rattle.ac_tree.specs.declared.tree.When.TheVariants.{Always}
+use Rattle.ac_tree.specs.Lists.{after_all, after_cases, lists_of}
+use Rattle.ac_tree.specs.declared.tree.Stmt.{Stmt}
+use Rattle.ac_tree.specs.Script.{Script, Done, Then, Choice, Check, Cases, followed, script_of}
+use Rattle.ac_tree.proofs.ScriptLemmas.{after_joined, after_followed}
 use Rattle.acparse.specs.Profile.{source_of, case_if}
 use Rattle.acparse.specs.Source.{IsSource}
 use Rattle.acparse.specs.Statements.{Within, IsBare, before, ended, assignments, AreCases, no_more, default, pair, IsAction, absent, there, IsItem, bare_text, plain_call, choice, question, check, AreStatements, none, one, IsBody}

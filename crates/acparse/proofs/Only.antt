@@ -2,19 +2,19 @@
 use Rattle.std.proofs.Common.{◌≡◌, ℕ, zero, suc, List, Ok, refl, ap, ◌∙◌}
 use Rattle.m4quote.specs.Entry.{Span, Entry}
 use Rattle.m4quote.proofs.Laws.{outcome_is_spelling, bare_value_is_value}
-use Rattle.baretext.proofs.Laws.{text-read}
-use Rattle.acstatement.specs.declared.placement.LineStart.{LineStart}
-use Rattle.acstatement.specs.Reading.{quoted}
-use Rattle.acstatement.proofs.Binds.{then_ok, wants_true}
-use Rattle.acmacros.specs.declared.macros.ChoiceMacro.{ChoiceMacro}
-use Rattle.acmacros.specs.declared.macros.Macro.{Macro}
-use Rattle.syntax.specs.declared.declarations.Declarations as declarations
-use Rattle.syntax.specs.declared.declarations.Stage.{Stage}
-use Rattle.syntax.specs.declared.declarations.Stage.TheVariants.{Before, Ended}
-use Rattle.acmacros.specs.Placement.{bare_fault, as_statement}
-use Rattle.acmacros.specs.ListKind.{ListKind, of_case}
-use Rattle.syntax.specs.declared.tree.When.{When}
-use Rattle.syntax.specs.Script.{Script, Cases}
+use Rattle.shell_bare.proofs.Laws.{text-read}
+use Rattle.ac_statement.specs.declared.placement.LineStart.{LineStart}
+use Rattle.ac_statement.specs.Reading.{quoted}
+use Rattle.ac_statement.proofs.Binds.{then_ok, wants_true}
+use Rattle.ac_macros.specs.declared.macros.ChoiceMacro.{ChoiceMacro}
+use Rattle.ac_macros.specs.declared.macros.Macro.{Macro}
+use Rattle.ac_tree.specs.declared.declarations.Declarations as declarations
+use Rattle.ac_tree.specs.declared.declarations.Stage.{Stage}
+use Rattle.ac_tree.specs.declared.declarations.Stage.TheVariants.{Before, Ended}
+use Rattle.ac_macros.specs.Placement.{bare_fault, as_statement}
+use Rattle.ac_macros.specs.ListKind.{ListKind, of_case}
+use Rattle.ac_tree.specs.declared.tree.When.{When}
+use Rattle.ac_tree.specs.Script.{Script, Cases}
 use Rattle.m4quote.specs.Scan.{bare_value_of}
 use Rattle.acparse.specs.Asked.{asked_with}
 use Rattle.acparse.specs.Bare.{bare_at, of_value, assigned_in, idle_or, bare_of}

@@ -4,41 +4,41 @@ use Rattle.std.specs.Prelude.{IfOk}
 use Rattle.std.specs.Str.{bytes_eq}
 use Rattle.std.proofs.lemmas.Slice.Eq.{bytes_eq-Decides}
 use Rattle.shellword.specs.declared.part.Part.{Part}
-use Rattle.baretext.specs.declared.assignments.Assignment.{Assignment}
+use Rattle.shell_bare.specs.declared.assignments.Assignment.{Assignment}
 use Rattle.m4quote.specs.Entry.{Span}
 use Rattle.m4quote.specs.Entry as items
 use Rattle.deftable.specs.CacheName.{is_cache_name}
-use Rattle.acstatement.specs.declared.fault.ParseFault.{ParseFault}
-use Rattle.acstatement.specs.declared.placement.LineStart.{LineStart}
-use Rattle.acstatement.specs.Reading.{Gives}
-use Rattle.acstatement.specs.Texts.{arg_at}
-use Rattle.acstatement.proofs.Binds.{bind_ok, ok_is, wants_ok}
-use Rattle.acargs.specs.Arguments.{name, cache_name, is_given}
-use Rattle.acargs.specs.Shell.{word}
-use Rattle.acmacros.specs.declared.macros.ChoiceMacro.{ChoiceMacro}
-use Rattle.acmacros.specs.declared.macros.ChoiceMacro.TheVariants.{If, Case as As_case}
-use Rattle.acmacros.specs.declared.macros.Macro.TheVariants.{Plain as A_plain, Question as A_question, Check as A_check}
-use Rattle.acmacros.specs.declared.macros.PlainMacro.{PlainMacro}
-use Rattle.acmacros.specs.declared.macros.QuestionMacro.{QuestionMacro}
-use Rattle.acmacros.specs.declared.macros.QuestionMacro.TheVariants.{Tries}
-use Rattle.acmacros.specs.Checks.{completed_of}
-use Rattle.acmacros.specs.Rows.{question_of, undeclared}
-use Rattle.acmacros.specs.ListKind.{ListKind, Top, Nested, Commands, of_case, may_hold}
-use Rattle.acmacros.specs.Tries.{tries, tried_program}
-use Rattle.syntax.specs.declared.declarations.Declarations as declarations
-use Rattle.syntax.specs.declared.declarations.Stage.{Stage}
-use Rattle.syntax.specs.declared.statement.Declares.{Declares}
-use Rattle.syntax.specs.declared.statement.Declares.TheVariants as declares
-use Rattle.syntax.specs.declared.statement.Effect.{Effect}
-use Rattle.syntax.specs.declared.statement.Question as question_of_tree
-use Rattle.syntax.specs.declared.statement.Question.TheVariants as asks
-use Rattle.syntax.specs.declared.tree.Stmt.{Stmt}
-use Rattle.syntax.specs.declared.tree.Subject.{Subject}
-use Rattle.syntax.specs.declared.tree.Subject.TheVariants.{Nothing, Word, Asked}
-use Rattle.syntax.specs.declared.tree.When.{When}
-use Rattle.syntax.specs.declared.tree.When.TheVariants.{Always}
-use Rattle.syntax.specs.Commands.{DeclaresNothing, TriesAlone, AreCommands, AreCommandsIn, HasCommands, HasCommandsIn}
-use Rattle.syntax.specs.Script.{Script, Done, Then, Choice, Check, Cases, No_case, Case, joined, followed, script_of}
+use Rattle.ac_statement.specs.declared.fault.ParseFault.{ParseFault}
+use Rattle.ac_statement.specs.declared.placement.LineStart.{LineStart}
+use Rattle.ac_statement.specs.Reading.{Gives}
+use Rattle.ac_statement.specs.Texts.{arg_at}
+use Rattle.ac_statement.proofs.Binds.{bind_ok, ok_is, wants_ok}
+use Rattle.ac_args.specs.Arguments.{name, cache_name, is_given}
+use Rattle.ac_args.specs.Shell.{word}
+use Rattle.ac_macros.specs.declared.macros.ChoiceMacro.{ChoiceMacro}
+use Rattle.ac_macros.specs.declared.macros.ChoiceMacro.TheVariants.{If, Case as As_case}
+use Rattle.ac_macros.specs.declared.macros.Macro.TheVariants.{Plain as A_plain, Question as A_question, Check as A_check}
+use Rattle.ac_macros.specs.declared.macros.PlainMacro.{PlainMacro}
+use Rattle.ac_macros.specs.declared.macros.QuestionMacro.{QuestionMacro}
+use Rattle.ac_macros.specs.declared.macros.QuestionMacro.TheVariants.{Tries}
+use Rattle.ac_macros.specs.Checks.{completed_of}
+use Rattle.ac_macros.specs.Rows.{question_of, undeclared}
+use Rattle.ac_macros.specs.ListKind.{ListKind, Top, Nested, Commands, of_case, may_hold}
+use Rattle.ac_macros.specs.Tries.{tries, tried_program}
+use Rattle.ac_tree.specs.declared.declarations.Declarations as declarations
+use Rattle.ac_tree.specs.declared.declarations.Stage.{Stage}
+use Rattle.ac_tree.specs.declared.statement.Declares.{Declares}
+use Rattle.ac_tree.specs.declared.statement.Declares.TheVariants as declares
+use Rattle.ac_tree.specs.declared.statement.Effect.{Effect}
+use Rattle.ac_tree.specs.declared.statement.Question as question_of_tree
+use Rattle.ac_tree.specs.declared.statement.Question.TheVariants as asks
+use Rattle.ac_tree.specs.declared.tree.Stmt.{Stmt}
+use Rattle.ac_tree.specs.declared.tree.Subject.{Subject}
+use Rattle.ac_tree.specs.declared.tree.Subject.TheVariants.{Nothing, Word, Asked}
+use Rattle.ac_tree.specs.declared.tree.When.{When}
+use Rattle.ac_tree.specs.declared.tree.When.TheVariants.{Always}
+use Rattle.ac_tree.specs.Commands.{DeclaresNothing, TriesAlone, AreCommands, AreCommandsIn, HasCommands, HasCommandsIn}
+use Rattle.ac_tree.specs.Script.{Script, Done, Then, Choice, Check, Cases, No_case, Case, joined, followed, script_of}
 use Rattle.acparse.specs.Asked.{asked_by}
 use Rattle.acparse.specs.Bare.{assigned, may_assign, set_alone}
 use Rattle.acparse.specs.Profile.{source_of, subject_of, case_if}

@@ -2,17 +2,17 @@
 use Rattle.std.proofs.Common.{◌≡◌, ℕ, false, List, [], ◌∷◌, length, Option, refl}
 use Rattle.std.specs.Prelude.{◌==◌}
 use Rattle.shellword.specs.declared.part.Part.{Part}
-use Rattle.syntax.specs.declared.declarations.Declarations as declarations
-use Rattle.syntax.specs.declared.listed.Listed.{Listed}
-use Rattle.syntax.specs.declared.listed.Sought.TheVariants.{Entry, «Type»}
-use Rattle.syntax.specs.declared.statement.Declares.{Declares}
-use Rattle.syntax.specs.declared.statement.Effect.TheVariants.{Batch}
-use Rattle.syntax.specs.declared.statement.Question.{Question}
-use Rattle.syntax.specs.declared.statement.Question.TheVariants.{ChecksEach}
-use Rattle.syntax.specs.declared.tree.Case as case
-use Rattle.syntax.specs.declared.tree.Subject.TheVariants.{Asked}
-use Rattle.syntax.specs.Lists.{after, after_all, after_cases}
-use Rattle.syntax.specs.Script.{Script, Done, Then, Choice, Cases, No_case, Case, cases_of}
+use Rattle.ac_tree.specs.declared.declarations.Declarations as declarations
+use Rattle.ac_tree.specs.declared.listed.Listed.{Listed}
+use Rattle.ac_tree.specs.declared.listed.Sought.TheVariants.{Entry, «Type»}
+use Rattle.ac_tree.specs.declared.statement.Declares.{Declares}
+use Rattle.ac_tree.specs.declared.statement.Effect.TheVariants.{Batch}
+use Rattle.ac_tree.specs.declared.statement.Question.{Question}
+use Rattle.ac_tree.specs.declared.statement.Question.TheVariants.{ChecksEach}
+use Rattle.ac_tree.specs.declared.tree.Case as case
+use Rattle.ac_tree.specs.declared.tree.Subject.TheVariants.{Asked}
+use Rattle.ac_tree.specs.Lists.{after, after_all, after_cases}
+use Rattle.ac_tree.specs.Script.{Script, Done, Then, Choice, Cases, No_case, Case, cases_of}
 use Rattle.acparse.specs.Asked.{asked_by}
 
 -- It is a batch without cases, or a choice.

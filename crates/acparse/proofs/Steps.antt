@@ -6,28 +6,28 @@ use Rattle.std.proofs.lemmas.List.{drop_more, take_all, length-drop}
 use Rattle.m4quote.specs.declared.item.Arg.{Arg}
 use Rattle.m4quote.specs.declared.item.Item.{Item}
 use Rattle.m4quote.specs.Entry.{Span, Entry, span, view, views, call, bare}
-use Rattle.acstatement.specs.declared.fault.ParseFault.{ParseFault}
-use Rattle.acstatement.specs.declared.fault.ParseFault.TheVariants.{OutOfMemory}
-use Rattle.acstatement.specs.declared.placement.LineStart.{LineStart}
-use Rattle.acstatement.specs.Reading.{◌>>=◌, Fails, Gives}
-use Rattle.acstatement.specs.Stand.{line_start_of, no_line_start}
-use Rattle.acstatement.proofs.Binds.{bind_ok, ok_is, fails_bind, fails_along}
-use Rattle.acmacros.specs.declared.macros.ChoiceMacro.{ChoiceMacro}
-use Rattle.acmacros.specs.declared.macros.Macro.{Macro}
-use Rattle.acmacros.specs.declared.macros.QuestionMacro.{QuestionMacro}
-use Rattle.syntax.specs.declared.declarations.Declarations as declarations
-use Rattle.syntax.specs.declared.statement.Declares.{Declares}
-use Rattle.syntax.specs.declared.statement.Question.{Question}
-use Rattle.acmacros.specs.Checks.{completed_of}
-use Rattle.acmacros.specs.Rows.{question_of}
-use Rattle.acmacros.specs.ListKind.{ListKind}
-use Rattle.syntax.specs.declared.tree.Case as case
-use Rattle.syntax.specs.declared.tree.Stmt.{Stmt}
-use Rattle.syntax.specs.declared.tree.When.{When}
-use Rattle.syntax.specs.declared.tree.When.TheVariants.{Yes, No}
-use Rattle.syntax.specs.Lists.{after, after_all, after_cases}
-use Rattle.syntax.specs.Script.{Script, Cases, No_case, Case, joined, followed, script_of, cases_of}
-use Rattle.syntax.proofs.ScriptLemmas.{script_push, joined_done, joined_assoc, after_joined, cases_push, followed_assoc, after_followed}
+use Rattle.ac_statement.specs.declared.fault.ParseFault.{ParseFault}
+use Rattle.ac_statement.specs.declared.fault.ParseFault.TheVariants.{OutOfMemory}
+use Rattle.ac_statement.specs.declared.placement.LineStart.{LineStart}
+use Rattle.ac_statement.specs.Reading.{◌>>=◌, Fails, Gives}
+use Rattle.ac_statement.specs.Stand.{line_start_of, no_line_start}
+use Rattle.ac_statement.proofs.Binds.{bind_ok, ok_is, fails_bind, fails_along}
+use Rattle.ac_macros.specs.declared.macros.ChoiceMacro.{ChoiceMacro}
+use Rattle.ac_macros.specs.declared.macros.Macro.{Macro}
+use Rattle.ac_macros.specs.declared.macros.QuestionMacro.{QuestionMacro}
+use Rattle.ac_tree.specs.declared.declarations.Declarations as declarations
+use Rattle.ac_tree.specs.declared.statement.Declares.{Declares}
+use Rattle.ac_tree.specs.declared.statement.Question.{Question}
+use Rattle.ac_macros.specs.Checks.{completed_of}
+use Rattle.ac_macros.specs.Rows.{question_of}
+use Rattle.ac_macros.specs.ListKind.{ListKind}
+use Rattle.ac_tree.specs.declared.tree.Case as case
+use Rattle.ac_tree.specs.declared.tree.Stmt.{Stmt}
+use Rattle.ac_tree.specs.declared.tree.When.{When}
+use Rattle.ac_tree.specs.declared.tree.When.TheVariants.{Yes, No}
+use Rattle.ac_tree.specs.Lists.{after, after_all, after_cases}
+use Rattle.ac_tree.specs.Script.{Script, Cases, No_case, Case, joined, followed, script_of, cases_of}
+use Rattle.ac_tree.proofs.ScriptLemmas.{script_push, joined_done, joined_assoc, after_joined, cases_push, followed_assoc, after_followed}
 use Rattle.acparse.specs.Asked.{asked_with}
 use Rattle.acparse.specs.Bare.{bare_of}
 use Rattle.acparse.specs.Profile.{Bodies, Adds, following, when_of, case_of, cases_in, action_in, action_args, answers_in, asked_of, items_of, item_of, call_of, checked}

@@ -1,45 +1,45 @@
 -- The variable of each program that is looked for is a shell name.
 use Rattle.std.proofs.Common.{◌≡◌, ℕ, zero, suc, Bool, true, false, cond, List, [], ◌∷◌, length, Result, Ok, Err, refl, subst}
 use Rattle.std.specs.Prelude.{Option, IfOk, nat_lt}
-use Rattle.baretext.specs.declared.assignments.Assignment.{Assignment}
+use Rattle.shell_bare.specs.declared.assignments.Assignment.{Assignment}
 use Rattle.m4quote.specs.Entry.{Span}
 use Rattle.m4quote.specs.Entry as items
 use Rattle.deftable.specs.ShellName.{is_shell_name_of, IsShellName}
 use Rattle.shellword.specs.declared.part.Part.{Part}
-use Rattle.acstatement.specs.declared.fault.ParseFault.{ParseFault}
-use Rattle.acstatement.specs.declared.fault.ParseFault.TheVariants.{BadName, TooMany}
-use Rattle.acstatement.specs.declared.placement.LineStart.{LineStart}
-use Rattle.acstatement.specs.Reading.{◌>>=◌, Gives, wants}
-use Rattle.acstatement.specs.Texts.{arg_at}
-use Rattle.acargs.specs.Arguments as arguments
-use Rattle.acargs.specs.Arguments.{is_given, line, name, text, title}
-use Rattle.acargs.specs.Numbers.{language, status, version}
-use Rattle.acargs.specs.Programs.{program, programs}
-use Rattle.acargs.specs.Shell.{word, here_text}
-use Rattle.acmacros.specs.declared.macros.ChoiceMacro.{ChoiceMacro}
-use Rattle.acmacros.specs.declared.macros.ActMacro.{ActMacro}
-use Rattle.acmacros.specs.declared.macros.ActMacro.TheVariants as acts
-use Rattle.acmacros.specs.declared.macros.DeclaringMacro.{DeclaringMacro}
-use Rattle.acmacros.specs.declared.macros.DeclaringMacro.TheVariants as macro
-use Rattle.acmacros.specs.declared.macros.PlainMacro.{PlainMacro}
-use Rattle.acmacros.specs.declared.macros.PlainMacro.TheVariants as plain
-use Rattle.acmacros.specs.Room.{has_room}
-use Rattle.acmacros.specs.Rows.{plain_of, act_of, declaring_of, undeclared, init, tarname, prereq, lang, outputs_of, config_outputs, subst as subst_row, assigned, defined, define, unquoted_of, unquoted, define_unquoted, msg_error, message_of, arg_var}
-use Rattle.acmacros.specs.ListKind.{ListKind, Top, of_case}
-use Rattle.acmacros.specs.Searches.{has_tool_room, output_variable, optional_text, searched, compilers, check_prog, check_progs, path_prog, prog_cc}
-use Rattle.syntax.specs.declared.declarations.Declarations as declarations
-use Rattle.syntax.specs.declared.declarations.Stage.{Stage}
-use Rattle.syntax.specs.declared.statement.Declares.{Declares}
-use Rattle.syntax.specs.declared.statement.Effect.{Effect}
-use Rattle.syntax.specs.declared.statement.Effect.TheVariants.{Search, Searches}
-use Rattle.syntax.specs.declared.statement.ProgramValue.TheVariants.{FullName}
-use Rattle.syntax.specs.declared.statement.Question.{Question}
-use Rattle.syntax.specs.declared.tree.Stmt.{Stmt}
-use Rattle.syntax.specs.declared.tree.When.{When}
-use Rattle.syntax.specs.declared.tree.When.TheVariants.{Always}
-use Rattle.syntax.specs.Script.{Script, Done, Then, Choice, Check, Cases, No_case, Case, joined, followed, script_of}
-use Rattle.syntax.specs.TestNames.{NamesVariable, HasTestNames, HasTestNamesIn}
-use Rattle.syntax.specs.Texts.{is_empty}
+use Rattle.ac_statement.specs.declared.fault.ParseFault.{ParseFault}
+use Rattle.ac_statement.specs.declared.fault.ParseFault.TheVariants.{BadName, TooMany}
+use Rattle.ac_statement.specs.declared.placement.LineStart.{LineStart}
+use Rattle.ac_statement.specs.Reading.{◌>>=◌, Gives, wants}
+use Rattle.ac_statement.specs.Texts.{arg_at}
+use Rattle.ac_args.specs.Arguments as arguments
+use Rattle.ac_args.specs.Arguments.{is_given, line, name, text, title}
+use Rattle.ac_args.specs.Numbers.{language, status, version}
+use Rattle.ac_args.specs.Programs.{program, programs}
+use Rattle.ac_args.specs.Shell.{word, here_text}
+use Rattle.ac_macros.specs.declared.macros.ChoiceMacro.{ChoiceMacro}
+use Rattle.ac_macros.specs.declared.macros.ActMacro.{ActMacro}
+use Rattle.ac_macros.specs.declared.macros.ActMacro.TheVariants as acts
+use Rattle.ac_macros.specs.declared.macros.DeclaringMacro.{DeclaringMacro}
+use Rattle.ac_macros.specs.declared.macros.DeclaringMacro.TheVariants as macro
+use Rattle.ac_macros.specs.declared.macros.PlainMacro.{PlainMacro}
+use Rattle.ac_macros.specs.declared.macros.PlainMacro.TheVariants as plain
+use Rattle.ac_macros.specs.Room.{has_room}
+use Rattle.ac_macros.specs.Rows.{plain_of, act_of, declaring_of, undeclared, init, tarname, prereq, lang, outputs_of, config_outputs, subst as subst_row, assigned, defined, define, unquoted_of, unquoted, define_unquoted, msg_error, message_of, arg_var}
+use Rattle.ac_macros.specs.ListKind.{ListKind, Top, of_case}
+use Rattle.ac_macros.specs.Searches.{has_tool_room, output_variable, optional_text, searched, compilers, check_prog, check_progs, path_prog, prog_cc}
+use Rattle.ac_tree.specs.declared.declarations.Declarations as declarations
+use Rattle.ac_tree.specs.declared.declarations.Stage.{Stage}
+use Rattle.ac_tree.specs.declared.statement.Declares.{Declares}
+use Rattle.ac_tree.specs.declared.statement.Effect.{Effect}
+use Rattle.ac_tree.specs.declared.statement.Effect.TheVariants.{Search, Searches}
+use Rattle.ac_tree.specs.declared.statement.ProgramValue.TheVariants.{FullName}
+use Rattle.ac_tree.specs.declared.statement.Question.{Question}
+use Rattle.ac_tree.specs.declared.tree.Stmt.{Stmt}
+use Rattle.ac_tree.specs.declared.tree.When.{When}
+use Rattle.ac_tree.specs.declared.tree.When.TheVariants.{Always}
+use Rattle.ac_tree.specs.Script.{Script, Done, Then, Choice, Check, Cases, No_case, Case, joined, followed, script_of}
+use Rattle.ac_tree.specs.TestNames.{NamesVariable, HasTestNames, HasTestNamesIn}
+use Rattle.ac_tree.specs.Texts.{is_empty}
 use Rattle.acparse.specs.Asked.{asked_by}
 use Rattle.acparse.specs.Bare as bare_texts
 use Rattle.acparse.specs.Profile.{source_of, case_if}

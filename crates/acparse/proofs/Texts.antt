@@ -1,27 +1,27 @@
 -- Assignments as statements, and the readings of bare text.
 use Rattle.std.proofs.Common.{◌≡◌, ℕ, Bool, true, false, cond, List, [], ◌∷◌, ◌++◌, length, Result, Ok, Err, refl, ap, sym, ◌∙◌}
 use Rattle.std.specs.Prelude.{◌==◌}
-use Rattle.baretext.specs.declared.assignments.Assignment.{Assignment}
-use Rattle.acstatement.specs.declared.fault.ParseFault.{ParseFault}
-use Rattle.acstatement.specs.declared.fault.ParseFault.TheVariants.{OutOfMemory}
-use Rattle.acstatement.specs.Idle.{is_idle}
-use Rattle.acstatement.specs.Reading.{Fails, Gives}
-use Rattle.acstatement.proofs.Binds.{bind_ok, ok_is, fails_bind}
-use Rattle.syntax.specs.declared.declarations.Declarations as declarations
-use Rattle.syntax.specs.declared.declarations.Stage.{Stage}
-use Rattle.syntax.specs.declared.declarations.Stage.TheVariants.{Before, Open, Ended}
-use Rattle.syntax.specs.declared.statement.Declares.TheVariants.{Nothing}
-use Rattle.syntax.specs.declared.statement.Effect.TheVariants.{Assign}
-use Rattle.syntax.specs.Lists.{after}
-use Rattle.acmacros.specs.Placement.{bare_fault}
-use Rattle.acmacros.specs.ListKind.{ListKind}
+use Rattle.shell_bare.specs.declared.assignments.Assignment.{Assignment}
+use Rattle.ac_statement.specs.declared.fault.ParseFault.{ParseFault}
+use Rattle.ac_statement.specs.declared.fault.ParseFault.TheVariants.{OutOfMemory}
+use Rattle.ac_statement.specs.Idle.{is_idle}
+use Rattle.ac_statement.specs.Reading.{Fails, Gives}
+use Rattle.ac_statement.proofs.Binds.{bind_ok, ok_is, fails_bind}
+use Rattle.ac_tree.specs.declared.declarations.Declarations as declarations
+use Rattle.ac_tree.specs.declared.declarations.Stage.{Stage}
+use Rattle.ac_tree.specs.declared.declarations.Stage.TheVariants.{Before, Open, Ended}
+use Rattle.ac_tree.specs.declared.statement.Declares.TheVariants.{Nothing}
+use Rattle.ac_tree.specs.declared.statement.Effect.TheVariants.{Assign}
+use Rattle.ac_tree.specs.Lists.{after}
+use Rattle.ac_macros.specs.Placement.{bare_fault}
+use Rattle.ac_macros.specs.ListKind.{ListKind}
 use Rattle.m4quote.specs.Scan.{bare_value_of}
-use Rattle.syntax.specs.declared.tree.Stmt.{Stmt}
-use Rattle.syntax.specs.declared.tree.Stmt.TheVariants.{Do, Choose', CacheCheck'}
-use Rattle.syntax.specs.declared.tree.When.{When}
-use Rattle.syntax.specs.Lists.{after_all}
-use Rattle.syntax.specs.Script.{Script, Done, Then, Cases, No_case, Case, joined, stmt_then, script_of}
-use Rattle.syntax.proofs.ScriptLemmas.{script_push, joined_assoc, joined_done}
+use Rattle.ac_tree.specs.declared.tree.Stmt.{Stmt}
+use Rattle.ac_tree.specs.declared.tree.Stmt.TheVariants.{Do, Choose', CacheCheck'}
+use Rattle.ac_tree.specs.declared.tree.When.{When}
+use Rattle.ac_tree.specs.Lists.{after_all}
+use Rattle.ac_tree.specs.Script.{Script, Done, Then, Cases, No_case, Case, joined, stmt_then, script_of}
+use Rattle.ac_tree.proofs.ScriptLemmas.{script_push, joined_assoc, joined_done}
 use Rattle.acparse.specs.Bare.{assigned, may_assign, of_value, assigned_in, idle_or, bare_of}
 use Rattle.acparse.specs.Profile.{following, is_done, case_if}
 

@@ -3,19 +3,19 @@ use Rattle.std.proofs.Common.{◌≡◌, ℕ, List, Result, Ok, Err, refl, ap, s
 use Rattle.std.specs.Prelude.{IfOk, IfErr}
 use Rattle.m4quote.proofs.Laws.{outcome_is_spelling, outcome_is_fault}
 use Rattle.m4quote.specs.Scan.{outcome}
-use Rattle.acstatement.specs.declared.fault.ParseFault.{ParseFault}
-use Rattle.acstatement.specs.declared.fault.ParseFault.TheVariants.{OutOfMemory}
-use Rattle.acstatement.specs.Reading.{Gives, quoted}
-use Rattle.acstatement.specs.Stand.{no_line_start}
-use Rattle.acstatement.proofs.Binds.{bind_ok, bind_err, then_ok, ok_is, err_is}
-use Rattle.syntax.specs.declared.declarations.Stage.{Stage}
-use Rattle.syntax.specs.declared.declarations.Stage.TheVariants.{Before, Open, Ended}
-use Rattle.syntax.specs.Lists.{start}
-use Rattle.syntax.specs.Lists.{after_all}
-use Rattle.acmacros.specs.ListKind.{Top}
+use Rattle.ac_statement.specs.declared.fault.ParseFault.{ParseFault}
+use Rattle.ac_statement.specs.declared.fault.ParseFault.TheVariants.{OutOfMemory}
+use Rattle.ac_statement.specs.Reading.{Gives, quoted}
+use Rattle.ac_statement.specs.Stand.{no_line_start}
+use Rattle.ac_statement.proofs.Binds.{bind_ok, bind_err, then_ok, ok_is, err_is}
+use Rattle.ac_tree.specs.declared.declarations.Stage.{Stage}
+use Rattle.ac_tree.specs.declared.declarations.Stage.TheVariants.{Before, Open, Ended}
+use Rattle.ac_tree.specs.Lists.{start}
+use Rattle.ac_tree.specs.Lists.{after_all}
+use Rattle.ac_macros.specs.ListKind.{Top}
 use Rattle.acparse.specs.Profile.{source_of, body_of, ended}
-use Rattle.syntax.specs.declared.tree.Stmt.{Stmt}
-use Rattle.syntax.specs.Script.{Script, script_of}
+use Rattle.ac_tree.specs.declared.tree.Stmt.{Stmt}
+use Rattle.ac_tree.specs.Script.{Script, script_of}
 use Rattle.acparse.specs.Source.{IsList, IsSource, IsSourceFault, no_items, in_items, no_init, no_output}
 use Rattle.acparse.specs.Breaks.{IsBroken}
 use Rattle.acparse.specs.Statements.{IsBody}

@@ -1,18 +1,18 @@
 -- The statement of a macro that asks a question, by what it declares, its question and the cases for the answers.
 use Rattle.std.specs.Prelude.{Bool, true, false, not, ◌||◌, List, Result, Ok}
 use Rattle.m4quote.specs.Entry.{Span}
-use Rattle.acstatement.specs.declared.fault.ParseFault.{ParseFault}
-use Rattle.acstatement.specs.Reading.{◌>>=◌}
-use Rattle.acmacros.specs.Checks.{completed_of}
-use Rattle.syntax.specs.declared.listed.Sought.TheVariants.{Entry}
-use Rattle.syntax.specs.declared.statement.Declares.{Declares}
-use Rattle.syntax.specs.declared.statement.Effect.TheVariants.{Batch}
-use Rattle.syntax.specs.declared.statement.Question.{Question}
-use Rattle.syntax.specs.declared.statement.Question.TheVariants.{ChecksEach, Library}
-use Rattle.syntax.specs.declared.tree.Subject.TheVariants.{Asked}
-use Rattle.syntax.specs.declared.tree.When.{When}
-use Rattle.syntax.specs.declared.tree.When.TheVariants.{Yes}
-use Rattle.syntax.specs.Script.{Script, Done, Then, Choice, Cases, No_case, Case}
+use Rattle.ac_statement.specs.declared.fault.ParseFault.{ParseFault}
+use Rattle.ac_statement.specs.Reading.{◌>>=◌}
+use Rattle.ac_macros.specs.Checks.{completed_of}
+use Rattle.ac_tree.specs.declared.listed.Sought.TheVariants.{Entry}
+use Rattle.ac_tree.specs.declared.statement.Declares.{Declares}
+use Rattle.ac_tree.specs.declared.statement.Effect.TheVariants.{Batch}
+use Rattle.ac_tree.specs.declared.statement.Question.{Question}
+use Rattle.ac_tree.specs.declared.statement.Question.TheVariants.{ChecksEach, Library}
+use Rattle.ac_tree.specs.declared.tree.Subject.TheVariants.{Asked}
+use Rattle.ac_tree.specs.declared.tree.When.{When}
+use Rattle.ac_tree.specs.declared.tree.When.TheVariants.{Yes}
+use Rattle.ac_tree.specs.Script.{Script, Done, Then, Choice, Cases, No_case, Case}
 
 -- The condition is the answer yes. (own)
 abbrev pub is_yes : When → Bool

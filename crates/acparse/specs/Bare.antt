@@ -4,21 +4,21 @@ use Rattle.std.specs.List.{list_all}
 use Rattle.std.specs.Str.{bytes_eq}
 use Rattle.m4quote.specs.declared.fault.QuoteFault.{QuoteFault}
 use Rattle.m4quote.specs.Scan.{bare_value_of}
-use Rattle.baretext.specs.declared.assignments.Assignment.{Assignment}
-use Rattle.baretext.specs.declared.fault.BareFault.{BareFault}
-use Rattle.baretext.specs.declared.fault.BareFault.TheVariants as bare
-use Rattle.baretext.specs.Reading.{statements_of}
-use Rattle.acstatement.specs.declared.fault.ParseFault.{ParseFault}
-use Rattle.acstatement.specs.declared.fault.ParseFault.TheVariants.{UnknownStatement, CacheBody, OutOfMemory}
-use Rattle.acstatement.specs.Idle.{is_idle}
-use Rattle.acstatement.specs.Reading.{◌>>=◌, wants, shell_fault}
-use Rattle.syntax.specs.declared.declarations.Stage.{Stage}
-use Rattle.syntax.specs.declared.declarations.Stage.TheVariants.{Before, Open, Ended}
-use Rattle.syntax.specs.declared.statement.Declares.TheVariants.{Nothing}
-use Rattle.syntax.specs.declared.statement.Effect.TheVariants.{Assign}
-use Rattle.acmacros.specs.Placement.{bare_fault}
-use Rattle.acmacros.specs.ListKind.{ListKind, Top, Nested, Commands}
-use Rattle.syntax.specs.Script.{Script, Done, Then}
+use Rattle.shell_bare.specs.declared.assignments.Assignment.{Assignment}
+use Rattle.shell_bare.specs.declared.fault.BareFault.{BareFault}
+use Rattle.shell_bare.specs.declared.fault.BareFault.TheVariants as bare
+use Rattle.shell_bare.specs.Reading.{statements_of}
+use Rattle.ac_statement.specs.declared.fault.ParseFault.{ParseFault}
+use Rattle.ac_statement.specs.declared.fault.ParseFault.TheVariants.{UnknownStatement, CacheBody, OutOfMemory}
+use Rattle.ac_statement.specs.Idle.{is_idle}
+use Rattle.ac_statement.specs.Reading.{◌>>=◌, wants, shell_fault}
+use Rattle.ac_tree.specs.declared.declarations.Stage.{Stage}
+use Rattle.ac_tree.specs.declared.declarations.Stage.TheVariants.{Before, Open, Ended}
+use Rattle.ac_tree.specs.declared.statement.Declares.TheVariants.{Nothing}
+use Rattle.ac_tree.specs.declared.statement.Effect.TheVariants.{Assign}
+use Rattle.ac_macros.specs.Placement.{bare_fault}
+use Rattle.ac_macros.specs.ListKind.{ListKind, Top, Nested, Commands}
+use Rattle.ac_tree.specs.Script.{Script, Done, Then}
 
 -- An error of bare text, as an error of the source at the offset of the text. (own)
 abbrev pub text_fault : ℕ → BareFault → ParseFault

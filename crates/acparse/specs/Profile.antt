@@ -3,37 +3,37 @@
 use Rattle.std.specs.Prelude.{◌≡◌, ℕ, zero, suc, Bool, true, false, List, [], ◌∷◌, drop, Option, Some, None, Result, Ok, Err, if◌then◌else◌}
 use Rattle.m4quote.specs.Entry.{Span, Entry, call, bare}
 use Rattle.m4quote.specs.Scan.{outcome}
-use Rattle.acstatement.specs.declared.fault.ParseFault.{ParseFault}
-use Rattle.acstatement.specs.declared.fault.ParseFault.TheVariants.{UnknownMacro, UnknownStatement, ArgCount, NoInit, NoOutput, TooDeep}
-use Rattle.acstatement.specs.declared.placement.LineStart.{LineStart}
-use Rattle.acargs.specs.Arguments.{cache_name, is_given}
-use Rattle.acstatement.specs.Texts.{arg_at}
-use Rattle.acstatement.specs.Inside.{inside}
-use Rattle.acstatement.specs.Reading.{◌>>=◌, wants, quoted}
-use Rattle.acargs.specs.Shell.{word, here_text, shell_test, patterns}
-use Rattle.acstatement.specs.Stand.{line_start_of, no_line_start, is_statement}
-use Rattle.acmacros.specs.declared.macros.ChoiceMacro.{ChoiceMacro}
-use Rattle.acmacros.specs.declared.macros.ChoiceMacro.TheVariants.{If, Case as As_case}
-use Rattle.acmacros.specs.declared.macros.Macro.{Macro}
-use Rattle.acmacros.specs.declared.macros.Macro.TheVariants.{Plain, Choice as A_choice, Question as A_question, Check as A_check}
-use Rattle.acmacros.specs.declared.table.Row.{Row}
-use Rattle.acmacros.specs.declared.macros.QuestionMacro.{QuestionMacro}
-use Rattle.acmacros.specs.declared.macros.QuestionMacro.TheVariants.{Given, Tries, Checks, ChecksEach, Library, Libraries}
-use Rattle.syntax.specs.declared.declarations.Stage.{Stage}
-use Rattle.syntax.specs.declared.declarations.Stage.TheVariants.{Before, Open, Ended}
-use Rattle.syntax.specs.declared.declarations.Declarations as declarations
-use Rattle.acmacros.specs.Rows.{plain_of, question_of}
-use Rattle.syntax.specs.Lists.{start, after}
-use Rattle.acmacros.specs.Placement.{as_statement, placed}
-use Rattle.acmacros.specs.ListKind.{ListKind, Top, Commands, is_top, of_case, may_hold}
-use Rattle.acmacros.specs.Table.{row_named, takes}
-use Rattle.syntax.specs.declared.statement.Declares.TheVariants as declares
-use Rattle.syntax.specs.declared.tree.Subject.{Subject}
-use Rattle.syntax.specs.declared.tree.Subject.TheVariants.{Nothing, Word}
-use Rattle.syntax.specs.declared.tree.When.{When}
-use Rattle.syntax.specs.declared.tree.When.TheVariants.{Holds, Matches, Yes, No, Always}
-use Rattle.syntax.specs.Lists.{after_all, after_cases}
-use Rattle.syntax.specs.Script.{Script, Done, Then, Choice, Check, Cases, No_case, Case, joined, followed}
+use Rattle.ac_statement.specs.declared.fault.ParseFault.{ParseFault}
+use Rattle.ac_statement.specs.declared.fault.ParseFault.TheVariants.{UnknownMacro, UnknownStatement, ArgCount, NoInit, NoOutput, TooDeep}
+use Rattle.ac_statement.specs.declared.placement.LineStart.{LineStart}
+use Rattle.ac_args.specs.Arguments.{cache_name, is_given}
+use Rattle.ac_statement.specs.Texts.{arg_at}
+use Rattle.ac_statement.specs.Inside.{inside}
+use Rattle.ac_statement.specs.Reading.{◌>>=◌, wants, quoted}
+use Rattle.ac_args.specs.Shell.{word, here_text, shell_test, patterns}
+use Rattle.ac_statement.specs.Stand.{line_start_of, no_line_start, is_statement}
+use Rattle.ac_macros.specs.declared.macros.ChoiceMacro.{ChoiceMacro}
+use Rattle.ac_macros.specs.declared.macros.ChoiceMacro.TheVariants.{If, Case as As_case}
+use Rattle.ac_macros.specs.declared.macros.Macro.{Macro}
+use Rattle.ac_macros.specs.declared.macros.Macro.TheVariants.{Plain, Choice as A_choice, Question as A_question, Check as A_check}
+use Rattle.ac_macros.specs.declared.table.Row.{Row}
+use Rattle.ac_macros.specs.declared.macros.QuestionMacro.{QuestionMacro}
+use Rattle.ac_macros.specs.declared.macros.QuestionMacro.TheVariants.{Given, Tries, Checks, ChecksEach, Library, Libraries}
+use Rattle.ac_tree.specs.declared.declarations.Stage.{Stage}
+use Rattle.ac_tree.specs.declared.declarations.Stage.TheVariants.{Before, Open, Ended}
+use Rattle.ac_tree.specs.declared.declarations.Declarations as declarations
+use Rattle.ac_macros.specs.Rows.{plain_of, question_of}
+use Rattle.ac_tree.specs.Lists.{start, after}
+use Rattle.ac_macros.specs.Placement.{as_statement, placed}
+use Rattle.ac_macros.specs.ListKind.{ListKind, Top, Commands, is_top, of_case, may_hold}
+use Rattle.ac_macros.specs.Table.{row_named, takes}
+use Rattle.ac_tree.specs.declared.statement.Declares.TheVariants as declares
+use Rattle.ac_tree.specs.declared.tree.Subject.{Subject}
+use Rattle.ac_tree.specs.declared.tree.Subject.TheVariants.{Nothing, Word}
+use Rattle.ac_tree.specs.declared.tree.When.{When}
+use Rattle.ac_tree.specs.declared.tree.When.TheVariants.{Holds, Matches, Yes, No, Always}
+use Rattle.ac_tree.specs.Lists.{after_all, after_cases}
+use Rattle.ac_tree.specs.Script.{Script, Done, Then, Choice, Check, Cases, No_case, Case, joined, followed}
 use Rattle.acparse.specs.Asked.{asked_with}
 use Rattle.acparse.specs.Bare.{bare_of}
 

@@ -4,16 +4,16 @@ use Rattle.m4quote.specs.Entry.{Entry}
 use Rattle.m4quote.specs.Faults.{IsFirstFault}
 use Rattle.m4quote.specs.Spelling.{IsSpelling}
 use Rattle.m4quote.specs.declared.fault.QuoteFault.{QuoteFault}
-use Rattle.acstatement.specs.declared.fault.ParseFault.{ParseFault}
-use Rattle.acstatement.specs.declared.fault.ParseFault.TheVariants.{NoInit, NoOutput}
-use Rattle.acstatement.specs.Reading.{quote_fault}
-use Rattle.acstatement.specs.Stand.{no_line_start}
-use Rattle.syntax.specs.declared.declarations.Stage.TheVariants.{Before, Open, Ended}
-use Rattle.acmacros.specs.ListKind.{Top}
+use Rattle.ac_statement.specs.declared.fault.ParseFault.{ParseFault}
+use Rattle.ac_statement.specs.declared.fault.ParseFault.TheVariants.{NoInit, NoOutput}
+use Rattle.ac_statement.specs.Reading.{quote_fault}
+use Rattle.ac_statement.specs.Stand.{no_line_start}
+use Rattle.ac_tree.specs.declared.declarations.Stage.TheVariants.{Before, Open, Ended}
+use Rattle.ac_macros.specs.ListKind.{Top}
 use Rattle.acparse.specs.Breaks.{Breaks, IsBroken}
-use Rattle.syntax.specs.Lists.{start}
-use Rattle.syntax.specs.Lists.{after_all}
-use Rattle.syntax.specs.Script.{Script}
+use Rattle.ac_tree.specs.Lists.{start}
+use Rattle.ac_tree.specs.Lists.{after_all}
+use Rattle.ac_tree.specs.Script.{Script}
 use Rattle.acparse.specs.Statements.{AreStatements, IsBody}
 
 -- The text spells items, and these are their statements; within them, lists nest at most 31 deep. (own)

@@ -3,40 +3,40 @@ use Rattle.std.specs.Prelude.{◌≡◌, ℕ, zero, suc, true, List, [], ◌∷�
 use Rattle.m4quote.specs.Entry.{Span, Entry, call, bare}
 use Rattle.m4quote.specs.Spelling.{IsSpelling}
 use Rattle.m4quote.specs.Used.{IsBareValue}
-use Rattle.baretext.specs.declared.assignments.Assignment.{Assignment}
-use Rattle.baretext.specs.Statements.{IsBareText}
-use Rattle.acstatement.specs.declared.placement.LineStart.{LineStart}
-use Rattle.acargs.specs.Arguments.{cache_name, is_given}
-use Rattle.acargs.specs.Shell.{here_text}
-use Rattle.acstatement.specs.Idle.{is_idle}
-use Rattle.acstatement.specs.Inside.{inside}
-use Rattle.acstatement.specs.Texts.{arg_at}
-use Rattle.acstatement.specs.Stand.{line_start_of, no_line_start, is_statement}
-use Rattle.acmacros.specs.declared.macros.ChoiceMacro.{ChoiceMacro}
-use Rattle.acmacros.specs.declared.macros.Macro.{Macro}
-use Rattle.acmacros.specs.declared.macros.Macro.TheVariants.{Plain, Choice as A_choice, Question as A_question, Check as A_check}
-use Rattle.acmacros.specs.declared.macros.QuestionMacro.{QuestionMacro}
-use Rattle.acmacros.specs.declared.macros.Named.TheVariants.{Statement}
-use Rattle.acmacros.specs.declared.macros.PlainMacro.{PlainMacro}
-use Rattle.acmacros.specs.declared.table.Row.{Row}
-use Rattle.syntax.specs.declared.declarations.Declarations as declarations
-use Rattle.syntax.specs.declared.declarations.Stage.{Stage}
-use Rattle.syntax.specs.declared.declarations.Stage.TheVariants.{Before, Open, Ended}
+use Rattle.shell_bare.specs.declared.assignments.Assignment.{Assignment}
+use Rattle.shell_bare.specs.Statements.{IsBareText}
+use Rattle.ac_statement.specs.declared.placement.LineStart.{LineStart}
+use Rattle.ac_args.specs.Arguments.{cache_name, is_given}
+use Rattle.ac_args.specs.Shell.{here_text}
+use Rattle.ac_statement.specs.Idle.{is_idle}
+use Rattle.ac_statement.specs.Inside.{inside}
+use Rattle.ac_statement.specs.Texts.{arg_at}
+use Rattle.ac_statement.specs.Stand.{line_start_of, no_line_start, is_statement}
+use Rattle.ac_macros.specs.declared.macros.ChoiceMacro.{ChoiceMacro}
+use Rattle.ac_macros.specs.declared.macros.Macro.{Macro}
+use Rattle.ac_macros.specs.declared.macros.Macro.TheVariants.{Plain, Choice as A_choice, Question as A_question, Check as A_check}
+use Rattle.ac_macros.specs.declared.macros.QuestionMacro.{QuestionMacro}
+use Rattle.ac_macros.specs.declared.macros.Named.TheVariants.{Statement}
+use Rattle.ac_macros.specs.declared.macros.PlainMacro.{PlainMacro}
+use Rattle.ac_macros.specs.declared.table.Row.{Row}
+use Rattle.ac_tree.specs.declared.declarations.Declarations as declarations
+use Rattle.ac_tree.specs.declared.declarations.Stage.{Stage}
+use Rattle.ac_tree.specs.declared.declarations.Stage.TheVariants.{Before, Open, Ended}
 use Rattle.shellword.specs.declared.part.Part.{Part}
-use Rattle.syntax.specs.declared.statement.Declares.{Declares}
-use Rattle.syntax.specs.declared.statement.Declares.TheVariants.{Nothing}
-use Rattle.syntax.specs.declared.statement.Effect.{Effect}
-use Rattle.syntax.specs.declared.statement.Question.{Question}
-use Rattle.acmacros.specs.Checks.{completed_of}
-use Rattle.acmacros.specs.Rows.{plain_of, question_of}
-use Rattle.acmacros.specs.Placement.{placed}
-use Rattle.acmacros.specs.ListKind.{ListKind, Commands, is_top, of_case, may_hold}
-use Rattle.acmacros.specs.Table.{row_named, takes}
-use Rattle.syntax.specs.declared.tree.Subject.{Subject}
-use Rattle.syntax.specs.declared.tree.When.{When}
-use Rattle.syntax.specs.declared.tree.When.TheVariants.{Yes, No, Always}
-use Rattle.syntax.specs.Lists.{after, after_all, after_cases}
-use Rattle.syntax.specs.Script.{Script, Done, Then, Choice, Check, Cases, No_case, Case, joined, followed}
+use Rattle.ac_tree.specs.declared.statement.Declares.{Declares}
+use Rattle.ac_tree.specs.declared.statement.Declares.TheVariants.{Nothing}
+use Rattle.ac_tree.specs.declared.statement.Effect.{Effect}
+use Rattle.ac_tree.specs.declared.statement.Question.{Question}
+use Rattle.ac_macros.specs.Checks.{completed_of}
+use Rattle.ac_macros.specs.Rows.{plain_of, question_of}
+use Rattle.ac_macros.specs.Placement.{placed}
+use Rattle.ac_macros.specs.ListKind.{ListKind, Commands, is_top, of_case, may_hold}
+use Rattle.ac_macros.specs.Table.{row_named, takes}
+use Rattle.ac_tree.specs.declared.tree.Subject.{Subject}
+use Rattle.ac_tree.specs.declared.tree.When.{When}
+use Rattle.ac_tree.specs.declared.tree.When.TheVariants.{Yes, No, Always}
+use Rattle.ac_tree.specs.Lists.{after, after_all, after_cases}
+use Rattle.ac_tree.specs.Script.{Script, Done, Then, Choice, Check, Cases, No_case, Case, joined, followed}
 use Rattle.acparse.specs.Asked.{asked_by}
 use Rattle.acparse.specs.Bare.{assigned, may_assign}
 use Rattle.acparse.specs.Profile.{when_of, subject_of, case_args, case_if, action_args}

@@ -2,19 +2,19 @@
 
 ghost use Rattle.std.specs.Prelude.{◌≡◌, [], ◌∷◌, map, true};
 ghost use Rattle.m4quote.specs.Entry.{span};
-ghost use Rattle.acstatement.specs.Reading.{Gives};
+ghost use Rattle.ac_statement.specs.Reading.{Gives};
 ghost use Rattle.acparse.specs.Asked as asked;
-ghost use Rattle.syntax.specs.declared.statement.Question.TheVariants.{ChecksEach, Library};
-ghost use Rattle.syntax.specs.declared.tree.Subject.TheVariants.{Asked};
-ghost use Rattle.syntax.specs.Script.{script_of, cases_of, Choice, Done};
+ghost use Rattle.ac_tree.specs.declared.statement.Question.TheVariants.{ChecksEach, Library};
+ghost use Rattle.ac_tree.specs.declared.tree.Subject.TheVariants.{Asked};
+ghost use Rattle.ac_tree.specs.Script.{script_of, cases_of, Choice, Done};
 
-use acargs::ParseFault;
-use acmacros::checks::complete;
+use ac_args::ParseFault;
+use ac_macros::checks::complete;
+use ac_tree::{Case, Declares, Effect, Entries, Question, Sought, Stmt, Subject, When, choose};
 use deftable::Bytes;
 use m4quote::Arg;
 use shellword::HereText;
 use std::alloc::Global;
-use syntax::{Case, Declares, Effect, Entries, Question, Sought, Stmt, Subject, When, choose};
 
 /// Returns the statement of a question about each entry of a list: a batch, if there are no cases and one child decides an
 /// entry.

@@ -2,23 +2,23 @@
 
 ghost use Rattle.std.specs.Prelude.{◌≡◌, OnOk};
 ghost use Rattle.m4quote.specs.Scan.{bare_value_of};
-ghost use Rattle.acmacros.specs.ListKind.{list_kind_of};
-ghost use Rattle.acstatement.specs.Reading.{Gives};
+ghost use Rattle.ac_macros.specs.ListKind.{list_kind_of};
+ghost use Rattle.ac_statement.specs.Reading.{Gives};
 ghost use Rattle.acparse.specs.Bare as words;
 ghost use Rattle.acparse.specs.Profile.{following};
-ghost use Rattle.acstatement.specs.Idle.{is_idle};
-ghost use Rattle.acmacros.specs.Placement.{bare_fault};
-ghost use Rattle.syntax.specs.Script.{script_of, joined, Done};
+ghost use Rattle.ac_statement.specs.Idle.{is_idle};
+ghost use Rattle.ac_macros.specs.Placement.{bare_fault};
+ghost use Rattle.ac_tree.specs.Script.{script_of, joined, Done};
 
-use acargs::ParseFault;
-use acmacros::list_kind::ListKind;
-use acmacros::placement::bare_fault;
-use acstatement::fault::shell_fault;
-use acstatement::idle::is_idle;
-use baretext::{Assignment, Assignments, BareFault, read_statements};
+use ac_args::ParseFault;
+use ac_macros::list_kind::ListKind;
+use ac_macros::placement::bare_fault;
+use ac_statement::fault::shell_fault;
+use ac_statement::idle::is_idle;
+use ac_tree::{Declares, Effect, Stage, Stmt};
 use m4quote::{QuoteFault, bare_value};
+use shell_bare::{Assignment, Assignments, BareFault, read_statements};
 use std::alloc::{AllocError, Global};
-use syntax::{Declares, Effect, Stage, Stmt};
 
 /// Returns an error of bare text that begins at `at` as an error of the source.
 fn text_fault(at: usize, fault: BareFault) -> ParseFault

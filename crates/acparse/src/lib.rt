@@ -1,14 +1,14 @@
 //! Reads the text of a configure.ac as a tree of statements, or reports its first error.
 //!
 //! `parse` reads a whole source: its items (`m4quote`), and from them one statement after another: calls by the table
-//! of macros (`acmacros`), the text between them as assignments (`baretext`). The tree is that of the crate `syntax`.
+//! of macros (`ac_macros`), the text between them as assignments (`shell_bare`). The tree is that of the crate `ac_tree`.
 //!
 //! Read `bare` (text), then `asked` (questions and their cases), `read` (calls and lists of statements), and `source`, which has the theorem: unless memory
 //! runs out, `parse` returns a tree exactly if the source has one by `specs/Source.antt` and, item by item,
-//! `specs/Statements.antt`. A list of statements is read with its kind (`acmacros::list_kind`): the file's
+//! `specs/Statements.antt`. A list of statements is read with its kind (`ac_macros::list_kind`): the file's
 //! own list and the commands of AC_CACHE_CHECK differ from other lists in what they may hold.
 //!
-//! `parse` also decides whether the source can be resumed (`testorder`), and `is_resumable` returns it. `forms` has a law on
+//! `parse` also decides whether the source can be resumed (`ac_resumable`), and `is_resumable` returns it. `forms` has a law on
 //! sources that were read, for the crates above.
 //!
 //! `parse(alloc, b"AC_INIT([demo],[1.0])\nAC_OUTPUT\n")` gives a source of two statements.
@@ -22,7 +22,7 @@ pub mod forms;
 pub mod read;
 pub mod source;
 
-pub use acargs::ParseFault;
-pub use outputlist::{Output, OutputList};
+pub use ac_args::ParseFault;
+pub use ac_tree::{Case, Declares, Effect, Help, HelpList, Question, Source, Stmt, Subject, When};
+pub use output_list::{Output, OutputList};
 pub use source::{is_resumable, parse};
-pub use syntax::{Case, Declares, Effect, Help, HelpList, Question, Source, Stmt, Subject, When};

@@ -2,38 +2,38 @@
 
 ghost use Rattle.std.specs.Prelude.{◌≡◌, ◌≤◌, MatchResult, [], ◌∷◌, map, drop, length, option_to_list, IfOk, Ok};
 ghost use Rattle.m4quote.specs.Entry.{span, view, views};
-ghost use Rattle.acstatement.specs.Reading.{Gives, Fails};
-ghost use Rattle.acstatement.specs.Stand.{no_line_start};
+ghost use Rattle.ac_statement.specs.Reading.{Gives, Fails};
+ghost use Rattle.ac_statement.specs.Stand.{no_line_start};
 ghost use Rattle.acparse.specs.Profile as profile;
 ghost use Rattle.acparse.specs.Profile.{Adds};
-ghost use Rattle.acmacros.specs.declared.macros.Macro.TheVariants.{Plain};
-ghost use Rattle.acmacros.specs.Rows.{question_of};
-ghost use Rattle.acmacros.specs.ListKind as list_kinds;
-ghost use Rattle.acmacros.specs.ListKind.{list_kind_of};
-ghost use Rattle.syntax.specs.Lists.{after, after_all, after_cases};
-ghost use Rattle.syntax.specs.Script.{script_of, cases_of, followed, Done};
+ghost use Rattle.ac_macros.specs.declared.macros.Macro.TheVariants.{Plain};
+ghost use Rattle.ac_macros.specs.Rows.{question_of};
+ghost use Rattle.ac_macros.specs.ListKind as list_kinds;
+ghost use Rattle.ac_macros.specs.ListKind.{list_kind_of};
+ghost use Rattle.ac_tree.specs.Lists.{after, after_all, after_cases};
+ghost use Rattle.ac_tree.specs.Script.{script_of, cases_of, followed, Done};
 
 use crate::asked::asked_with;
 use crate::bare::read_bare;
-use acargs::ParseFault;
-use acargs::arguments::{cache_name, is_given};
-use acargs::shell::{here_text, patterns, test, word};
-use acmacros::list_kind::{ListKind, check_list_kind};
-use acmacros::placement::{as_statement, check_place};
-use acmacros::rows::{plain, question};
-use acmacros::table::{row_named, takes};
-use acmacros::{ChoiceMacro, Macro, PlainMacro, QuestionMacro};
-use acstatement::fault::quote_fault;
-use acstatement::inside::inside;
-use acstatement::placement::{LIST_START, LineStart, is_statement, line_start_of};
-use acstatement::texts::arg_at;
+use ac_args::ParseFault;
+use ac_args::arguments::{cache_name, is_given};
+use ac_args::shell::{here_text, patterns, test, word};
+use ac_macros::list_kind::{ListKind, check_list_kind};
+use ac_macros::placement::{as_statement, check_place};
+use ac_macros::rows::{plain, question};
+use ac_macros::table::{row_named, takes};
+use ac_macros::{ChoiceMacro, Macro, PlainMacro, QuestionMacro};
+use ac_statement::fault::quote_fault;
+use ac_statement::inside::inside;
+use ac_statement::placement::{LIST_START, LineStart, is_statement, line_start_of};
+use ac_statement::texts::arg_at;
+use ac_tree::declarations::declare;
+use ac_tree::{
+    Case, Declarations, Declares, Question, Stage, Stmt, Subject, When, cache_check, choose,
+};
 use deftable::Name;
 use m4quote::{Arg, Item, read_items_at};
 use std::alloc::{AllocError, Global};
-use syntax::declarations::declare;
-use syntax::{
-    Case, Declarations, Declares, Question, Stage, Stmt, Subject, When, cache_check, choose,
-};
 
 /// Returns the macro of a call, if the call is a statement between what precedes it (`line_start`) and the items after it
 /// (`following`), and the list may hold it.
@@ -255,7 +255,7 @@ fn read_cases(
 
 /// Reads AS_IF or AS_CASE.
 #[cycle(list)]
-#[tactic(auto, unfolding(crate::specs::Profile::choice_of, syntax::specs::Lists::after))]
+#[tactic(auto, unfolding(crate::specs::Profile::choice_of, ac_tree::specs::Lists::after))]
 fn read_choice(
     alloc: Global,
     room: u8,

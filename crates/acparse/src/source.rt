@@ -1,26 +1,26 @@
 //! A whole source.
 
 ghost use Rattle.std.specs.Prelude.{◌≡◌, ◌≢◌, ◌↔◌, true, IfOk, IfErr, Ok};
-ghost use Rattle.acstatement.specs.declared.fault.ParseFault.TheVariants.{OutOfMemory};
-ghost use Rattle.acstatement.specs.Reading.{Gives};
-ghost use Rattle.syntax.specs.Lists.{after_all, lists_of, start};
+ghost use Rattle.ac_statement.specs.declared.fault.ParseFault.TheVariants.{OutOfMemory};
+ghost use Rattle.ac_statement.specs.Reading.{Gives};
+ghost use Rattle.ac_tree.specs.Lists.{after_all, lists_of, start};
 ghost use Rattle.acparse.specs.Profile.{ended, source_of};
-ghost use Rattle.syntax.specs.Script.{Script, script_of};
+ghost use Rattle.ac_tree.specs.Script.{Script, script_of};
 ghost use Rattle.acparse.specs.Source.{IsSource, IsSourceFault};
-ghost use Rattle.syntax.specs.Commands.{HasCommands};
-ghost use Rattle.syntax.specs.Decide as decide;
-ghost use Rattle.syntax.specs.Resumable.{IsResumable};
-ghost use Rattle.syntax.specs.TestNames.{HasTestNames};
-ghost use Rattle.syntax.specs.Limits.{HasShortLists};
-ghost use Rattle.outputlist.specs.Output.{AreOutputs};
+ghost use Rattle.ac_tree.specs.Commands.{HasCommands};
+ghost use Rattle.ac_tree.specs.Decide as decide;
+ghost use Rattle.ac_tree.specs.Resumable.{IsResumable};
+ghost use Rattle.ac_tree.specs.TestNames.{HasTestNames};
+ghost use Rattle.ac_tree.specs.Limits.{HasShortLists};
+ghost use Rattle.output_list.specs.Output.{AreOutputs};
 
 use crate::read::read_statements;
-use acargs::ParseFault;
-use acmacros::list_kind::ListKind;
-use acstatement::fault::quote_fault;
+use ac_args::ParseFault;
+use ac_macros::list_kind::ListKind;
+use ac_statement::fault::quote_fault;
+use ac_tree::{Declarations, Source, Stage, Stmt};
 use m4quote::read_items;
 use std::alloc::Global;
-use syntax::{Declarations, Source, Stage, Stmt};
 
 /// Checks that a source may end after these declarations.
 fn check_end(known: &Declarations) -> Result<(), ParseFault>
@@ -61,7 +61,7 @@ fn read_decided(
     ensures decided { IfOk result (λ v. v.1 ≡ decide.is_resumable (script_of v.0.items)) }
 {
     let statements = read_whole(alloc, known, text)?;
-    let decided = testorder::is_resumable(alloc, statements.as_slice());
+    let decided = ac_resumable::is_resumable(alloc, statements.as_slice());
     Ok(decided.map(|resumes| (statements, resumes))?)
 }
 
@@ -101,7 +101,7 @@ pub fn parse(alloc: Global, text: &[u8]) -> Result<Source, ParseFault>
 }
 
 /// Returns whether a source can be resumed: if a run is cut, and is started again with the cache that it saved, it ends as an
-/// uncut run does (`syntax::specs::Resumable` has the rules). `parse` has decided it.
+/// uncut run does (`ac_tree::specs::Resumable` has the rules). `parse` has decided it.
 pub fn is_resumable(source: &Source) -> bool
     // It is true exactly if the statements keep the rules.
     ensures rules { (result ≡ true) ↔ IsResumable (script_of source.now) }

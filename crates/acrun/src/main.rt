@@ -8,11 +8,11 @@
 #![tactic(auto)]
 
 use crew::ReadyCrew;
+use crew_progress::Watched;
 use runner::{FilterFault, LOG, command, environment, showing_of, tell, words};
 use std::alloc::AllocError;
 use std::io::IsTerminal;
 use std::process::ExitCode;
-use watching::Watched;
 
 /// Runs the command that the program's arguments name, and returns its exit status.
 fn run(rt: HostRuntime) -> Result<u8, AllocError> {

@@ -2,7 +2,7 @@
 use Rattle.std.proofs.Common.{◌≡◌, ℕ, ◌+◌, ◌<◌, ◌≤◌, nat_lt, Bool, true, false, List, [], ◌∷◌, ◌++◌, Option, Some, None, Result, Ok, Err, ◌⊎◌, inl, inr, length, refl, sym, ap, ◌∙◌, subst, arith}
 use Rattle.std.specs.Prelude.{◌≢◌, option_to_list, IfOk, IfErr}
 use Rattle.std.proofs.lemmas.Bool.Decides.{Decides-ltb, nat_tests}
-use Rattle.textcut.specs.Cuts.{parts}
+use Rattle.text_cut.specs.Cuts.{parts}
 use Rattle.cachefile.specs.declared.fault.CacheFault.{CacheFault}
 use Rattle.cachefile.specs.declared.fault.CacheFault.TheVariants.{BadLine, BadName, OutOfMemory}
 use Rattle.deftable.specs.CacheName.{is_cache_name}

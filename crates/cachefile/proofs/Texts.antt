@@ -6,7 +6,7 @@ use Rattle.std.proofs.lemmas.Bool.Decides.{eqb_tells, Decides-ltb}
 use Rattle.std.proofs.lemmas.List.Folds.{list_all-append}
 use Rattle.std.proofs.lemmas.Slice.Eq.{bytes_eq-Decides}
 use Rattle.std.proofs.lemmas.Map.Made.{IsDistinct-keys_filter}
-use Rattle.textcut.specs.Cuts.{parts, parts_by}
+use Rattle.text_cut.specs.Cuts.{parts, parts_by}
 use Rattle.deftable.specs.Table.{value_of, names_of, HasDistinctNames}
 use Rattle.deftable.specs.ShellName.{is_shell_name_of, starts_name, continues_name}
 use Rattle.cachefile.specs.Name.{is_word, is_word_byte, is_mark}

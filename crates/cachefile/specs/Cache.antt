@@ -1,7 +1,7 @@
 -- The meaning of a cache text: the settings of its lines, in order, or its first error; and the variables after them.
 use Rattle.std.specs.Prelude.{◌≡◌, ℕ, ◌+◌, ◌<◌, ◌≤◌, nat_lt, true, false, List, [], ◌∷◌, ◌++◌, Option, Some, None, option_to_list, is_some, bytes_eq, Result, Ok, Err, length, fold, if◌then◌else◌}
 use Rattle.std.specs.List.{AllByRecursion}
-use Rattle.textcut.specs.Cuts.{parts}
+use Rattle.text_cut.specs.Cuts.{parts}
 use Rattle.deftable.specs.Table.{with_entry}
 use Rattle.deftable.specs.Table as table
 use Rattle.cachefile.specs.declared.fault.CacheFault.{CacheFault}

@@ -14,7 +14,7 @@ use crate::line::line;
 use deftable::{Vars, is_cache_name};
 use std::alloc::{AllocError, Global};
 use std::marker::Model;
-use textcut::parts;
+use text_cut::parts;
 
 /// A cache text that was read. In contracts, it is the list of the settings of its lines, in order.
 pub struct OldCache {

@@ -1,13 +1,13 @@
 -- The texts that a run leaves for its user: what it prints, and its log.
 use Rattle.std.specs.Prelude.{ℕ, ◌==◌, ◌&&◌, not, Bool, true, false, List, [], ◌∷◌, ◌++◌, length, Option, Some, None, flat_map, codes, decimal, if◌then◌else◌}
 use Rattle.bstr.specs.Text.{lines_of}
-use Rattle.csource.specs.Sources.{ended}
+use Rattle.conftest_source.specs.Sources.{ended}
 use Rattle.cachefile.specs.Word.{word_of}
 use Rattle.deftable.specs.declared.note.Note.{Note}
 use Rattle.deftable.specs.declared.note.Stream.{Stream}
 use Rattle.deftable.specs.declared.note.Stream.TheVariants.{Out}
 use Rattle.deftable.specs.declared.note.Stream.TheVariants.{Err as ToErr}
-use Rattle.jobs.specs.declared.job.Job.{Job}
+use Rattle.crew_jobs.specs.declared.job.Job.{Job}
 use Rattle.crew_trait.specs.declared.entry.Entry.{Entry}
 use Rattle.crew_trait.specs.declared.entry.Entry.TheVariants.{Said, Child}
 use Rattle.crew_trait.specs.declared.reply.Reply.{Reply}
@@ -24,12 +24,12 @@ is_shown ToErr quiet Out = false
 is_shown ToErr quiet ToErr = true
 
 -- The text of a piece if it is shown, and otherwise nothing. (own)
-abbrev pub shown : Stream → Bool → Note → List ℕ
-shown stream quiet note = if is_shown stream quiet note.stream then note.text else []
+abbrev pub note_text : Stream → Bool → Note → List ℕ
+note_text stream quiet note = if is_shown stream quiet note.stream then note.text else []
 
 -- The pieces for a stream, one after the other. (own)
 abbrev pub messages_of : Stream → Bool → List Note → List ℕ
-messages_of stream quiet notes = flat_map (shown stream quiet) notes
+messages_of stream quiet notes = flat_map (note_text stream quiet) notes
 
 -- ---- the log
 

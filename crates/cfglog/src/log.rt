@@ -7,10 +7,10 @@ ghost use Rattle.crew_trait.specs.declared.reply.Reply.TheVariants.{Answer};
 
 use bstr::ByteSlice;
 use cachefile::word_text;
+use conftest_source::put_ended;
+use crew_jobs::Job;
 use crew_trait::{Entry, Reply};
-use csource::put_ended;
 use deftable::Bytes;
-use jobs::Job;
 use std::alloc::{AllocError, Global};
 
 /// Appends a text, with a newline if it isn't empty and doesn't end in one.

@@ -19,7 +19,7 @@ fn is_shown(stream: Stream, quiet: bool, of: Stream) -> bool
 
 /// Appends the text of a piece, if it is shown.
 fn put_note(text: &mut Vec<u8>, stream: Stream, quiet: bool, note: &Note) -> Result<(), AllocError>
-    ensures { OnOk result (text.new.items ≡ text.old.items ++ texts.shown stream quiet note.now) }
+    ensures { OnOk result (text.new.items ≡ text.old.items ++ texts.note_text stream quiet note.now) }
 {
     if is_shown(stream, quiet, note.stream) {
         text.extend_from_slice(note.text.as_slice())?;

@@ -4,9 +4,9 @@ use Rattle.std.specs.Prelude.{bytes_eq, unwrap_or}
 use Rattle.std.proofs.lemmas.Bool.{cases_Bool}
 use Rattle.std.proofs.lemmas.Slice.Eq.{bytes_eq-Decides}
 use Rattle.deftable.specs.Table.{value_of, with_entry}
-use Rattle.jobs.specs.Probe.{Probe, Link, job_of, job_if, words_of, link_words, link_words_with, file_name, out_name}
-use Rattle.jobs.specs.declared.job.Job.{Job}
-use Rattle.textcut.specs.Cuts.{fields}
+use Rattle.crew_jobs.specs.Probe.{Probe, Link, job_of, job_if, words_of, link_words, link_words_with, file_name, out_name}
+use Rattle.crew_jobs.specs.declared.job.Job.{Job}
+use Rattle.text_cut.specs.Cuts.{fields}
 
 abbrev Entries : Type 0
 Entries = List (List ℕ × List ℕ)

@@ -1,15 +1,15 @@
 //! The words of a compiler's command.
 
 ghost use Rattle.std.specs.Prelude.{◌≡◌, ◌++◌, [], ◌∷◌, IfOk, OnOk, codes, unwrap_or};
-ghost use Rattle.jobs.specs.Probe as probe;
+ghost use Rattle.crew_jobs.specs.Probe as probe;
 ghost use Rattle.deftable.specs.Table.{value_of};
-ghost use Rattle.textcut.specs.Cuts as cuts;
+ghost use Rattle.text_cut.specs.Cuts as cuts;
 
 use crate::text::{file_name, out_name};
+use crew_jobs::{Words, push_all};
 use deftable::{Bytes, Vars};
-use jobs::{Words, push_all};
 use std::alloc::{AllocError, Global};
-use textcut::fields;
+use text_cut::fields;
 
 /// Appends the words of a text.
 fn push_fields(alloc: Global, words: &mut Words, text: &[u8]) -> Result<(), AllocError>
@@ -20,7 +20,7 @@ fn push_fields(alloc: Global, words: &mut Words, text: &[u8]) -> Result<(), Allo
 }
 
 /// Appends the words of a variable's value.
-#[tactic(auto, unfolding(jobs::specs::Probe::words_of))]
+#[tactic(auto, unfolding(crew_jobs::specs::Probe::words_of))]
 fn push_value(alloc: Global, words: &mut Words, vars: &Vars, name: &[u8]) -> Result<(), AllocError>
     ensures { OnOk result (words.new ≡ words.old ++ probe.words_of vars.now name.now) }
 {
@@ -43,7 +43,7 @@ pub(crate) fn compiler(alloc: Global, vars: &Vars) -> Result<Words, AllocError>
 }
 
 /// Returns the words of CPP, or those of CC with `-E` if CPP has none.
-#[tactic(auto, unfolding(jobs::specs::Probe::preprocessor))]
+#[tactic(auto, unfolding(crew_jobs::specs::Probe::preprocessor))]
 pub(crate) fn preprocessor(alloc: Global, vars: &Vars) -> Result<Words, AllocError>
     ensures { IfOk result (λ w. w ≡ probe.preprocessor vars.now) }
 {
@@ -83,7 +83,7 @@ fn push_out(alloc: Global, words: &mut Words, number: u64) -> Result<(), AllocEr
 }
 
 /// Appends the arguments of a compile job to the compiler's own words.
-#[tactic(auto, unfolding(jobs::specs::Probe::compile_words))]
+#[tactic(auto, unfolding(crew_jobs::specs::Probe::compile_words))]
 pub(crate) fn push_compile_words(
     alloc: Global,
     words: &mut Words,
@@ -99,7 +99,7 @@ pub(crate) fn push_compile_words(
 }
 
 /// Appends the arguments of a link job to the compiler's own words. `libraries` is the value of LIBS.
-#[tactic(auto, unfolding(jobs::specs::Probe::link_words_with))]
+#[tactic(auto, unfolding(crew_jobs::specs::Probe::link_words_with))]
 pub(crate) fn push_link_words(
     alloc: Global,
     words: &mut Words,
@@ -119,7 +119,7 @@ pub(crate) fn push_link_words(
 }
 
 /// Appends the arguments of a preprocess job to the preprocessor's own words.
-#[tactic(auto, unfolding(jobs::specs::Probe::preprocess_words))]
+#[tactic(auto, unfolding(crew_jobs::specs::Probe::preprocess_words))]
 pub(crate) fn push_preprocess_words(
     alloc: Global,
     words: &mut Words,

@@ -13,8 +13,8 @@
 //! A call that returns a `Result` fails if memory runs out; the calls that need a compiler name their other error. No
 //! other call allocates. "own" marks a rule that no manual gives.
 //!
-//! The crate `jobs` has the type of a job, and the definition of each: `job_of` of a probe, its number, the variables and the
-//! definitions. Read it first, and then `fault`, `probe`, `command` and `text`. The crate `csource` makes the sources of the
+//! The crate `crew_jobs` has the type of a job, and the definition of each: `job_of` of a probe, its number, the variables and the
+//! definitions. Read it first, and then `fault`, `probe`, `command` and `text`. The crate `conftest_source` makes the sources of the
 //! checks.
 #![tactic(auto)]
 
@@ -23,6 +23,6 @@ mod fault;
 mod probe;
 mod text;
 
+pub use crew_jobs::{Job, Words};
 pub use fault::JobFault;
-pub use jobs::{Job, Words};
 pub use probe::{compile_job, link_job, link_job_with, path_job, preproc_job, run_job};

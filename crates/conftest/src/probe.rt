@@ -1,10 +1,10 @@
 //! Makes the jobs.
 
 ghost use Rattle.std.specs.Prelude.{◌≡◌, ◌≢◌, [], ◌++◌, Some, None, IfOk, IsErrOf, OnOk, codes};
-ghost use Rattle.jobs.specs.Probe as probe;
-ghost use Rattle.jobs.specs.Probe.{job_if, job_of, Compile, Link, Preprocess, Run, Find, run_of, path_of, file_name, conftest_text};
+ghost use Rattle.crew_jobs.specs.Probe as probe;
+ghost use Rattle.crew_jobs.specs.Probe.{job_if, job_of, Compile, Link, Preprocess, Run, Find, run_of, path_of, file_name, conftest_text};
 ghost use Rattle.deftable.specs.Table.{with_entry};
-ghost use Rattle.textcut.specs.Cuts.{fields};
+ghost use Rattle.text_cut.specs.Cuts.{fields};
 ghost use Rattle.conftest.specs.declared.fault.JobFault.TheVariants.{NoCompiler};
 
 use crate::command::{
@@ -12,8 +12,8 @@ use crate::command::{
 };
 use crate::fault::JobFault;
 use crate::text::{self, conftest_text, file_name};
+use crew_jobs::{Job, Words};
 use deftable::{Bytes, Defs, Vars};
-use jobs::{Job, Words};
 use std::alloc::{AllocError, Global};
 
 /// Returns the job that compiles `source` to an object file: `$CC -c $CFLAGS $CPPFLAGS FILE` (Autoconf's manual,
@@ -25,7 +25,7 @@ use std::alloc::{AllocError, Global};
 /// # Errors
 ///
 /// Returns [`JobFault::NoCompiler`] if CC is unset or has no word.
-#[tactic(auto, unfolding(jobs::specs::Probe::job_of))]
+#[tactic(auto, unfolding(crew_jobs::specs::Probe::job_of))]
 pub fn compile_job(
     alloc: Global,
     vars: &Vars,
@@ -74,7 +74,7 @@ fn linked(
 /// # Errors
 ///
 /// Returns [`JobFault::NoCompiler`] if CC is unset or has no word.
-#[tactic(auto, unfolding(jobs::specs::Probe::job_of, jobs::specs::Probe::words_of))]
+#[tactic(auto, unfolding(crew_jobs::specs::Probe::job_of, crew_jobs::specs::Probe::words_of))]
 pub fn link_job(
     alloc: Global,
     vars: &Vars,
@@ -122,7 +122,7 @@ pub fn link_job_with(
 /// # Errors
 ///
 /// Returns [`JobFault::NoCompiler`] if neither CPP nor CC has a word.
-#[tactic(auto, unfolding(jobs::specs::Probe::job_of))]
+#[tactic(auto, unfolding(crew_jobs::specs::Probe::job_of))]
 pub fn preproc_job(
     alloc: Global,
     vars: &Vars,
@@ -144,7 +144,7 @@ pub fn preproc_job(
 
 /// Returns the job that runs the program of the link job with this number: `./conftest`, or `./conftestN` (Autoconf's
 /// manual, "Runtime").
-#[tactic(auto, unfolding(jobs::specs::Probe::run_of))]
+#[tactic(auto, unfolding(crew_jobs::specs::Probe::run_of))]
 pub fn run_job(alloc: Global, number: u64) -> Result<Job, AllocError>
     ensures { IfOk result (λ job. job ≡ run_of number) }
 {
@@ -165,7 +165,7 @@ fn program_path(alloc: Global, number: u64) -> Result<Vec<u8>, AllocError>
 }
 
 /// Returns the job that succeeds if `file` is a regular file that may be executed. A shell tests it with POSIX's `test` (own).
-#[tactic(auto, unfolding(jobs::specs::Probe::path_of))]
+#[tactic(auto, unfolding(crew_jobs::specs::Probe::path_of))]
 pub fn path_job(alloc: Global, file: &[u8]) -> Result<Job, AllocError>
     ensures { IfOk result (λ job. job ≡ path_of file.now) }
 {
@@ -175,7 +175,7 @@ pub fn path_job(alloc: Global, file: &[u8]) -> Result<Job, AllocError>
 }
 
 /// Appends the words of the shell command that tests a file.
-#[tactic(auto, unfolding(jobs::specs::Probe::path_words))]
+#[tactic(auto, unfolding(crew_jobs::specs::Probe::path_words))]
 fn push_path_words(words: &mut Words, file: &[u8]) -> Result<(), AllocError>
     requires { words.old ≡ [] }
     ensures { OnOk result (words.new ≡ probe.path_words file.now) }

@@ -2,14 +2,14 @@
 
 ghost use Rattle.std.specs.Prelude.{◌≡◌, ◌++◌, IfOk, OnOk, decimal};
 ghost use Rattle.std.specs.List.{flat_map};
-ghost use Rattle.jobs.specs.Probe as probe;
+ghost use Rattle.crew_jobs.specs.Probe as probe;
 
-use csource::put_ended;
+use conftest_source::put_ended;
 use deftable::{Bytes, Defs};
 use std::alloc::{AllocError, Global};
 
 /// Returns `conftest`, or `conftest2` for number 2.
-#[tactic(auto, unfolding(jobs::specs::Probe::out_name))]
+#[tactic(auto, unfolding(crew_jobs::specs::Probe::out_name))]
 pub(crate) fn out_name(alloc: Global, number: u64) -> Result<Vec<u8>, AllocError>
     ensures { IfOk result (λ name. name.items ≡ probe.out_name number) }
 {
@@ -29,7 +29,7 @@ fn numbered(alloc: Global, mut name: Vec<u8>, number: u64) -> Result<Vec<u8>, Al
 }
 
 /// Returns the name of the file that the compiler reads.
-#[tactic(auto, unfolding(jobs::specs::Probe::file_name))]
+#[tactic(auto, unfolding(crew_jobs::specs::Probe::file_name))]
 pub(crate) fn file_name(alloc: Global, number: u64) -> Result<Vec<u8>, AllocError>
     ensures { IfOk result (λ name. name.items ≡ probe.file_name number) }
 {
@@ -39,7 +39,7 @@ pub(crate) fn file_name(alloc: Global, number: u64) -> Result<Vec<u8>, AllocErro
 }
 
 /// Returns the text of a conftest: the definitions in order, and then the source.
-#[tactic(auto, unfolding(jobs::specs::Probe::conftest_text))]
+#[tactic(auto, unfolding(crew_jobs::specs::Probe::conftest_text))]
 pub(crate) fn conftest_text(alloc: Global, defs: &Defs, source: &[u8]) -> Result<Bytes, AllocError>
     ensures { IfOk result (λ text. text ≡ probe.conftest_text defs.now source.now) }
 {
@@ -59,7 +59,7 @@ fn put_defines(text: &mut Vec<u8>, defs: &Defs) -> Result<(), AllocError>
     Ok(())
 }
 
-#[tactic(auto, unfolding(jobs::specs::Probe::define_line))]
+#[tactic(auto, unfolding(crew_jobs::specs::Probe::define_line))]
 fn put_define(text: &mut Vec<u8>, name: &[u8], value: &[u8]) -> Result<(), AllocError>
     ensures { OnOk result (text.new.items ≡ text.old.items ++ probe.define_line (name.now, value.now)) }
 {

@@ -2,11 +2,11 @@
 use Rattle.std.proofs.Common.{◌≡◌, true, false, is_some, unwrap_or, fold, ℕ, ◌⊎◌, List, [], ◌∷◌, ◌++◌, refl, sym, ap, ◌∙◌, subst, Option, Some, None, inl, inr}
 use Rattle.std.proofs.lemmas.List.{append-nil}
 use Rattle.std.proofs.lemmas.List.Sums.{fold-append}
-use Rattle.jobs.specs.declared.job.Job.{Job}
+use Rattle.crew_jobs.specs.declared.job.Job.{Job}
 use Rattle.crew_trait.specs.declared.event.CrewEvent.{CrewEvent}
 use Rattle.crew_trait.specs.declared.event.CrewEvent.TheVariants.{Started, Ended}
 use Rattle.crew_trait.specs.declared.reply.Reply.{Reply}
-use Rattle.launching.specs.Launch.{Adds, Call, Spawned, Failed, failing, launch, writing}
+use Rattle.crew_launch.specs.Launch.{Adds, SystemCall, Spawned, Failed, failing, launch, writing}
 use Rattle.crew.specs.Sound.{ListsBusy}
 use Rattle.crew.specs.Runs.{Run, Runs, jobs_of, run_after}
 
@@ -31,7 +31,7 @@ unfolding quiet
 failing_from None jobs = refl
 failing_from (Some file) jobs = refl
 
-runs_added : (calls new : Option (List Call)) (more : List Call) (events after : List CrewEvent) → Runs calls events → Adds calls new more → fold run_after (quiet (jobs_of events)) more ≡ quiet (jobs_of after) → Runs new after
+runs_added : (calls new : Option (List SystemCall)) (more : List SystemCall) (events after : List CrewEvent) → Runs calls events → Adds calls new more → fold run_after (quiet (jobs_of events)) more ≡ quiet (jobs_of after) → Runs new after
 unfolding quiet
 runs_added None None more events after r adds step = record { same = λ known is. let clash : true ≡ false = ap is_some (sym is) in cc }
 runs_added None (Some new) more events after r adds step = absurd adds
@@ -45,24 +45,24 @@ runs_added (Some old) (Some new) more events after r adds step =
     }
 
 -- no further request was made
-runs_same : (calls new : Option (List Call)) (events : List CrewEvent) → Runs calls events → Adds calls new [] → Runs new events
+runs_same : (calls new : Option (List SystemCall)) (events : List CrewEvent) → Runs calls events → Adds calls new [] → Runs new events
 runs_same calls new events r adds = runs_added calls new [] events events r adds refl
 
-pub runs_none : (calls : Option (List Call)) (events : List CrewEvent) → Runs calls [] → events ≡ [] → Runs calls events
+pub runs_none : (calls : Option (List SystemCall)) (events : List CrewEvent) → Runs calls [] → events ≡ [] → Runs calls events
 runs_none calls events r is = subst (Runs calls) (sym is) r
 
-pub runs_ended : (calls : Option (List Call)) (events new : List CrewEvent) (slot number : ℕ) (reply : Reply) → Runs calls events → new ≡ events ++ Ended slot reply number ∷ [] → Runs calls new
+pub runs_ended : (calls : Option (List SystemCall)) (events new : List CrewEvent) (slot number : ℕ) (reply : Reply) → Runs calls events → new ≡ events ++ Ended slot reply number ∷ [] → Runs calls new
 runs_ended calls events new slot number reply r is =
     let jobs : jobs_of new ≡ jobs_of events = ap jobs_of is ∙ jobs_of-append events (Ended slot reply number ∷ []) ∙ append-nil (jobs_of events) in
     record { same = λ known calls_is. r.same known calls_is ∙ ap (λ js. record { file = None; jobs = js }) (sym jobs) }
 
-pub runs_started : (calls more : Option (List Call)) (events new : List CrewEvent) (slot number : ℕ) (job kept : Job) → Runs calls events → Adds calls more (launch job) → kept ≡ job → new ≡ events ++ Started slot kept number ∷ [] → Runs more new
+pub runs_started : (calls more : Option (List SystemCall)) (events new : List CrewEvent) (slot number : ℕ) (job kept : Job) → Runs calls events → Adds calls more (launch job) → kept ≡ job → new ≡ events ++ Started slot kept number ∷ [] → Runs more new
 runs_started calls more events new slot number job kept r adds same is =
     let jobs : jobs_of new ≡ jobs_of events ++ kept ∷ [] = ap jobs_of is ∙ jobs_of-append events (Started slot kept number ∷ []) in
     let job_is : jobs_of events ++ job ∷ [] ≡ jobs_of new = ap (λ j. jobs_of events ++ j ∷ []) (sym same) ∙ sym jobs in
     runs_added calls more (launch job) events new r adds (launch_from job.file job.words (jobs_of events) ∙ ap quiet job_is)
 
-pub runs_refused : (calls more : Option (List Call)) (events new : List CrewEvent) (job : Job) → Runs calls events → Adds calls more [] ⊎ Adds calls more (failing job) → new ≡ events → Runs more new
+pub runs_refused : (calls more : Option (List SystemCall)) (events new : List CrewEvent) (job : Job) → Runs calls events → Adds calls more [] ⊎ Adds calls more (failing job) → new ≡ events → Runs more new
 runs_refused calls more events new job r (inl adds) is = subst (Runs more) (sym is) (runs_same calls more events r adds)
 runs_refused calls more events new job r (inr adds) is = subst (Runs more) (sym is) (runs_added calls more (failing job) events events r adds (failing_from job.file (jobs_of events)))
 

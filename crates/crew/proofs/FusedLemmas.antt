@@ -4,7 +4,7 @@ use Rattle.std.specs.Prelude.{Option, None, Some, fold}
 use Rattle.std.proofs.lemmas.Bool.Decides.{nat_tests}
 use Rattle.std.proofs.lemmas.List.{take-append-drop, append-nil, take_all, drop_all}
 use Rattle.std.proofs.lemmas.List.Sums.{fold-append}
-use Rattle.jobs.specs.declared.job.Job.{Job}
+use Rattle.crew_jobs.specs.declared.job.Job.{Job}
 use Rattle.crew_trait.specs.declared.reply.Reply.{Reply}
 use Rattle.crew_trait.specs.declared.reply.Reply.TheVariants.{Answer, StartRefused, EndRefused}
 use Rattle.crew_trait.specs.declared.event.CrewEvent.{CrewEvent}

@@ -6,13 +6,13 @@ use Rattle.std.proofs.lemmas.Bool.Decides.{nat_tests}
 use Rattle.std.proofs.lemmas.List.{get_or-set_same, get_or-set_other, get_or_default, length-set, set-get_or}
 use Rattle.std.proofs.lemmas.List.Elements.{All-push}
 use Rattle.std.proofs.lemmas.List.Sums.{fold-append}
-use Rattle.jobs.specs.declared.job.Job.{Job}
+use Rattle.crew_jobs.specs.declared.job.Job.{Job}
 use Rattle.crew_trait.specs.declared.reply.Reply.{Reply}
 use Rattle.crew_trait.specs.declared.event.CrewEvent.{CrewEvent}
 use Rattle.crew_trait.specs.declared.event.CrewEvent.TheVariants.{Started, Ended}
 use Rattle.crew_trait.specs.Events.{busy, busy_after}
-use Rattle.causes.specs.Shown.{IsCauseOf}
-use Rattle.launching.specs.Ending.{IsExplained, IsOfEnd}
+use Rattle.crew_refusals.specs.Shown.{IsCauseOf}
+use Rattle.crew_launch.specs.Ending.{IsExplained, IsOfEnd}
 use Rattle.crew_trait.specs.declared.reply.Reply.TheVariants.{Answer, StartRefused, EndRefused}
 use Rattle.crew.specs.Holding.{Ends, Flying, Over, Table, HaveChildren, IsEndOf, IsEndTold, RefusesStart, Starts, child_in, number_after, number_in, number_of, with_told}
 use Rattle.crew.specs.Sound.{ListsBusy}

@@ -3,7 +3,7 @@ use Rattle.std.proofs.Common.{◌≡◌, ◌≢◌, ℕ, zero, suc, ◌+◌, ◌
 use Rattle.std.specs.Prelude.{remove}
 use Rattle.std.proofs.lemmas.List.{map-append, length-map, get_or-map}
 use Rattle.std.proofs.lemmas.List.Edits.{length-remove}
-use Rattle.jobs.specs.declared.job.Job.{Job}
+use Rattle.crew_jobs.specs.declared.job.Job.{Job}
 use Rattle.crew_trait.specs.declared.reply.Reply.{Reply}
 use Rattle.crew_trait.specs.declared.reply.Reply.TheVariants.{StartRefused}
 use Rattle.crew_trait.specs.declared.event.CrewEvent.{CrewEvent}

@@ -1,11 +1,11 @@
 -- The slots of a crew of real children, each with a child or without one.
 use Rattle.std.specs.Prelude.{◌≡◌, ◌⊎◌, ℕ, ◌==◌, true, List, Option, Some, None, IfSome, All, codes, fold, option_map, slice_index_or, slice_set, if◌then◌else◌}
-use Rattle.causes.specs.Known.{with_cause}
-use Rattle.causes.specs.Shown.{IsCauseOf}
-use Rattle.jobs.specs.declared.job.Job.{Job}
-use Rattle.launching.specs.Ending.{Answers, IsKept, IsOfEnd}
-use Rattle.launching.specs.Launch.{IsOfJob}
-use Rattle.launching.specs.Piped.{IsReadThrough, Running}
+use Rattle.crew_refusals.specs.Known.{with_cause}
+use Rattle.crew_refusals.specs.Shown.{IsCauseOf}
+use Rattle.crew_jobs.specs.declared.job.Job.{Job}
+use Rattle.crew_launch.specs.Ending.{Answers, IsKept, IsOfEnd}
+use Rattle.crew_launch.specs.Launch.{IsOfJob}
+use Rattle.crew_launch.specs.Piped.{IsReadThrough, Running}
 use Rattle.crew_trait.specs.Events.{Account}
 use Rattle.crew_trait.specs.declared.reply.Reply.{Reply}
 use Rattle.crew_trait.specs.declared.reply.Reply.TheVariants.{Answer, StartRefused, EndRefused}

@@ -1,6 +1,6 @@
 -- A crew in memory as a state machine: the effect of each call.
 use Rattle.std.specs.Prelude.{ℕ, ◌+◌, ◌-◌, ◌==◌, Bool, true, false, not, List, [], ◌∷◌, ◌++◌, length, remove, slice_index_or, unwrap_or, position, Option, Some, None, if◌then◌else◌}
-use Rattle.jobs.specs.declared.job.Job.{Job}
+use Rattle.crew_jobs.specs.declared.job.Job.{Job}
 use Rattle.crew_trait.specs.declared.reply.Reply.{Reply}
 use Rattle.crew_trait.specs.declared.reply.Reply.TheVariants.{Answer, StartRefused, EndRefused}
 use Rattle.crew_trait.specs.declared.event.CrewEvent.TheVariants as happens

@@ -8,11 +8,11 @@ ghost use Rattle.crew.specs.declared.fused.FuseKind.TheVariants.{Start, End};
 ghost use Rattle.crew_trait.specs.declared.reply.Reply.TheVariants.{EndRefused, StartRefused};
 ghost use Rattle.crew_trait.specs.declared.event.CrewEvent.TheVariants.{Started, Ended};
 
-use causes::Causes;
+use crew_jobs::Job;
+use crew_refusals::Causes;
+use crew_tally::Children;
 use crew_trait::{Crew, Refused, Reply};
-use jobs::Job;
 use std::marker::Model;
-use summary::Children;
 
 /// The kind of the call that a [`Fused`] crew refuses.
 #[derive(Clone, Copy)]

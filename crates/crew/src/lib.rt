@@ -13,7 +13,7 @@
 //! [`MemoryCrew`], in `memory`, is a crew for tests. It answers from a list of replies, in a given `order`, and lists its
 //! calls (`event`); `specs/Scripted.antt` defines the effect of each call, and `flight` is one of its children.
 //! [`ProcessCrew`], in `process`, and [`ReadyCrew`], in `ready`, start real children by the crate
-//! `launching`. They differ in which child `next` ends. `children` keeps their account. `table` has
+//! `crew_launch`. They differ in which child `next` ends. `children` keeps their account. `table` has
 //! the child of each slot, the child that ended last, and why calls were refused, and `numbered` is
 //! one of these children. `specs/Runs.antt` defines the jobs that were started, and
 //! `specs/Holding.antt` which child is in a slot, and that a reply is that of its child. All crews
@@ -37,7 +37,7 @@ mod ready;
 mod room;
 mod table;
 
-pub use causes::Causes;
+pub use crew_refusals::Causes;
 pub use crew_trait::{Crew, CrewEvent, Entry, Log, Refused, Reply};
 pub use event::Event;
 pub use fused::{FuseKind, Fused};

@@ -12,12 +12,12 @@ use crate::failures::{failures_after, refusal};
 use crate::flight::Flight;
 use crate::order::{Order, next_place};
 use crate::room::{put, put_end};
-use causes::Causes;
+use crew_jobs::Job;
+use crew_refusals::Causes;
+use crew_tally::Children;
 use crew_trait::{Crew, CrewEvent, Refused, Reply};
-use jobs::Job;
 use std::alloc::{AllocError, Global};
 use std::marker::Model;
-use summary::Children;
 
 /// A crew for tests: answers the n-th attempted start with the n-th reply of a list, and ends its children in a given order.
 ///

@@ -1,13 +1,13 @@
 //! A child with the number of its start.
 
 ghost use Rattle.std.specs.Prelude.{◌≡◌, IsSome, None, Some};
-ghost use Rattle.launching.specs.Ending.{IsExplained};
-ghost use Rattle.launching.specs.Piped.{IsUnread};
+ghost use Rattle.crew_launch.specs.Ending.{IsExplained};
+ghost use Rattle.crew_launch.specs.Piped.{IsUnread};
 ghost use Rattle.crew.specs.Holding.{IsEndOf, number_of};
 
-use causes::Cause;
+use crew_launch::{Started, end_child};
+use crew_refusals::Cause;
 use crew_trait::Reply;
-use launching::{Started, end_child};
 use std::alloc::Global;
 use std::marker::Model;
 use std::process::OpenProcess;
@@ -21,7 +21,7 @@ pub(crate) struct Numbered<P: OpenProcess + Drop> {
 
 impl<P: OpenProcess + Drop> Model for Numbered<P> {
     ghost use Rattle.crew.specs.Holding.{Flying};
-    ghost use Rattle.launching.specs.Piped.{IsUnread};
+    ghost use Rattle.crew_launch.specs.Piped.{IsUnread};
 
     ghost Value = { Flying };
 

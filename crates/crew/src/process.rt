@@ -1,19 +1,19 @@
 //! A crew of real children.
 
 ghost use Rattle.std.specs.Prelude.{◌≡◌, ◌≢◌, ◌+◌, ◌^◌, ◌<◌, [], ◌∷◌, ◌++◌, false, true, IfOk, None, OnErr, OnOk, Some};
-ghost use Rattle.causes.specs.Known.{cause_of};
+ghost use Rattle.crew_refusals.specs.Known.{cause_of};
 ghost use Rattle.crew_trait.specs.Events.{IsSomeBusy, busy, failure_of, slots_in_flight};
 ghost use Rattle.crew_trait.specs.declared.reply.Reply.TheVariants.{StartRefused};
 ghost use Rattle.crew_trait.specs.declared.event.CrewEvent.TheVariants.{Ended, Started};
 ghost use Rattle.crew.specs.Counting.{started_in};
 ghost use Rattle.crew.specs.Holding.{Ends, RefusesStart, Starts, number_in};
-ghost use Rattle.launching.specs.Launch.{IsClearing};
+ghost use Rattle.crew_launch.specs.Launch.{IsClearing};
 
 use crate::children::Children;
-use causes::Causes;
+use crew_jobs::Job;
+use crew_launch::{DiskLauncher, System};
+use crew_refusals::Causes;
 use crew_trait::{Crew, Refused, Reply};
-use jobs::Job;
-use launching::{DiskLauncher, System};
 use std::alloc::{AllocError, Global};
 use std::marker::Model;
 use std::process::Processes;
@@ -131,7 +131,7 @@ impl<R: Files + Processes + Drop> Causes for ProcessCrew<R> {
     }
 }
 
-impl<R: Files + Processes + Drop> summary::Children for ProcessCrew<R> {
+impl<R: Files + Processes + Drop> crew_tally::Children for ProcessCrew<R> {
     ghost started = { λ c. started_in c.account.events };
 
     fn children(&self) -> u64 {

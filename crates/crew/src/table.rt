@@ -1,17 +1,17 @@
 //! The slots of a crew of real children.
 
 ghost use Rattle.std.specs.Prelude.{◌≡◌, ◌⊎◌, ◌<◌, [], None, Some, IfOk, IfSome, IsSome, length, option_map, slice_set, vec_len};
-ghost use Rattle.causes.specs.Known.{cause_of, with_cause};
-ghost use Rattle.causes.specs.Shown.{IsShown};
-ghost use Rattle.launching.specs.Ending.{IsExplained};
-ghost use Rattle.launching.specs.Piped.{IsUnread};
+ghost use Rattle.crew_refusals.specs.Known.{cause_of, with_cause};
+ghost use Rattle.crew_refusals.specs.Shown.{IsShown};
+ghost use Rattle.crew_launch.specs.Ending.{IsExplained};
+ghost use Rattle.crew_launch.specs.Piped.{IsUnread};
 ghost use Rattle.crew.specs.Holding.{Ends, IsEndOf, IsEndTold, child_in, number_of, with_told};
 ghost use Rattle.crew_trait.specs.declared.reply.Reply.TheVariants.{EndRefused};
 
 use crate::numbered::{Finished, Numbered, end_in};
-use causes::{Cause, CauseList};
+use crew_launch::Started;
+use crew_refusals::{Cause, CauseList};
 use crew_trait::Reply;
-use launching::Started;
 use std::alloc::{AllocError, Global};
 use std::marker::Model;
 use std::process::OpenProcess;

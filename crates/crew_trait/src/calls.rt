@@ -6,7 +6,7 @@ ghost use Rattle.crew_trait.specs.declared.event.CrewEvent.TheVariants.{Started,
 
 use crate::event::Refused;
 use crate::reply::Reply;
-use jobs::Job;
+use crew_jobs::Job;
 
 /// Runs jobs as children in slots. The meaning of a crew is its account: what it has done.
 pub trait Crew {

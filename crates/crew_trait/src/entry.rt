@@ -4,8 +4,8 @@ ghost use Rattle.std.specs.Prelude.{◌≡◌, List, [], ◌∷◌, ◌++◌, On
 ghost use Rattle.crew_trait.specs.declared.entry.Entry.{Entry};
 
 use crate::reply::Reply;
+use crew_jobs::Job;
 use deftable::Note;
-use jobs::Job;
 use std::alloc::{AllocError, Global};
 use std::marker::Model;
 

@@ -1,7 +1,7 @@
 //! The events of a crew.
 
 use crate::reply::Reply;
-use jobs::Job;
+use crew_jobs::Job;
 use thiserror::Error;
 
 /// A start that was taken, or the end of a child. `number` is the number of starts attempted up to and including this

@@ -3,7 +3,7 @@ use Rattle.std.proofs.Common.{◌≡◌, ℕ, ◌+◌, ◌-◌, List, [], ◌∷
 use Rattle.std.specs.Prelude.{slice_get}
 use Rattle.crew_trait.specs.declared.event.CrewEvent.{CrewEvent}
 use Rattle.crew_trait.specs.declared.event.CrewEvent.TheVariants.{Started, Ended}
-use Rattle.jobs.specs.declared.job.Job.{Job}
+use Rattle.crew_jobs.specs.declared.job.Job.{Job}
 use Rattle.meaning.specs.Meaning.{meaning}
 use Rattle.meaning.specs.Play.{all_jobs, whole}
 use Rattle.meaning.specs.State.{opened}
@@ -11,7 +11,7 @@ use Rattle.proberun.specs.Agreeing.{RunsAgree}
 use Rattle.proberun.specs.Starts.{StartsAre}
 use Rattle.engine.specs.Agreeing.{HasStart, ConfiguresAgree}
 use Rattle.engine.specs.Configured.{report_of, artifacts}
-use Rattle.framing.specs.declared.report.Report.{Report}
+use Rattle.engine_frame.specs.declared.report.Report.{Report}
 
 -- The n-th start has the n-th job.
 start_is : (jobs : List Job) (n base : ℕ) (job : Job) (events : List CrewEvent) → StartsAre jobs base events → HasStart n job base events → slice_get jobs (n - 1) ≡ Some job

@@ -8,12 +8,12 @@ use Rattle.deftable.specs.Table.{value_of}
 use Rattle.meaning.specs.State.{State, Goes_on, Run, Ends, Asks, opened}
 use Rattle.meaning.specs.Meaning.{is_unsettled, settled, effect, check, meaning}
 use Rattle.meaning.specs.Tests.{cached_test}
-use Rattle.syntax.specs.declared.statement.Declares.TheVariants as declares
-use Rattle.syntax.specs.declared.statement.Effect.TheVariants as effects
-use Rattle.syntax.specs.Script.{Script, Done, Then, Check}
-use Rattle.laws.specs.Cached.{IsSet}
-use Rattle.laws.specs.Deeds.{Deed, Assigned, Tested, deeds_after, left_set, prefix_deeds, effect_deeds, check_deeds, deeds, Among}
-use Rattle.framing.specs.declared.starting.Start.{Start}
+use Rattle.ac_tree.specs.declared.statement.Declares.TheVariants as declares
+use Rattle.ac_tree.specs.declared.statement.Effect.TheVariants as effects
+use Rattle.ac_tree.specs.Script.{Script, Done, Then, Check}
+use Rattle.meaning_laws.specs.Cached.{IsSet}
+use Rattle.meaning_laws.specs.Deeds.{Deed, Assigned, Tested, deeds_after, left_set, prefix_deeds, effect_deeds, check_deeds, deeds, Among}
+use Rattle.engine_frame.specs.declared.starting.Start.{Start}
 use Rattle.engine.specs.Kept.{WasTested, IsThere, HoldsSet}
 
 -- The deed is a completed test of this name, or assigns a name that is no cache name.

@@ -4,18 +4,18 @@ use Rattle.std.specs.Prelude.{◌&&◌}
 use Rattle.crew_trait.specs.Events.{Account}
 use Rattle.deftable.specs.CacheName.{is_cache_name}
 use Rattle.deftable.specs.Table.{value_of}
-use Rattle.laws.specs.Deeds.{deeds, Accounts}
-use Rattle.laws.proofs.Accounting.{deeds_account}
-use Rattle.laws.proofs.TestedNames.{tested_names_are_cached}
+use Rattle.meaning_laws.specs.Deeds.{deeds, Accounts}
+use Rattle.meaning_laws.proofs.Accounting.{deeds_account}
+use Rattle.meaning_laws.proofs.TestedNames.{tested_names_are_cached}
 use Rattle.meaning.specs.Meaning.{meaning}
 use Rattle.meaning.specs.Play.{Played, play, whole}
 use Rattle.meaning.specs.State.{opened}
-use Rattle.syntax.specs.Commands.{HasCommands}
-use Rattle.syntax.specs.Script.{Script}
-use Rattle.syntax.specs.TestNames.{HasTestNames}
-use Rattle.framing.specs.Handing.{IfNamed, IsCacheOf, is_one_line, saved_value}
-use Rattle.framing.specs.declared.starting.Start.{Start}
-use Rattle.framing.specs.declared.report.Report.{Report}
+use Rattle.ac_tree.specs.Commands.{HasCommands}
+use Rattle.ac_tree.specs.Script.{Script}
+use Rattle.ac_tree.specs.TestNames.{HasTestNames}
+use Rattle.engine_frame.specs.Handing.{IfNamed, IsCacheOf, is_one_line, saved_value}
+use Rattle.engine_frame.specs.declared.starting.Start.{Start}
+use Rattle.engine_frame.specs.declared.report.Report.{Report}
 use Rattle.engine.specs.Configured.{IsMeant}
 use Rattle.engine.specs.Kept.{replies_of, WasSet, IsThere, IsKept}
 

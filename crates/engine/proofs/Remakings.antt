@@ -2,21 +2,21 @@
 use Rattle.std.proofs.Common.{◌≡◌, ℕ, Bool, true, false, cond, List, [], ◌∷◌, ◌++◌, map, Ok, refl, sym, ap, ◌∙◌}
 use Rattle.std.specs.Prelude.{filter, Option, Some, None, Result}
 use Rattle.std.proofs.lemmas.List.Elements.{filter-append}
-use Rattle.outputlist.specs.declared.output.Output.{Output}
-use Rattle.outputs.specs.declared.artifact.Artifact.{Artifact}
+use Rattle.output_list.specs.declared.output.Output.{Output}
+use Rattle.output_put.specs.declared.artifact.Artifact.{Artifact}
 use Rattle.status_record.specs.Reading.{record_in}
 use Rattle.status_record.specs.RecordText.{record_text}
 use Rattle.status_record.specs.declared.record.Record.{Record}
-use Rattle.syntax.specs.Script.{Script}
-use Rattle.framing.specs.Faults.{of_record, named, ◌>>=◌}
-use Rattle.framing.specs.Handing.{ReadsBack, IfCompleted, record_artifact, wanted_outputs, artifacts_of}
-use Rattle.framing.specs.Remade as choice
-use Rattle.framing.specs.Remade.{none_unknown, present, made_again, remade, unknown, made, made_file, made_header}
-use Rattle.framing.specs.declared.starting.Start.{Start}
-use Rattle.framing.specs.declared.fault.RemakeFault.{RemakeFault}
-use Rattle.framing.specs.declared.report.Outcome.{Outcome}
-use Rattle.framing.specs.declared.report.Outcome.TheVariants.{Completed, Stopped, CutShort, Shown}
-use Rattle.framing.specs.declared.report.Report.{Report}
+use Rattle.ac_tree.specs.Script.{Script}
+use Rattle.engine_frame.specs.Faults.{of_record, named, ◌>>=◌}
+use Rattle.engine_frame.specs.Handing.{ReadsBack, IfCompleted, record_artifact, wanted_outputs, artifacts_of}
+use Rattle.engine_frame.specs.Remade as choice
+use Rattle.engine_frame.specs.Remade.{none_unknown, present, made_again, remade, unknown, made, made_file, made_header}
+use Rattle.engine_frame.specs.declared.starting.Start.{Start}
+use Rattle.engine_frame.specs.declared.fault.RemakeFault.{RemakeFault}
+use Rattle.engine_frame.specs.declared.report.Outcome.{Outcome}
+use Rattle.engine_frame.specs.declared.report.Outcome.TheVariants.{Completed, Stopped, CutShort, Shown}
+use Rattle.engine_frame.specs.declared.report.Report.{Report}
 use Rattle.engine.specs.Configured.{record_after}
 use Rattle.engine.specs.Remaking.{is_record, is_chosen, Remakes, RemakesAgree}
 

@@ -1,32 +1,32 @@
 -- What follows from all of a call, clause by clause.
 use Rattle.std.proofs.Common.{◌≡◌, ℕ, Bool, true, false, List, Option, Some, None, length, Result, Ok, Err, refl, sym, subst, ap, ◌∙◌}
 use Rattle.std.specs.Prelude.{IfOk, IsErrAnd, if◌then◌else◌}
-use Rattle.outputs.specs.Receipt.{Receipt, with_artifacts}
+use Rattle.output_put.specs.Receipt.{Receipt, with_artifacts}
 use Rattle.acparse.specs.Profile.{source_of}
 use Rattle.crew_trait.specs.Events.{Account}
 use Rattle.options.specs.declared.settings.Settings.{Settings}
-use Rattle.syntax.specs.Commands.{HasCommands}
-use Rattle.syntax.specs.Script.{Script}
-use Rattle.syntax.specs.TestNames.{HasTestNames}
-use Rattle.framing.specs.Faults.{Fails, ◌>>=◌, named, of_parse}
+use Rattle.ac_tree.specs.Commands.{HasCommands}
+use Rattle.ac_tree.specs.Script.{Script}
+use Rattle.ac_tree.specs.TestNames.{HasTestNames}
+use Rattle.engine_frame.specs.Faults.{Fails, ◌>>=◌, named, of_parse}
 use Rattle.engine.specs.Judged.{going, judged}
-use Rattle.framing.specs.Given.{Accepted, Shows, Starts, answered, asked, shows, started}
-use Rattle.framing.specs.Needed.{Needed, script_in}
-use Rattle.framing.specs.Judging.{judged_with, judgement, seen}
-use Rattle.framing.proofs.Judgements.{runs_as, shows_as}
+use Rattle.engine_frame.specs.Given.{Accepted, Shows, Starts, answered, asked, shows, started}
+use Rattle.engine_frame.specs.Needed.{Needed, script_in}
+use Rattle.engine_frame.specs.Judging.{judged_with, judgement, judged_of}
+use Rattle.engine_frame.proofs.Judgements.{runs_as, shows_as}
 use Rattle.engine.specs.Configured.{IsWhole, refused, memory, shown, ran, IsAnswer, IsNotRun, IfStarts, IfReport, IfPutRefused, IsMeant, IsDone, IsCut, HasRunPart, not_begun, artifacts, record_after}
 use Rattle.engine.specs.Kept.{IsKept}
 use Rattle.engine.specs.Remaking.{Remakes}
 use Rattle.engine.proofs.Keeping.{kept_if_named}
 use Rattle.engine.proofs.Remakings.{remakes_completed}
-use Rattle.framing.specs.Handing.{IfCompleted, ReadsBack, IfNamed, CacheReadsBack}
-use Rattle.framing.specs.Shown.{shown_report}
-use Rattle.framing.specs.declared.starting.Start.{Start}
-use Rattle.framing.specs.declared.judging.Judged.{Judged as Found}
-use Rattle.framing.specs.declared.judging.Judged.TheVariants as founds
-use Rattle.framing.specs.declared.fault.Fault.{Fault}
-use Rattle.framing.specs.declared.fault.Fault.TheVariants.{OutOfMemory, PutRefused}
-use Rattle.framing.specs.declared.report.Report.{Report}
+use Rattle.engine_frame.specs.Handing.{IfCompleted, ReadsBack, IfNamed, CacheReadsBack}
+use Rattle.engine_frame.specs.Shown.{shown_report}
+use Rattle.engine_frame.specs.declared.starting.Start.{Start}
+use Rattle.engine_frame.specs.declared.judging.Judged.{Judged as Found}
+use Rattle.engine_frame.specs.declared.judging.Judged.TheVariants as founds
+use Rattle.engine_frame.specs.declared.fault.Fault.{Fault}
+use Rattle.engine_frame.specs.declared.fault.Fault.TheVariants.{OutOfMemory, PutRefused}
+use Rattle.engine_frame.specs.declared.report.Report.{Report}
 
 -- ---- what is judged, from its parts
 
@@ -105,7 +105,7 @@ fails_asked a e script f h = unasked a e script f h
 
 -- A source that is to be run.
 pub judged_runs : (s : List ℕ) (a : List (List ℕ)) (e : List (List ℕ × List ℕ)) (c : Option (List ℕ)) (t : List (List ℕ × List ℕ)) (script : Script) (found : Found) (n : Needed)
-    → named of_parse (source_of s) ≡ Ok script → judgement a e script ≡ Ok (seen found) → found ≡ founds.Runs n → judged s a e c t ≡ going n c t
+    → named of_parse (source_of s) ≡ Ok script → judgement a e script ≡ Ok (judged_of found) → found ≡ founds.Runs n → judged s a e c t ≡ going n c t
 judged_runs s a e c t script found n read is kind =
     let runs = runs_as a e script found n is kind in
     judged_second s a e c t script read ∙ ap (λ r. r >>= answered a c t script) runs.asks ∙ is_answered a c t script n.settings ∙ ap (chosen a c t script n.settings) runs.runs
@@ -138,7 +138,7 @@ fails_judged s a e c t script f same window templates before now old new result 
 
 -- a text is shown
 pub shows_text : (s : List ℕ) (a : List (List ℕ)) (e : List (List ℕ × List ℕ)) (c : Option (List ℕ)) (t : List (List ℕ × List ℕ)) (script : Script) (found : Found) (report : Report) (same : Type 0) (window : ℕ) (templates : List (List ℕ × List ℕ)) (before now : Account) (old new : Receipt)
-    → named of_parse (source_of s) ≡ Ok script → judgement a e script ≡ Ok (seen found) → found ≡ founds.Shows report → same → IsWhole same window (judged s a e c t) templates before now old new (Ok report)
+    → named of_parse (source_of s) ≡ Ok script → judgement a e script ≡ Ok (judged_of found) → found ≡ founds.Shows report → same → IsWhole same window (judged s a e c t) templates before now old new (Ok report)
 shows_text s a e c t script found report same window templates before now old new read is kind u =
     let told = shows_as a e script found report is kind in
     subst (λ r. IsWhole same window (judged s a e c t) templates before now old new (Ok r)) (sym told.is)

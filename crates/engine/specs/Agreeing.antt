@@ -3,13 +3,13 @@ use Rattle.std.specs.Prelude.{◌≡◌, ℕ, ◌+◌, ◌-◌, List, [], ◌∷
 use Rattle.crew_trait.specs.declared.event.CrewEvent.{CrewEvent}
 use Rattle.crew_trait.specs.declared.event.CrewEvent.TheVariants.{Started, Ended}
 use Rattle.crew_trait.specs.Events.{Account, replies_in}
-use Rattle.jobs.specs.declared.job.Job.{Job}
+use Rattle.crew_jobs.specs.declared.job.Job.{Job}
 use Rattle.meaning.specs.Play.{all_jobs}
 use Rattle.proberun.specs.Agreeing.{Agree}
-use Rattle.syntax.specs.Script.{Script}
+use Rattle.ac_tree.specs.Script.{Script}
 use Rattle.engine.specs.Configured.{IsMeant, artifacts}
-use Rattle.framing.specs.declared.starting.Start.{Start}
-use Rattle.framing.specs.declared.report.Report.{Report}
+use Rattle.engine_frame.specs.declared.starting.Start.{Start}
+use Rattle.engine_frame.specs.declared.report.Report.{Report}
 
 -- Of the starts after the first `base`, the n-th one was taken, and has this job. (own)
 abbrev pub HasStart : ℕ → Job → ℕ → List CrewEvent → Type 0

@@ -5,21 +5,21 @@ use Rattle.meaning.specs.Meaning.{meaning}
 use Rattle.meaning.specs.Play.{whole}
 use Rattle.meaning.specs.State.{opened}
 use Rattle.options.specs.declared.settings.Settings.{Settings}
-use Rattle.outputs.specs.Receipt.{Receipt, with_artifacts, IsCutAt}
-use Rattle.outputs.specs.declared.artifact.Artifact.{Artifact}
+use Rattle.output_put.specs.Receipt.{Receipt, with_artifacts, IsCutAt}
+use Rattle.output_put.specs.declared.artifact.Artifact.{Artifact}
 use Rattle.proberun.specs.Progress.{HasBegun}
 pub use Rattle.proberun.specs.Ran.{IsWindow, MayRun, Ran, RunEnd, outcome_from, state_of}
 use Rattle.status_record.specs.declared.record.Record.{Record}
-use Rattle.syntax.specs.Script.{Script}
-use Rattle.framing.specs.Given.{Accepted, Shows, Starts}
-use Rattle.framing.specs.Handing.{artifacts_of, run_record, IfCompleted, ReadsBack, IfNamed, IsCacheOf}
-use Rattle.framing.specs.Shown.{shown_report}
-use Rattle.framing.specs.Told.{entries_of}
+use Rattle.ac_tree.specs.Script.{Script}
+use Rattle.engine_frame.specs.Given.{Accepted, Shows, Starts}
+use Rattle.engine_frame.specs.Handing.{artifacts_of, run_record, IfCompleted, ReadsBack, IfNamed, IsCacheOf}
+use Rattle.engine_frame.specs.Shown.{shown_report}
+use Rattle.engine_frame.specs.Told.{entries_of}
 use Rattle.engine.specs.Told.{outcome_of}
-use Rattle.framing.specs.declared.starting.Start.{Start}
-use Rattle.framing.specs.declared.fault.Fault.{Fault}
-use Rattle.framing.specs.declared.fault.Fault.TheVariants.{PutRefused, OutOfMemory}
-use Rattle.framing.specs.declared.report.Report.{Report}
+use Rattle.engine_frame.specs.declared.starting.Start.{Start}
+use Rattle.engine_frame.specs.declared.fault.Fault.{Fault}
+use Rattle.engine_frame.specs.declared.fault.Fault.TheVariants.{PutRefused, OutOfMemory}
+use Rattle.engine_frame.specs.declared.report.Report.{Report}
 
 -- The report of a run that leaves this, of which so many artifacts were handed over: its pieces follow those of its opening.
 -- (own)

@@ -1,11 +1,11 @@
 -- What follows from all that a run is given.
 use Rattle.std.specs.Prelude.{◌≡◌, ℕ, List, Option, Result, Ok}
 use Rattle.acparse.specs.Profile.{source_of}
-use Rattle.framing.specs.Faults.{of_parse, named, ◌>>=◌}
-use Rattle.framing.specs.Given.{Accepted, Starts, asked, answered, started}
-use Rattle.framing.specs.Needed.{Needed, script_in}
-use Rattle.framing.specs.declared.fault.Fault.{Fault}
-use Rattle.syntax.specs.Script.{Script}
+use Rattle.engine_frame.specs.Faults.{of_parse, named, ◌>>=◌}
+use Rattle.engine_frame.specs.Given.{Accepted, Starts, asked, answered, started}
+use Rattle.engine_frame.specs.Needed.{Needed, script_in}
+use Rattle.engine_frame.specs.declared.fault.Fault.{Fault}
+use Rattle.ac_tree.specs.Script.{Script}
 
 -- What follows from a source, arguments, an environment, a cache and templates: they are refused with their first fault, or
 -- accepted. Of two templates of one name the first counts. (own)

@@ -4,13 +4,13 @@ use Rattle.crew_trait.specs.declared.reply.Reply.{Reply}
 use Rattle.crew_trait.specs.Events.{Account, replies_in}
 use Rattle.deftable.specs.CacheName.{is_cache_name}
 use Rattle.deftable.specs.Table.{value_of}
-use Rattle.laws.specs.Deeds.{Tested, deeds, Among, ComesFrom}
+use Rattle.meaning_laws.specs.Deeds.{Tested, deeds, Among, ComesFrom}
 use Rattle.meaning.specs.Play.{all_jobs}
 use Rattle.meaning.specs.State.{opened}
-use Rattle.syntax.specs.Script.{Script}
-use Rattle.framing.specs.Handing.{AreInOrder, lines_for, is_one_line, cache_text_of}
-use Rattle.framing.specs.declared.starting.Start.{Start}
-use Rattle.framing.specs.declared.report.Report.{Report}
+use Rattle.ac_tree.specs.Script.{Script}
+use Rattle.engine_frame.specs.Handing.{AreInOrder, lines_for, is_one_line, cache_text_of}
+use Rattle.engine_frame.specs.declared.starting.Start.{Start}
+use Rattle.engine_frame.specs.declared.report.Report.{Report}
 use Rattle.engine.specs.Configured.{IsMeant}
 
 -- The replies that the crew gave to the jobs of a run, in the order of the jobs. (own)

@@ -1,17 +1,17 @@
 -- The record that a completed run hands over, and what is made of it again.
 use Rattle.std.specs.Prelude.{◌≡◌, ℕ, ◌==◌, ◌&&◌, ◌||◌, Bool, true, false, List, [], ◌∷◌, length, filter, Ok, codes}
 use Rattle.deftable.specs.NameList.{has_name}
-use Rattle.outputs.specs.declared.artifact.Artifact.{Artifact}
-use Rattle.outputs.specs.declared.artifact.Kind.{Kind}
-use Rattle.outputs.specs.declared.artifact.Kind.TheVariants.{Record as Recorded, File, Header}
+use Rattle.output_put.specs.declared.artifact.Artifact.{Artifact}
+use Rattle.output_put.specs.declared.artifact.Kind.{Kind}
+use Rattle.output_put.specs.declared.artifact.Kind.TheVariants.{Record as Recorded, File, Header}
 use Rattle.status_record.specs.Reading.{record_in}
-use Rattle.syntax.specs.Script.{Script}
-use Rattle.framing.specs.Faults.{◌>>=◌}
-use Rattle.framing.specs.Handing.{ReadsBack}
-use Rattle.framing.specs.Remade.{none_unknown, present, remade, unknown}
-use Rattle.framing.specs.declared.starting.Start.{Start}
-use Rattle.framing.specs.declared.report.Outcome.TheVariants.{Completed}
-use Rattle.framing.specs.declared.report.Report.{Report}
+use Rattle.ac_tree.specs.Script.{Script}
+use Rattle.engine_frame.specs.Faults.{◌>>=◌}
+use Rattle.engine_frame.specs.Handing.{ReadsBack}
+use Rattle.engine_frame.specs.Remade.{none_unknown, present, remade, unknown}
+use Rattle.engine_frame.specs.declared.starting.Start.{Start}
+use Rattle.engine_frame.specs.declared.report.Outcome.TheVariants.{Completed}
+use Rattle.engine_frame.specs.declared.report.Report.{Report}
 use Rattle.engine.specs.Configured.{artifacts, record_after}
 
 -- The artifact is a record. (own)

@@ -1,7 +1,7 @@
 -- The outcome of a run, in its report.
 use Rattle.proberun.specs.Outcomes as run
-use Rattle.framing.specs.declared.report.Outcome.{Outcome}
-use Rattle.framing.specs.declared.report.Outcome.TheVariants.{Completed, Stopped, CutShort}
+use Rattle.engine_frame.specs.declared.report.Outcome.{Outcome}
+use Rattle.engine_frame.specs.declared.report.Outcome.TheVariants.{Completed, Stopped, CutShort}
 
 -- The outcome as the report has it. (own)
 abbrev pub outcome_of : run.Outcome → Outcome

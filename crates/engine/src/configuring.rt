@@ -2,25 +2,25 @@
 
 ghost use Rattle.std.specs.Prelude.{◌≡◌, ◌+◌, ◌^◌, ◌<◌, ◌≤◌, length, IfOk, IfErr, OnErr, Ok, Err, option_map};
 ghost use Rattle.crew_trait.specs.Events.{IsIdle, in_flight};
-ghost use Rattle.outputs.specs.Receipt.{with_artifacts};
+ghost use Rattle.output_put.specs.Receipt.{with_artifacts};
 ghost use Rattle.proberun.specs.Ran.{IsWindow, MayRun};
 ghost use Rattle.engine.specs.Judged.{IsRead, going, judged};
-ghost use Rattle.framing.specs.Handing.{IfCompleted, ReadsBack, IfNamed, IsCacheOf, CacheReadsBack};
+ghost use Rattle.engine_frame.specs.Handing.{IfCompleted, ReadsBack, IfNamed, IsCacheOf, CacheReadsBack};
 ghost use Rattle.engine.specs.Configured.{IfStarts, IsNotRun, IfReport, IfPutRefused, IsAnswer, IsDone, IsWhole, IsRefusedPut, IsMeant, IsCut, HasRunPart, artifacts, record_after};
 ghost use Rattle.engine.specs.Kept.{IsKept};
 ghost use Rattle.engine.specs.Remaking.{Remakes};
-ghost use Rattle.framing.specs.Needed.{script_in};
-ghost use Rattle.framing.specs.declared.fault.Fault.TheVariants.{OutOfMemory};
+ghost use Rattle.engine_frame.specs.Needed.{script_in};
+ghost use Rattle.engine_frame.specs.declared.fault.Fault.TheVariants.{OutOfMemory};
 
 use crate::outcome::outcome_of;
 use crate::reading::parsed;
 use acparse::forms::sources_have_forms;
 use crew_trait::Crew;
 use deftable::Bytes;
-use framing::{
+use engine_frame::{
     Fault, Judged, Needs, Report, Start, artifacts_of, begin, joined, judge, with_notes,
 };
-use outputs::{Artifacts, Outputs, put_all};
+use output_put::{Artifacts, Outputs, put_all};
 use proberun::run;
 use std::alloc::{AllocError, Global};
 

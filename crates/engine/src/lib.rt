@@ -13,7 +13,7 @@
 //! report.outcome; // Completed; `outputs` took the record and the file `out`
 //! ```
 //!
-//! The crate `framing` has what comes before and after the run, [`remake`] and [`recheck_args`] among it. In `specs`,
+//! The crate `engine_frame` has what comes before and after the run, [`remake`] and [`recheck_args`] among it. In `specs`,
 //! read `Judged` (what follows from the inputs), `Configured` (the whole), `Kept` (what the cache holds), `Remaking`
 //! (the record, given to [`remake`]) and `Agreeing` (two runs under the same replies); `Told` is small. In `src`, read
 //! `configuring`; `reading` and `outcome` are small, and `agreeing` and `remaking` have a law each.
@@ -27,8 +27,8 @@ mod remaking;
 
 pub use agreeing::configures_agree;
 pub use configuring::{configure, go};
-pub use framing::{
+pub use engine_frame::{
     Fault, Judged, Needs, Outcome, RemakeFault, Report, judge, recheck_args, remake, status_of,
 };
-pub use outputs::{Artifact, Kind, MemoryOutputs, Outputs, PutRefused};
+pub use output_put::{Artifact, Kind, MemoryOutputs, Outputs, PutRefused};
 pub use remaking::remakes_agree;

@@ -3,7 +3,7 @@
 ghost use Rattle.std.specs.Prelude.{◌≡◌};
 ghost use Rattle.engine.specs.Told as told;
 
-use framing::Outcome;
+use engine_frame::Outcome;
 
 /// Returns the outcome of a run as the report has it.
 pub(crate) fn outcome_of(outcome: proberun::Outcome) -> Outcome

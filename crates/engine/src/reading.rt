@@ -2,15 +2,15 @@
 
 ghost use Rattle.std.specs.Prelude.{◌≡◌, IfOk};
 ghost use Rattle.acparse.specs.Profile.{source_of};
-ghost use Rattle.framing.specs.Faults.{Gives, named, of_parse};
-ghost use Rattle.outputlist.specs.Output.{AreOutputs};
-ghost use Rattle.syntax.specs.Lists.{lists_of};
-ghost use Rattle.syntax.specs.Script.{script_of};
+ghost use Rattle.engine_frame.specs.Faults.{Gives, named, of_parse};
+ghost use Rattle.output_list.specs.Output.{AreOutputs};
+ghost use Rattle.ac_tree.specs.Lists.{lists_of};
+ghost use Rattle.ac_tree.specs.Script.{script_of};
 
+use ac_tree::Source;
 use acparse::parse;
-use framing::Fault;
+use engine_frame::Fault;
 use std::alloc::Global;
-use syntax::Source;
 
 /// Reads the source.
 pub(crate) fn parsed(alloc: Global, text: &[u8]) -> Result<Source, Fault>

@@ -1,7 +1,7 @@
 -- The children that a run asks for, one at a time. `early` changes the state of a run that ends here;
 -- the meaning always passes `as_is`, and a plan passes what its open tests do.
 use Rattle.std.specs.Prelude.{◌==◌, Bool, true, false, not, List, [], ◌∷◌, Option, Some, None, ℕ, codes, if◌then◌else◌}
-use Rattle.jobs.specs.declared.job.Job.{Job}
+use Rattle.crew_jobs.specs.declared.job.Job.{Job}
 use Rattle.crew_trait.specs.declared.reply.Reply.{Reply}
 use Rattle.crew_trait.specs.declared.reply.Reply.TheVariants.{Answer, StartRefused, EndRefused}
 use Rattle.deftable.specs.declared.note.Stream.TheVariants as streams

@@ -2,13 +2,13 @@
 -- becomes of the others if one is refused, is own.
 use Rattle.std.specs.Prelude.{ℕ, suc, Bool, true, false, ◌||◌, List, [], ◌∷◌, Option, Some, None, codes, drop, is_some, bytes_eq, if◌then◌else◌}
 use Rattle.std.specs.List.{list_any}
-use Rattle.jobs.specs.declared.job.Job.{Job}
+use Rattle.crew_jobs.specs.declared.job.Job.{Job}
 use Rattle.crew_trait.specs.declared.reply.Reply.{Reply}
 use Rattle.deftable.specs.Table.{value_of}
 use Rattle.shellword.specs.declared.part.Part.{Part}
 use Rattle.meaning.specs.State.{State, with_child, with_variable, Goes_on, Completed, Stopped, Cut, Run, Ends, Asks, as_is}
 use Rattle.meaning.specs.Asking.{success, only_reply, heard}
-use Rattle.syntax.specs.declared.listed.Listed.{Listed}
+use Rattle.ac_tree.specs.declared.listed.Listed.{Listed}
 use Rattle.meaning.specs.Rows.{Single, entry_name, entry_job, row_of}
 use Rattle.meaning.specs.Tests.{Row, tested}
 

@@ -1,7 +1,7 @@
 -- The directories of a path.
 use Rattle.std.specs.Prelude.{ℕ, ◌==◌, ◌-◌, length, List, [], ◌∷◌, ◌++◌, map, take, nat_eq, codes, if◌then◌else◌, Bool, false}
 use Rattle.std.specs.List.{ends_with}
-use Rattle.textcut.specs.Cuts.{parts}
+use Rattle.text_cut.specs.Cuts.{parts}
 
 -- The last part is empty. (own)
 abbrev pub ends_empty : List (List ℕ) → Bool

@@ -5,28 +5,28 @@ use Rattle.shellword.specs.declared.part.Part.{Part}
 use Rattle.shellword.specs.Matching.{matches_any}
 use Rattle.shellword.specs.Truth.{truth}
 use Rattle.shellword.specs.Value.{word_value}
-use Rattle.syntax.specs.declared.feature.OptionKind.{OptionKind}
-use Rattle.syntax.specs.declared.feature.OptionKind.TheVariants.{Feature, Package}
-use Rattle.syntax.specs.declared.listed.Sought.{Sought}
-use Rattle.syntax.specs.declared.statement.Effect.{Effect}
-use Rattle.syntax.specs.declared.statement.Effect.TheVariants as effects
-use Rattle.syntax.specs.declared.statement.Effect.TheVariants.{Assign, Define, DefineText, Print, Stop, Package, Search, Searches, Batch, Complete}
-use Rattle.syntax.specs.declared.statement.Message.TheVariants.{Error}
-use Rattle.syntax.specs.declared.statement.ProgramValue.TheVariants.{Text, FullName}
-use Rattle.syntax.specs.declared.statement.Question as asks
-use Rattle.syntax.specs.declared.statement.Question.TheVariants as questions
-use Rattle.syntax.specs.declared.statement.Question.TheVariants.{Given, Tries, Checks, ChecksEach}
-use Rattle.syntax.specs.declared.tree.Subject.{Subject}
-use Rattle.syntax.specs.declared.tree.Subject.TheVariants.{Nothing, Word, Asked}
-use Rattle.syntax.specs.declared.tree.When.{When}
-use Rattle.syntax.specs.declared.tree.When.TheVariants.{Holds, Matches, Yes, No, Always}
-use Rattle.syntax.specs.Script.{Script, Done, Then, Choice, Check, Cases, No_case, Case}
-use Rattle.syntax.specs.TestNames.{program_name, path_name}
+use Rattle.ac_tree.specs.declared.feature.OptionKind.{OptionKind}
+use Rattle.ac_tree.specs.declared.feature.OptionKind.TheVariants.{Feature, Package}
+use Rattle.ac_tree.specs.declared.listed.Sought.{Sought}
+use Rattle.ac_tree.specs.declared.statement.Effect.{Effect}
+use Rattle.ac_tree.specs.declared.statement.Effect.TheVariants as effects
+use Rattle.ac_tree.specs.declared.statement.Effect.TheVariants.{Assign, Define, DefineText, Print, Stop, Package, Search, Searches, Batch, Complete}
+use Rattle.ac_tree.specs.declared.statement.Message.TheVariants.{Error}
+use Rattle.ac_tree.specs.declared.statement.ProgramValue.TheVariants.{Text, FullName}
+use Rattle.ac_tree.specs.declared.statement.Question as asks
+use Rattle.ac_tree.specs.declared.statement.Question.TheVariants as questions
+use Rattle.ac_tree.specs.declared.statement.Question.TheVariants.{Given, Tries, Checks, ChecksEach}
+use Rattle.ac_tree.specs.declared.tree.Subject.{Subject}
+use Rattle.ac_tree.specs.declared.tree.Subject.TheVariants.{Nothing, Word, Asked}
+use Rattle.ac_tree.specs.declared.tree.When.{When}
+use Rattle.ac_tree.specs.declared.tree.When.TheVariants.{Holds, Matches, Yes, No, Always}
+use Rattle.ac_tree.specs.Script.{Script, Done, Then, Choice, Check, Cases, No_case, Case}
+use Rattle.ac_tree.specs.TestNames.{program_name, path_name}
 use Rattle.meaning.specs.Package.{initialised}
 use Rattle.meaning.specs.Messages.{said}
 use Rattle.meaning.specs.State.{State, Scope, no_choice, about, answered, with_variable, with_definition, How, as_is, Run, Ends, Goes_on, Completed, Stopped, then_run, ended}
 use Rattle.meaning.specs.Rows as rows
-use Rattle.meaning.specs.Rows.{Kind, Program, Library, Libraries, kind_for, name_of, is_found, value_or_empty, value_if, row_of}
+use Rattle.meaning.specs.Rows.{TestKind, Program, Library, Libraries, kind_for, name_of, is_found, value_or_empty, value_if, row_of}
 use Rattle.meaning.specs.Batches.{batched}
 use Rattle.meaning.specs.Tests.{Test, cached_test, tested}
 use Rattle.meaning.specs.Tries.{text_of, tried}
@@ -131,7 +131,7 @@ given None kind st go = go (answered false) st
 given (Some value) kind st go = go (answered true) (with_variable (value_name kind) value st)
 
 -- A test as a question: whether it has found what it looks for. (Autoconf's manual, "Existing Tests" and "Library Files")
-abbrev pub found_by : (How → State → State) → Kind → State → (Scope → State → Run) → Run
+abbrev pub found_by : (How → State → State) → TestKind → State → (Scope → State → Run) → Run
 found_by early kind st go =
     then_run (ended early (tested (row_of kind st) st)) (λ now. go (answered (is_found kind (value_of now.vars (name_of kind)))) now)
 

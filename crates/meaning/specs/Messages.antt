@@ -2,8 +2,8 @@
 use Rattle.std.specs.Prelude.{ℕ, List, [], ◌++◌, codes}
 use Rattle.deftable.specs.declared.note.Stream.{Stream}
 use Rattle.deftable.specs.declared.note.Stream.TheVariants.{Out, Err}
-use Rattle.syntax.specs.declared.statement.Message.{Message}
-use Rattle.syntax.specs.declared.statement.Message.TheVariants.{Checking, Results, Notice, Warning, Error}
+use Rattle.ac_tree.specs.declared.statement.Message.{Message}
+use Rattle.ac_tree.specs.declared.statement.Message.TheVariants.{Checking, Results, Notice, Warning, Error}
 use Rattle.meaning.specs.State.{State, told}
 
 -- The stream to which a message is printed, and the texts before and after its own.

@@ -1,6 +1,6 @@
 -- A run under given replies.
 use Rattle.std.specs.Prelude.{ℕ, suc, ◌+◌, Bool, List, [], ◌∷◌, ◌++◌, Option, Some, None, option_map, length, take, drop, codes, decimal}
-use Rattle.jobs.specs.declared.job.Job.{Job}
+use Rattle.crew_jobs.specs.declared.job.Job.{Job}
 use Rattle.crew_trait.specs.declared.reply.Reply.{Reply}
 use Rattle.deftable.specs.declared.note.Stream.TheVariants as streams
 use Rattle.meaning.specs.State.{State, told, How, Goes_on, Completed, Stopped, Cut, Run, Ends, Asks}

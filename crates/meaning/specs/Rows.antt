@@ -1,18 +1,18 @@
 -- The rows of the kinds of tests.
 use Rattle.std.specs.Prelude.{ℕ, Bool, true, false, not, ◌&&◌, List, [], ◌∷◌, ◌++◌, Option, Some, None, codes, map, unwrap_or, is_some, bytes_eq, if◌then◌else◌}
-use Rattle.jobs.specs.declared.job.Job.{Job}
-use Rattle.jobs.specs.Probe.{Probe, Compile, Link, path_of, job_of}
-use Rattle.csource.specs.Sources.{default_includes, header_source, function_source, declaration_source, type_source, second_type_source}
+use Rattle.crew_jobs.specs.declared.job.Job.{Job}
+use Rattle.crew_jobs.specs.Probe.{Probe, Compile, Link, path_of, job_of}
+use Rattle.conftest_source.specs.Sources.{default_includes, header_source, function_source, declaration_source, type_source, second_type_source}
 use Rattle.deftable.specs.Table.{value_of, with_entry}
 use Rattle.shellword.specs.declared.part.Part.{Part}
 use Rattle.shellword.specs.Value.{word_value}
-use Rattle.syntax.specs.declared.listed.Listed.{Listed}
-use Rattle.syntax.specs.declared.listed.Listed.TheVariants.{Header, Function, Declaration}
-use Rattle.syntax.specs.declared.listed.Sought.{Sought}
-use Rattle.syntax.specs.declared.listed.Sought.TheVariants.{Entry, «Type»}
-pub use Rattle.syntax.specs.Definitions.{symbol_part}
-use Rattle.syntax.specs.TestNames.{type_name, library_name, libraries_name}
-pub use Rattle.syntax.specs.TestNames.{shell_part, entry_name}
+use Rattle.ac_tree.specs.declared.listed.Listed.{Listed}
+use Rattle.ac_tree.specs.declared.listed.Listed.TheVariants.{Header, Function, Declaration}
+use Rattle.ac_tree.specs.declared.listed.Sought.{Sought}
+use Rattle.ac_tree.specs.declared.listed.Sought.TheVariants.{Entry, «Type»}
+pub use Rattle.ac_tree.specs.Definitions.{symbol_part}
+use Rattle.ac_tree.specs.TestNames.{type_name, library_name, libraries_name}
+pub use Rattle.ac_tree.specs.TestNames.{shell_part, entry_name}
 use Rattle.meaning.specs.State.{State, with_variable, with_definition}
 use Rattle.meaning.specs.Asking.{Attempt}
 use Rattle.meaning.specs.Tests.{Row, by_attempts}
@@ -30,15 +30,15 @@ pub record Search : Type 0 where
 -- The kinds of tests: a program, what one child decides, a type, a function of a library, and a function that several
 -- libraries may have. `own` is the variable's own value, if it counts. `defines` says whether the result is defined, as the
 -- macros of lists do, and `adds` whether the library is defined and added to LIBS. (own)
-pub data Kind : Type 0 where
-  Program : (search : Search) (own : Option (List ℕ)) → Kind
-  Single : (listed : Listed) (entry : List ℕ) (includes : Option (List Part)) (defines : Bool) → Kind
-  Sized : (name : List ℕ) (includes : Option (List Part)) (defines : Bool) → Kind
-  Library : (library function : List ℕ) (others : Option (List Part)) (adds : Bool) → Kind
-  Libraries : (function : List ℕ) (libraries : List (List ℕ)) (others : Option (List Part)) → Kind
+pub data TestKind : Type 0 where
+  Program : (search : Search) (own : Option (List ℕ)) → TestKind
+  Single : (listed : Listed) (entry : List ℕ) (includes : Option (List Part)) (defines : Bool) → TestKind
+  Sized : (name : List ℕ) (includes : Option (List Part)) (defines : Bool) → TestKind
+  Library : (library function : List ℕ) (others : Option (List Part)) (adds : Bool) → TestKind
+  Libraries : (function : List ℕ) (libraries : List (List ℕ)) (others : Option (List Part)) → TestKind
 
 -- The kind of test that a macro makes of an entry. (Autoconf's manual, "Generic Headers" to "Generic Types")
-abbrev pub kind_for : Sought → List ℕ → Option (List Part) → Bool → Kind
+abbrev pub kind_for : Sought → List ℕ → Option (List Part) → Bool → TestKind
 kind_for (Entry listed) entry includes defines = Single listed entry includes defines
 kind_for «Type» entry includes defines = Sized entry includes defines
 
@@ -147,7 +147,7 @@ is_linked None = false
 is_linked (Some value) = not (bytes_eq value (codes "no"))
 
 -- The test has found what it looks for, by its value. (Autoconf's manual, "Caching Results")
-abbrev pub is_found : Kind → Option (List ℕ) → Bool
+abbrev pub is_found : TestKind → Option (List ℕ) → Bool
 is_found (Libraries function libraries others) value = is_linked value
 is_found kind value = is_yes value
 
@@ -181,7 +181,7 @@ with_entry_defined Declaration entry found st =
     with_definition (codes "HAVE_DECL_" ++ symbol_part entry) (if found then codes "1" else codes "0") st
 
 -- The name of the test. (Autoconf's manual, "Cache Variable Names")
-abbrev pub name_of : Kind → List ℕ
+abbrev pub name_of : TestKind → List ℕ
 name_of (Program s own) = s.name
 name_of (Single listed entry includes defines) = entry_name listed entry
 name_of (Sized name includes defines) = type_name name
@@ -189,7 +189,7 @@ name_of (Library library function others adds) = library_name library function
 name_of (Libraries function libraries others) = libraries_name function
 
 -- What is checked. (Autoconf's manual, "Printing Messages")
-abbrev pub message_of : Kind → List ℕ
+abbrev pub message_of : TestKind → List ℕ
 message_of (Program s own) = codes "for " ++ s.program
 message_of (Single listed entry includes defines) = entry_message listed entry
 message_of (Sized name includes defines) = codes "for " ++ name
@@ -198,7 +198,7 @@ message_of (Libraries function libraries others) = codes "for library containing
 
 -- The children of the test. A type is found if it has a size, and has none in parentheses, as a value would. A search for
 -- libraries begins with no further library. (Autoconf's manual, "Generic Programs", "Generic Types" and "Library Files")
-abbrev pub attempts_of : Kind → State → List Attempt
+abbrev pub attempts_of : TestKind → State → List Attempt
 attempts_of (Program s own) st = program_attempts own s (directories_of (value_or_empty st (codes "PATH")))
 attempts_of (Single listed entry includes defines) st =
     record { job = entry_job listed entry includes 0 st; ends_on = true; value = Some (codes "yes") } ∷ []
@@ -211,7 +211,7 @@ attempts_of (Libraries function libraries others) st =
     ∷ attempts_with function (libraries_after others st) st libraries
 
 -- The value if no child ends the test. (Autoconf's manual, "Generic Programs")
-abbrev pub otherwise_of : Kind → Option (List ℕ)
+abbrev pub otherwise_of : TestKind → Option (List ℕ)
 otherwise_of (Program s own) = first_of own s.otherwise
 otherwise_of (Single listed entry includes defines) = Some (codes "no")
 otherwise_of (Sized name includes defines) = Some (codes "yes")
@@ -219,7 +219,7 @@ otherwise_of (Library library function others adds) = Some (codes "no")
 otherwise_of (Libraries function libraries others) = Some (codes "no")
 
 -- What is printed of the value. (Autoconf's manual, "Printing Messages")
-abbrev pub shown_of : Kind → Option (List ℕ) → List ℕ
+abbrev pub shown_of : TestKind → Option (List ℕ) → List ℕ
 shown_of (Program s own) value = text_or_no (unwrap_or value [])
 shown_of (Single listed entry includes defines) value = unwrap_or value []
 shown_of (Sized name includes defines) value = unwrap_or value []
@@ -227,7 +227,7 @@ shown_of (Library library function others adds) value = unwrap_or value []
 shown_of (Libraries function libraries others) value = unwrap_or value []
 
 -- The test can begin: it needs no compiler, or there is one. (own)
-abbrev pub is_ready : Kind → State → Bool
+abbrev pub is_ready : TestKind → State → Bool
 is_ready (Program s own) st = true
 is_ready (Single listed entry includes defines) st = is_some (entry_job listed entry includes 0 st)
 is_ready (Sized name includes defines) st = is_some (type_job type_source name includes st)
@@ -237,7 +237,7 @@ is_ready (Libraries function libraries others) st = is_some (function_job functi
 -- What is done with the value: a program's variable gets it, or is set to the empty text, the macros of lists define
 -- the result, and LIBS gets a library that was found. (Autoconf's manual, "Generic Programs", "Generic Headers", "Generic
 -- Types" and "Library Files")
-abbrev pub after_of : Kind → Option (List ℕ) → State → State
+abbrev pub after_of : TestKind → Option (List ℕ) → State → State
 after_of (Program s own) value st = with_variable s.variable (unwrap_or value []) st
 after_of (Single listed entry includes true) value st = with_entry_defined listed entry (is_yes value) st
 after_of (Single listed entry includes false) value st = st
@@ -248,7 +248,7 @@ after_of (Library library function others false) value st = st
 after_of (Libraries function libraries others) value st = with_linked value st
 
 -- The test of a kind, as a statement has it. (own)
-abbrev pub row_of : Kind → State → Row
+abbrev pub row_of : TestKind → State → Row
 row_of kind st = record {
   test = record { name = name_of kind; message = message_of kind; body = by_attempts (name_of kind) (attempts_of kind st) (otherwise_of kind); shown = shown_of kind };
   ready = is_ready kind st;

@@ -1,6 +1,6 @@
 -- What statements change, and the course of a run of statements.
 use Rattle.std.specs.Prelude.{ℕ, Bool, false, List, [], ◌∷◌, ◌++◌}
-use Rattle.jobs.specs.declared.job.Job.{Job}
+use Rattle.crew_jobs.specs.declared.job.Job.{Job}
 use Rattle.crew_trait.specs.declared.entry.Entry.{Entry}
 use Rattle.crew_trait.specs.declared.entry.Entry.TheVariants.{Said, Child}
 use Rattle.crew_trait.specs.declared.reply.Reply.{Reply}

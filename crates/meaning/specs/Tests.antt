@@ -2,7 +2,7 @@
 use Rattle.std.specs.Prelude.{ℕ, Bool, true, false, List, ◌++◌, Option, Some, None, codes}
 use Rattle.deftable.specs.declared.note.Stream.TheVariants as streams
 use Rattle.deftable.specs.Table.{value_of}
-use Rattle.syntax.specs.declared.statement.Message.TheVariants.{Checking, Results}
+use Rattle.ac_tree.specs.declared.statement.Message.TheVariants.{Checking, Results}
 use Rattle.meaning.specs.Messages.{said}
 use Rattle.meaning.specs.State.{State, told, with_variable, without_variable, How, Goes_on, Completed, Stopped, Cut, Run, Ends, then_run, ended, as_is}
 use Rattle.meaning.specs.Asking.{Attempt, attempted, without_compiler}

@@ -1,12 +1,12 @@
 -- Programs that are tried (Autoconf's manual, "Running the Compiler"). The meaning always passes `as_is` for `early`.
 use Rattle.std.specs.Prelude.{ℕ, Bool, false, List, if◌then◌else◌}
-use Rattle.jobs.specs.Probe as probe
-use Rattle.csource.specs.Sources.{program_source}
+use Rattle.crew_jobs.specs.Probe as probe
+use Rattle.conftest_source.specs.Sources.{program_source}
 use Rattle.shellword.specs.Value.{word_value}
-use Rattle.syntax.specs.declared.program.Try as kinds
-use Rattle.syntax.specs.declared.program.Try.TheVariants.{Compile, Link, Preproc, Run}
-use Rattle.syntax.specs.declared.program.Program as programs
-use Rattle.syntax.specs.declared.program.Program.TheVariants.{Program, Source}
+use Rattle.ac_tree.specs.declared.program.Try as kinds
+use Rattle.ac_tree.specs.declared.program.Try.TheVariants.{Compile, Link, Preproc, Run}
+use Rattle.ac_tree.specs.declared.program.Program as programs
+use Rattle.ac_tree.specs.declared.program.Program.TheVariants.{Program, Source}
 use Rattle.meaning.specs.State as state
 use Rattle.meaning.specs.Asking.{child, compiled}
 

@@ -6,7 +6,7 @@
 //! they ask, print and leave), `specs/Rows.antt` (the kinds of tests), `specs/Batches.antt` (lists of them that
 //! are asked at once), `specs/Package.antt` (what AC_INIT sets),
 //! `specs/Tries.antt` (programs that are tried), then `specs/Meaning.antt` (the meaning of a statement and of a list of
-//! statements). `specs/Play.antt` is about a run under given replies, and its last words. The crate `laws` has theorems on
+//! statements). `specs/Play.antt` is about a run under given replies, and its last words. The crate `meaning_laws` has theorems on
 //! these definitions.
 //!
 //! The meaning of `AC_DEFINE([A],[1])` and `AC_OUTPUT`, begun with no variables and no definitions, is to complete with

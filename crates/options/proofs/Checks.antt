@@ -7,7 +7,7 @@ use Rattle.std.proofs.lemmas.Slice.Eq.{bytes_eq-Decides, slice_eq-Decides}
 use Rattle.deftable.proofs.Tables.{value_of-with_entry}
 use Rattle.deftable.specs.NameList.{has_name}
 use Rattle.deftable.specs.Table.{value_of, with_entry, names_of}
-use Rattle.textcut.specs.Cuts.{fields}
+use Rattle.text_cut.specs.Cuts.{fields}
 use Rattle.options.specs.Opening.{with_variable}
 use Rattle.options.specs.Reading.{◌>>=◌}
 use Rattle.options.specs.Precious.{old_value, IsUnchanged, unset, set, HasFault, was_set, was_unset, changed, has_other_bytes, blanks_note, have_same_fields, restored, restored_variable, restored_from}

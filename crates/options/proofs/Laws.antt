@@ -9,16 +9,16 @@ use Rattle.std.proofs.lemmas.List.Sums.{fold-append}
 use Rattle.deftable.proofs.Tables.{value_of-with_entry}
 use Rattle.deftable.specs.NameList.{has_name}
 use Rattle.deftable.specs.Table.{value_of, with_entry, names_of}
-use Rattle.commandline.proofs.Lines.{settings_given, fault_given, given_reads, Reads}
-use Rattle.commandline.specs.Arguments.{given}
-use Rattle.commandline.specs.CommandLine.{Setting, GivesSettings, IsFirstFault}
+use Rattle.options_line.proofs.Lines.{settings_given, fault_given, given_reads, Reads}
+use Rattle.options_line.specs.Arguments.{given}
+use Rattle.options_line.specs.CommandLine.{Setting, GivesSettings, IsFirstFault}
 use Rattle.options.specs.Opening.{opened_by, opening, IsOpening, of_arguments, of_options, IsOpeningFault, set_by, with_variable, with_unslashed, set_mark, with_marks, finished}
-use Rattle.commandline.specs.Directories.{directories, directory_names, variable_of}
-use Rattle.commandline.specs.Reading.{◌>>=◌}
-use Rattle.commandline.specs.Slashes.{without_slashes}
-use Rattle.commandline.specs.declared.directory.Directory.{Directory}
-use Rattle.commandline.specs.declared.directory.Directory.TheVariants.{Prefix}
-use Rattle.commandline.specs.declared.fault.OptionFault.{OptionFault}
+use Rattle.options_line.specs.Directories.{directories, directory_names, variable_of}
+use Rattle.options_line.specs.Reading.{◌>>=◌}
+use Rattle.options_line.specs.Slashes.{without_slashes}
+use Rattle.options_line.specs.declared.directory.Directory.{Directory}
+use Rattle.options_line.specs.declared.directory.Directory.TheVariants.{Prefix}
+use Rattle.options_line.specs.declared.fault.OptionFault.{OptionFault}
 use Rattle.options.specs.declared.settings.Settings.{Settings}
 
 -- ---- the settings that arguments give

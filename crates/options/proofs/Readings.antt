@@ -1,11 +1,11 @@
 -- The result of the arguments that have been read, one argument further.
 use Rattle.std.proofs.Common.{◌≡◌, ◌⊎◌, inl, inr, refl, ℕ, ◌+◌, ◌<◌, ◌≤◌, List, Result, Ok, Err, length, drop, get_or, sym, ap, ◌∙◌, arith}
 use Rattle.std.proofs.Math.ListN.{drop_of_length-le}
-use Rattle.commandline.proofs.Turns.{next_of}
+use Rattle.options_line.proofs.Turns.{next_of}
 use Rattle.options.specs.Stepwise.{with_argument, with_arguments, at_end}
-use Rattle.commandline.specs.Reading.{◌>>=◌, Fails, Gives}
-use Rattle.commandline.specs.declared.fault.OptionFault.{OptionFault}
-use Rattle.commandline.specs.declared.fault.OptionFault.TheVariants.{OutOfMemory}
+use Rattle.options_line.specs.Reading.{◌>>=◌, Fails, Gives}
+use Rattle.options_line.specs.declared.fault.OptionFault.{OptionFault}
+use Rattle.options_line.specs.declared.fault.OptionFault.TheVariants.{OutOfMemory}
 use Rattle.options.specs.declared.reader.Reader.{Reader}
 
 pub or_memory : {A : Type 0} {read : Result A OptionFault} (f : OptionFault) → Fails f read → (f ≡ OutOfMemory) ⊎ (read ≡ Err f)

@@ -6,7 +6,7 @@ use Rattle.std.specs.Cmp.Lexicographic.{pointwise}
 use Rattle.std.specs.Cmp.Derive.Mapped.{pointwise-map}
 use Rattle.std.proofs.lemmas.List.{append-nil}
 use Rattle.std.proofs.Math.ListN.{drop_of_length-le}
-use Rattle.commandline.proofs.Turns.{next_of}
+use Rattle.options_line.proofs.Turns.{next_of}
 use Rattle.options.specs.declared.fault.PreciousFault.{PreciousFault}
 use Rattle.options.specs.declared.fault.PreciousFault.TheVariants.{OutOfMemory}
 use Rattle.options.specs.Reading.{◌>>=◌, Fails}

@@ -4,20 +4,20 @@ use Rattle.deftable.specs.NameList.{has_name}
 use Rattle.deftable.specs.Table.{value_of, with_entry}
 use Rattle.deftable.specs.declared.note.Note.{Note}
 use Rattle.cachefile.specs.Line.{Setting, Sets, Defaults}
-use Rattle.commandline.specs.Arguments.{switch_of, switches, install_directory_of, target_of, package_of, choice_of, said_with_value, dashed_of, read_argument, value_in, rest_after, given}
-use Rattle.commandline.specs.CommandLine.{key_of}
-use Rattle.commandline.specs.Directories.{directories, variable_of, default_of, option_of, directory_named}
+use Rattle.options_line.specs.Arguments.{switch_of, switches, install_directory_of, target_of, package_of, choice_of, said_with_value, dashed_of, read_argument, value_in, rest_after, given}
+use Rattle.options_line.specs.CommandLine.{key_of}
+use Rattle.options_line.specs.Directories.{directories, variable_of, default_of, option_of, directory_named}
 use Rattle.options.specs.Opening.{cache_named, source_directory, setters, set_by, with_unslashed, with_marks, finished, is_declared, run_settings, opened_by, opening}
-use Rattle.commandline.specs.Slashes.{unslashed, without_slashes}
-use Rattle.commandline.specs.Srcdir.{srcdir_from, srcdir_of}
+use Rattle.options_line.specs.Slashes.{unslashed, without_slashes}
+use Rattle.options_line.specs.Srcdir.{srcdir_from, srcdir_of}
 use Rattle.options.specs.Precious.{old_value, restored, restored_variable, restored_from, blanks_note, checked}
 use Rattle.options.specs.Unrecognized.{after_comma, listed, warning, notes_of}
-use Rattle.commandline.specs.declared.fault.OptionFault.{OptionFault}
-use Rattle.commandline.specs.declared.fault.OptionFault.TheVariants.{Unknown, BadFeature, BadVariable, MissingValue, FatalUnrecognized}
+use Rattle.options_line.specs.declared.fault.OptionFault.{OptionFault}
+use Rattle.options_line.specs.declared.fault.OptionFault.TheVariants.{Unknown, BadFeature, BadVariable, MissingValue, FatalUnrecognized}
 use Rattle.options.specs.declared.fault.PreciousFault.{PreciousFault}
 use Rattle.options.specs.declared.fault.PreciousFault.TheVariants.{WasSet, WasUnset, Changed}
 use Rattle.options.specs.declared.settings.Settings.{Settings}
-use Rattle.textcut.specs.Cuts.{fields, parts_by}
+use Rattle.text_cut.specs.Cuts.{fields, parts_by}
 
 -- The opening for a source with AC_ARG_ENABLE([a-b]) and a precious variable CC.
 abbrev opened : List (List ℕ) → List (List ℕ × List ℕ) → Result Settings OptionFault

@@ -2,7 +2,7 @@
 use Rattle.std.proofs.Common.{◌≡◌, ℕ, ◌+◌, ◌<◌, ◌≤◌, Bool, List, ◌++◌, length, drop, get_or, sym, ap, ◌∙◌, append_assoc}
 use Rattle.std.proofs.lemmas.List.{drop_more, append-nil}
 use Rattle.std.proofs.Math.ListN.{drop_of_length-le}
-use Rattle.textcut.specs.Cuts.{is_blank}
+use Rattle.text_cut.specs.Cuts.{is_blank}
 use Rattle.options.specs.HelpText.{squeezed_byte, squeezed_after}
 
 pub squeezed_more : (total now next : List ℕ) (blank after : Bool) (xs : List ℕ) (i d : ℕ) → i < length xs

@@ -6,25 +6,25 @@ use mathlib.Core.Bool.{or-true, or-false}
 use Rattle.std.proofs.lemmas.List.Sums.{fold-append}
 use Rattle.deftable.specs.ShellName.{is_shell_name_of}
 use Rattle.deftable.specs.Table.{with_entry}
-use Rattle.syntax.specs.Feature.{option_variable}
-use Rattle.commandline.proofs.Lines.{alone_awaits, given_reads, Reads}
-use Rattle.commandline.proofs.Words.{option_said, setting_said}
-use Rattle.commandline.specs.Arguments.{Argument, Flag, OptionValue, OptionName, FeatureValue, VariableValue, read_argument, alone, awaited_by, and_then, given}
-use Rattle.commandline.specs.CommandLine as line
-use Rattle.commandline.specs.CommandLine.{Setting, Variable, Choice, Cache, Source, Switched, valued, GivesSettings}
-use Rattle.commandline.specs.Directories.{directories, variable_of, default_of}
+use Rattle.ac_tree.specs.Feature.{option_variable}
+use Rattle.options_line.proofs.Lines.{alone_awaits, given_reads, Reads}
+use Rattle.options_line.proofs.Words.{option_said, setting_said}
+use Rattle.options_line.specs.Arguments.{Argument, Flag, OptionValue, OptionName, FeatureValue, VariableValue, read_argument, alone, awaited_by, and_then, given}
+use Rattle.options_line.specs.CommandLine as line
+use Rattle.options_line.specs.CommandLine.{Setting, Variable, Choice, Cache, Source, Switched, valued, GivesSettings}
+use Rattle.options_line.specs.Directories.{directories, variable_of, default_of}
 use Rattle.options.specs.Opening.{last_of, cache_named, caches_in, sources_in, source_directory, is_quiet, is_no_create, is_help, is_version, variables_in, default_entry, setters, with_variable, set_by, is_declared, undeclared_in, checking_in, run_settings, opened_by, opening}
-use Rattle.commandline.specs.Reading.{◌>>=◌}
-use Rattle.commandline.specs.Slashes.{without_slashes}
-use Rattle.commandline.specs.Srcdir.{srcdir_said, srcdir_from, srcdir_of}
+use Rattle.options_line.specs.Reading.{◌>>=◌}
+use Rattle.options_line.specs.Slashes.{without_slashes}
+use Rattle.options_line.specs.Srcdir.{srcdir_said, srcdir_from, srcdir_of}
 use Rattle.options.specs.Stepwise.{with_environment, with_default, vars_before, reader_before, with_value, with_switch, with_choice, with_said, with_argument, at_end, with_arguments, settings_with, settings_after, stepwise}
 use Rattle.options.specs.Unrecognized.{notes_of}
-use Rattle.commandline.specs.declared.argument.Target.{Target}
-use Rattle.commandline.specs.declared.argument.Target.TheVariants.{InstallDirectory, Srcdir, CacheFile}
-use Rattle.commandline.specs.declared.argument.Switch.TheVariants.{Quiet, NoCreate, Help, Version, Ignored}
-use Rattle.commandline.specs.declared.directory.Directory.{Directory}
-use Rattle.commandline.specs.declared.fault.OptionFault.{OptionFault}
-use Rattle.commandline.specs.declared.fault.OptionFault.TheVariants.{MissingValue}
+use Rattle.options_line.specs.declared.argument.Target.{Target}
+use Rattle.options_line.specs.declared.argument.Target.TheVariants.{InstallDirectory, Srcdir, CacheFile}
+use Rattle.options_line.specs.declared.argument.Switch.TheVariants.{Quiet, NoCreate, Help, Version, Ignored}
+use Rattle.options_line.specs.declared.directory.Directory.{Directory}
+use Rattle.options_line.specs.declared.fault.OptionFault.{OptionFault}
+use Rattle.options_line.specs.declared.fault.OptionFault.TheVariants.{MissingValue}
 use Rattle.options.specs.declared.reader.Reader.{Reader}
 use Rattle.options.specs.declared.settings.Settings.{Settings}
 

@@ -2,9 +2,9 @@
 use Rattle.std.specs.Prelude.{ℕ, ◌-◌, Bool, false, List, [], ◌∷◌, ◌++◌, length, nat_lt, codes, if◌then◌else◌}
 use Rattle.std.specs.List.{flat_map}
 use Rattle.std.proofs.Math.ListN.{replicate}
-use Rattle.textcut.specs.Cuts.{is_blank}
-use Rattle.syntax.specs.declared.help.Help.{Help}
-use Rattle.syntax.specs.declared.help.Help.TheVariants.{Entry, Text}
+use Rattle.text_cut.specs.Cuts.{is_blank}
+use Rattle.ac_tree.specs.declared.help.Help.{Help}
+use Rattle.ac_tree.specs.declared.help.Help.TheVariants.{Entry, Text}
 
 -- A byte of a text in which each run of blanks becomes one space, after a blank or not. (own)
 abbrev pub squeezed_byte : Bool → ℕ → List ℕ

@@ -6,17 +6,17 @@ use Rattle.std.specs.Str.{bytes_eq}
 use Rattle.deftable.specs.NameList.{has_name}
 use Rattle.deftable.specs.ShellName.{is_shell_name_of}
 use Rattle.deftable.specs.Table.{value_of, with_entry}
-use Rattle.syntax.specs.Feature.{option_variable}
-use Rattle.commandline.specs.Arguments.{given}
-use Rattle.commandline.specs.CommandLine.{Setting, Variable, Choice, Cache, Source, Switched, GivesSettings, IsFirstFault}
-use Rattle.commandline.specs.Directories.{directories, variable_of, default_of}
-use Rattle.commandline.specs.Reading.{◌>>=◌}
-use Rattle.commandline.specs.Slashes.{without_slashes}
+use Rattle.ac_tree.specs.Feature.{option_variable}
+use Rattle.options_line.specs.Arguments.{given}
+use Rattle.options_line.specs.CommandLine.{Setting, Variable, Choice, Cache, Source, Switched, GivesSettings, IsFirstFault}
+use Rattle.options_line.specs.Directories.{directories, variable_of, default_of}
+use Rattle.options_line.specs.Reading.{◌>>=◌}
+use Rattle.options_line.specs.Slashes.{without_slashes}
 use Rattle.options.specs.Unrecognized.{notes_of}
 use Rattle.deftable.specs.declared.note.Note.{Note}
-use Rattle.commandline.specs.declared.argument.Switch.TheVariants.{ConfigCache, Quiet, NoCreate, Help, Version}
-use Rattle.commandline.specs.declared.directory.Directory.{Directory}
-use Rattle.commandline.specs.declared.fault.OptionFault.{OptionFault}
+use Rattle.options_line.specs.declared.argument.Switch.TheVariants.{ConfigCache, Quiet, NoCreate, Help, Version}
+use Rattle.options_line.specs.declared.directory.Directory.{Directory}
+use Rattle.options_line.specs.declared.fault.OptionFault.{OptionFault}
 use Rattle.options.specs.declared.settings.Settings.{Settings}
 
 -- ---- which setting counts

@@ -6,7 +6,7 @@ use Rattle.std.specs.Str.{bytes_eq}
 use Rattle.std.specs.Cmp.Lexicographic.{pointwise}
 use Rattle.deftable.specs.NameList.{has_name}
 use Rattle.deftable.specs.Table.{value_of, names_of}
-use Rattle.textcut.specs.Cuts.{fields}
+use Rattle.text_cut.specs.Cuts.{fields}
 use Rattle.cachefile.specs.Cache.{vars_after}
 use Rattle.cachefile.specs.Line.{Setting}
 use Rattle.options.specs.Opening.{with_variable}

@@ -2,22 +2,22 @@
 use Rattle.std.specs.Prelude.{ℕ, ◌+◌, true, false, List, [], ◌∷◌, ◌++◌, Some, None, Result, Ok, Err, fold, codes, if◌then◌else◌}
 use Rattle.deftable.specs.ShellName.{is_shell_name_of}
 use Rattle.deftable.specs.Table.{with_entry}
-use Rattle.syntax.specs.Feature.{option_variable}
-use Rattle.syntax.specs.declared.feature.OptionKind.{OptionKind}
-use Rattle.commandline.specs.Arguments.{Argument, Flag, OptionValue, OptionName, FeatureValue, BadFeatureName, VariableValue, BadVariableName, Unrecognized, read_argument}
-use Rattle.commandline.specs.Directories.{directories, variable_of, default_of}
+use Rattle.ac_tree.specs.Feature.{option_variable}
+use Rattle.ac_tree.specs.declared.feature.OptionKind.{OptionKind}
+use Rattle.options_line.specs.Arguments.{Argument, Flag, OptionValue, OptionName, FeatureValue, BadFeatureName, VariableValue, BadVariableName, Unrecognized, read_argument}
+use Rattle.options_line.specs.Directories.{directories, variable_of, default_of}
 use Rattle.options.specs.Opening.{cache_named, is_declared, checking_in, finished}
-use Rattle.commandline.specs.Reading.{◌>>=◌}
-use Rattle.commandline.specs.Srcdir.{srcdir_of}
+use Rattle.options_line.specs.Reading.{◌>>=◌}
+use Rattle.options_line.specs.Srcdir.{srcdir_of}
 use Rattle.options.specs.Unrecognized.{notes_of}
 use Rattle.deftable.specs.declared.note.Note.{Note}
-use Rattle.commandline.specs.declared.argument.Switch.{Switch}
-use Rattle.commandline.specs.declared.argument.Switch.TheVariants.{ConfigCache, Quiet, NoCreate, Help, Version, Ignored}
-use Rattle.commandline.specs.declared.argument.Target.{Target}
-use Rattle.commandline.specs.declared.argument.Target.TheVariants.{InstallDirectory, Srcdir, CacheFile}
-use Rattle.commandline.specs.declared.directory.Directory.{Directory}
-use Rattle.commandline.specs.declared.fault.OptionFault.{OptionFault}
-use Rattle.commandline.specs.declared.fault.OptionFault.TheVariants.{Unknown, BadFeature, BadVariable, MissingValue}
+use Rattle.options_line.specs.declared.argument.Switch.{Switch}
+use Rattle.options_line.specs.declared.argument.Switch.TheVariants.{ConfigCache, Quiet, NoCreate, Help, Version, Ignored}
+use Rattle.options_line.specs.declared.argument.Target.{Target}
+use Rattle.options_line.specs.declared.argument.Target.TheVariants.{InstallDirectory, Srcdir, CacheFile}
+use Rattle.options_line.specs.declared.directory.Directory.{Directory}
+use Rattle.options_line.specs.declared.fault.OptionFault.{OptionFault}
+use Rattle.options_line.specs.declared.fault.OptionFault.TheVariants.{Unknown, BadFeature, BadVariable, MissingValue}
 use Rattle.options.specs.declared.reader.Reader.{Reader}
 use Rattle.options.specs.declared.settings.Settings.{Settings}
 

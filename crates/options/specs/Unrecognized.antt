@@ -5,8 +5,8 @@ use Rattle.std.specs.List.{flat_map}
 use Rattle.std.specs.Str.{bytes_eq}
 use Rattle.deftable.specs.declared.note.Note.{Note}
 use Rattle.deftable.specs.declared.note.Stream.TheVariants as stream
-use Rattle.commandline.specs.declared.fault.OptionFault.{OptionFault}
-use Rattle.commandline.specs.declared.fault.OptionFault.TheVariants.{FatalUnrecognized}
+use Rattle.options_line.specs.declared.fault.OptionFault.{OptionFault}
+use Rattle.options_line.specs.declared.fault.OptionFault.TheVariants.{FatalUnrecognized}
 
 -- An option after a comma and a space. (own)
 unfoldable pub after_comma : ℕ × List ℕ → List ℕ

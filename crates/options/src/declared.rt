@@ -7,23 +7,23 @@ ghost use Rattle.options.specs.Precious.{checked, AreUnchanged, IsChecked, IsPre
 ghost use Rattle.options.specs.Reading.{Gives as Checks};
 ghost use Rattle.options.specs.declared.fault.PreciousFault as precious;
 ghost use Rattle.options.specs.declared.fault.PreciousFault.TheVariants.{OutOfMemory as NoMemory};
-ghost use Rattle.commandline.specs.Reading.{Gives};
-ghost use Rattle.commandline.specs.Srcdir.{srcdir_of};
-ghost use Rattle.commandline.specs.declared.fault.OptionFault as faults;
-ghost use Rattle.commandline.specs.declared.fault.OptionFault.TheVariants.{OutOfMemory};
-ghost use Rattle.syntax.specs.Lists.{lists_of};
-ghost use Rattle.syntax.specs.Script.{script_of};
+ghost use Rattle.options_line.specs.Reading.{Gives};
+ghost use Rattle.options_line.specs.Srcdir.{srcdir_of};
+ghost use Rattle.options_line.specs.declared.fault.OptionFault as faults;
+ghost use Rattle.options_line.specs.declared.fault.OptionFault.TheVariants.{OutOfMemory};
+ghost use Rattle.ac_tree.specs.Lists.{lists_of};
+ghost use Rattle.ac_tree.specs.Script.{script_of};
 ghost use Rattle.options.specs.declared.settings.Settings as settings;
 
 use crate::fault::PreciousFault;
 use crate::help::help_text_of;
 use crate::precious::check_precious_of;
 use crate::settings::{Settings, read_args_of};
+use ac_tree::Source;
 use cachefile::OldCache;
-use commandline::fault::OptionFault;
 use deftable::{Bytes, Notes, Vars};
+use options_line::fault::OptionFault;
 use std::alloc::{AllocError, Global};
-use syntax::Source;
 
 /// Returns the settings for this source of a command line and an environment. `args` are the arguments without the
 /// program's name, and `env` has the name and the value of each entry (Autoconf's manual, "Running configure Scripts";

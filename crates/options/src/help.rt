@@ -4,10 +4,10 @@ ghost use Rattle.std.specs.Prelude.{◌≡◌, ◌++◌, ◌<◌, length, IfOk, 
 ghost use Rattle.std.specs.List.{flat_map};
 ghost use Rattle.options.specs.HelpText as words;
 
+use ac_tree::{Help, HelpList};
 use deftable::Bytes;
 use std::alloc::{AllocError, Global};
-use syntax::{Help, HelpList};
-use textcut::is_blank;
+use text_cut::is_blank;
 
 /// The length in bytes of the longest left text that shares its line with the right text.
 const WIDEST_LEFT: usize = 23;

@@ -17,7 +17,7 @@
 //! cache.pour(&mut settings.vars)?;
 //! ```
 //!
-//! The crate `commandline` reads each argument: its rules say which settings arguments give, and which argument has an
+//! The crate `options_line` reads each argument: its rules say which settings arguments give, and which argument has an
 //! error. The rules here are `specs/Opening.antt` (what a run begins with), `specs/Precious.antt` (precious variables and a
 //! cache), `specs/Unrecognized.antt` and `specs/HelpText.antt`. `specs/Stepwise.antt` follows the code. `proofs/Laws.antt` and `proofs/Steps.antt` prove that it
 //! agrees with the rules, `proofs/Checks.antt` the same of precious variables, and `proofs/Rows.antt` has worked examples.
@@ -34,10 +34,10 @@ mod reader;
 mod settings;
 mod unrecognized;
 
-pub use commandline::{Directory, OptionFault, directories, srcdir_of};
 pub use declared::{check_precious, help_text, read_args};
 pub use fault::PreciousFault;
 pub use help::help_text_of;
 pub use opening::mark_name;
+pub use options_line::{Directory, OptionFault, directories, srcdir_of};
 pub use precious::check_precious_of;
 pub use settings::{Settings, read_args_of};

@@ -2,15 +2,15 @@
 
 ghost use Rattle.std.specs.Prelude.{◌≡◌, ℕ, List, [], ◌++◌, None, IfOk, OnOk, fold, codes, option_map};
 ghost use Rattle.deftable.specs.Table.{value_of};
-ghost use Rattle.commandline.specs.Directories.{directories as all_directories};
+ghost use Rattle.options_line.specs.Directories.{directories as all_directories};
 ghost use Rattle.options.specs.Opening as words;
 ghost use Rattle.options.specs.Stepwise as steps;
 
 use crate::reader::Reader;
 use crate::unrecognized::Unrecognized;
-use commandline::directory::{Directory, directories};
-use commandline::slashes::without_slashes;
 use deftable::{Bytes, Vars, is_shell_name};
+use options_line::directory::{Directory, directories};
+use options_line::slashes::without_slashes;
 use std::alloc::{AllocError, Global};
 
 #[tactic(auto, unfolding(crate::specs::Stepwise::with_environment))]

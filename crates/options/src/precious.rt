@@ -14,7 +14,7 @@ use crate::opening::mark_name;
 use cachefile::OldCache;
 use deftable::{Bytes, Note, Notes, Stream, SubstList, Vars};
 use std::alloc::{AllocError, Global};
-use textcut::fields;
+use text_cut::fields;
 
 /// Returns what the variables would be if the cache were poured over them.
 fn poured(alloc: Global, vars: &Vars, cache: &OldCache) -> Result<Vars, AllocError>

@@ -3,15 +3,15 @@
 ghost use Rattle.std.specs.Prelude.{◌≡◌, ◌+◌, ◌||◌, Option, IfOk, OnOk};
 ghost use Rattle.options.specs.Opening.{cache_named as cache_of, is_declared as declared_of};
 ghost use Rattle.options.specs.Stepwise as words;
-ghost use Rattle.commandline.specs.Reading.{Gives};
-ghost use Rattle.commandline.specs.Argument.{argument_of};
+ghost use Rattle.options_line.specs.Reading.{Gives};
+ghost use Rattle.options_line.specs.Argument.{argument_of};
 
 use crate::unrecognized::Unrecognized;
-use commandline::argument::{Argument, Choice, Switch, Target, read_argument};
-use commandline::fault::OptionFault;
+use ac_tree::option_variable;
 use deftable::{Bytes, SubstList, Vars};
+use options_line::argument::{Argument, Choice, Switch, Target, read_argument};
+use options_line::fault::OptionFault;
 use std::alloc::{AllocError, Global};
-use syntax::option_variable;
 
 /// The result of the arguments that have been read.
 #[derive(Drop)]

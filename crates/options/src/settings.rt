@@ -2,20 +2,20 @@
 
 ghost use Rattle.std.specs.Prelude.{◌≡◌, ◌≢◌, Ok, Err, IfOk, IfErr, OnOk};
 ghost use Rattle.options.specs.Opening.{checking_in, finished, opening, IsOpening, IsOpeningFault};
-ghost use Rattle.commandline.specs.Reading.{Gives};
-ghost use Rattle.commandline.specs.Srcdir.{srcdir_of};
+ghost use Rattle.options_line.specs.Reading.{Gives};
+ghost use Rattle.options_line.specs.Srcdir.{srcdir_of};
 ghost use Rattle.options.specs.Stepwise as words;
 ghost use Rattle.options.specs.Unrecognized.{notes_of};
-ghost use Rattle.commandline.specs.declared.fault.OptionFault as faults;
-ghost use Rattle.commandline.specs.declared.fault.OptionFault.TheVariants.{OutOfMemory};
+ghost use Rattle.options_line.specs.declared.fault.OptionFault as faults;
+ghost use Rattle.options_line.specs.declared.fault.OptionFault.TheVariants.{OutOfMemory};
 ghost use Rattle.options.specs.declared.settings.Settings as settings;
 
 use crate::opening::{finish_vars, reader_before};
 use crate::reader::Reader;
 use crate::unrecognized::notes_of;
-use commandline::fault::OptionFault;
-use commandline::srcdir::srcdir_of;
 use deftable::{Bytes, Notes, SubstList, Vars};
+use options_line::fault::OptionFault;
+use options_line::srcdir::srcdir_of;
 use std::alloc::{AllocError, Global};
 
 /// What a run begins with, before a cache is loaded.

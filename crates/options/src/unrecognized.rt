@@ -3,11 +3,11 @@
 ghost use Rattle.std.specs.Prelude.{◌≡◌, ℕ, List, [], ◌∷◌, ◌++◌, Ok, Some, IfOk, OnOk, OnErr, option_map};
 ghost use Rattle.std.specs.List.{flat_map};
 ghost use Rattle.std.specs.Str.{bytes_eq};
-ghost use Rattle.commandline.specs.Reading.{Gives};
+ghost use Rattle.options_line.specs.Reading.{Gives};
 ghost use Rattle.options.specs.Unrecognized as words;
 
-use commandline::fault::OptionFault;
 use deftable::{Bytes, Note, Notes, Stream};
+use options_line::fault::OptionFault;
 use std::alloc::{AllocError, Global};
 use std::marker::Model;
 

@@ -3,16 +3,16 @@ use Rattle.std.proofs.Common.{◌≡◌, ℕ, Bool, false, ◌==◌, ◌+◌, �
 use Rattle.std.proofs.lemmas.List.{drop_more, append-nil}
 use Rattle.std.proofs.lemmas.Bool.Decides.{nat_tests}
 use Rattle.shellword.specs.declared.part.Part.{Part}
-use Rattle.syntax.specs.declared.listed.Sought.{Sought}
-use Rattle.syntax.specs.declared.statement.Question.TheVariants.{ChecksEach}
-use Rattle.syntax.specs.declared.tree.Case as case
-use Rattle.syntax.specs.declared.tree.Stmt.{Stmt, Choose, CacheCheck}
-use Rattle.syntax.specs.declared.tree.Subject as what
-use Rattle.syntax.specs.declared.tree.Subject.TheVariants.{Asked}
-use Rattle.syntax.specs.declared.statement.Declares.{Declares}
-use Rattle.syntax.specs.declared.tree.Stmt.TheVariants.{Do, Choose', CacheCheck'}
-use Rattle.syntax.specs.Script.{Script, Done, stmt_then, row_script, row_cases, script_of, cases_of}
-use Rattle.syntax.proofs.ScriptLemmas.{choice_is, check_is}
+use Rattle.ac_tree.specs.declared.listed.Sought.{Sought}
+use Rattle.ac_tree.specs.declared.statement.Question.TheVariants.{ChecksEach}
+use Rattle.ac_tree.specs.declared.tree.Case as case
+use Rattle.ac_tree.specs.declared.tree.Stmt.{Stmt, Choose, CacheCheck}
+use Rattle.ac_tree.specs.declared.tree.Subject as what
+use Rattle.ac_tree.specs.declared.tree.Subject.TheVariants.{Asked}
+use Rattle.ac_tree.specs.declared.statement.Declares.{Declares}
+use Rattle.ac_tree.specs.declared.tree.Stmt.TheVariants.{Do, Choose', CacheCheck'}
+use Rattle.ac_tree.specs.Script.{Script, Done, stmt_then, row_script, row_cases, script_of, cases_of}
+use Rattle.ac_tree.proofs.ScriptLemmas.{choice_is, check_is}
 use Rattle.meaning.specs.Meaning.{rounds_asked, rounds_of}
 use Rattle.plan.specs.Walk.{Instruction, Does, Looks, Begins}
 use Rattle.plan.specs.Code.{case_code, check_code, code_after, code_each, code_of, code_of_cases, code_of_programs}

@@ -2,7 +2,7 @@
 use Rattle.std.proofs.Common.{◌≡◌, ℕ, Bool, true, false, cond, List, ◌++◌, codes, refl}
 use Rattle.std.specs.Prelude.{◌≢◌, ◌&&◌, not, Some, bytes_eq}
 use Rattle.deftable.specs.Table.{value_of, with_entry}
-use Rattle.syntax.specs.declared.listed.Listed.TheVariants.{Header, Function, Declaration}
+use Rattle.ac_tree.specs.declared.listed.Listed.TheVariants.{Header, Function, Declaration}
 use Rattle.meaning.specs.Rows.{Single, Sized, Library, Libraries, defined_if, is_linked, is_yes, symbol_part, with_library, with_library_if}
 use Rattle.meaning.specs.State.{State}
 use Rattle.meaning.proofs.Values.{not_same, value_there}

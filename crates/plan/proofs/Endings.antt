@@ -1,24 +1,24 @@
 -- What follows the end of a run, and what is done there.
 use Rattle.std.proofs.Common.{◌≡◌, ℕ, Option, Some, None, List, [], ◌∷◌, Bool, true, false, refl, ap, ◌∙◌}
 use Rattle.std.proofs.Math.Path.{fun_ext}
-use Rattle.jobs.specs.declared.job.Job.{Job}
-use Rattle.jobs.specs.Probe.{run_of, job_of}
+use Rattle.crew_jobs.specs.declared.job.Job.{Job}
+use Rattle.crew_jobs.specs.Probe.{run_of, job_of}
 use Rattle.crew_trait.specs.declared.reply.Reply.{Reply}
 use Rattle.deftable.specs.Table.{value_of}
 use Rattle.deftable.specs.declared.note.Stream.TheVariants.{Err}
 use Rattle.shellword.specs.declared.part.Part.{Part}
-use Rattle.syntax.specs.declared.feature.OptionKind.{OptionKind}
-use Rattle.syntax.specs.declared.statement.Question as asks
-use Rattle.syntax.specs.declared.statement.Question.TheVariants as questions
-use Rattle.syntax.specs.declared.statement.Question.TheVariants.{Given, Tries, Checks, ChecksEach}
-use Rattle.syntax.specs.declared.listed.Sought.{Sought}
-use Rattle.syntax.specs.declared.program.Try as kinds
-use Rattle.syntax.specs.declared.program.Try.TheVariants as kinds_are
-use Rattle.syntax.specs.declared.tree.Subject as what
-use Rattle.syntax.specs.declared.tree.Subject.TheVariants.{Nothing, Word, Asked}
+use Rattle.ac_tree.specs.declared.feature.OptionKind.{OptionKind}
+use Rattle.ac_tree.specs.declared.statement.Question as asks
+use Rattle.ac_tree.specs.declared.statement.Question.TheVariants as questions
+use Rattle.ac_tree.specs.declared.statement.Question.TheVariants.{Given, Tries, Checks, ChecksEach}
+use Rattle.ac_tree.specs.declared.listed.Sought.{Sought}
+use Rattle.ac_tree.specs.declared.program.Try as kinds
+use Rattle.ac_tree.specs.declared.program.Try.TheVariants as kinds_are
+use Rattle.ac_tree.specs.declared.tree.Subject as what
+use Rattle.ac_tree.specs.declared.tree.Subject.TheVariants.{Nothing, Word, Asked}
 use Rattle.meaning.specs.State.{State, Scope, answered, told, with_child, How, Goes_on, Completed, Stopped, Cut, Run, Ends, Asks, then_run, ended}
 use Rattle.meaning.specs.Meaning.{given, found_by, first_found, asked, begun}
-use Rattle.meaning.specs.Rows.{Kind, Library, Libraries, kind_for, name_of, is_found, row_of}
+use Rattle.meaning.specs.Rows.{TestKind, Library, Libraries, kind_for, name_of, is_found, row_of}
 use Rattle.meaning.specs.Asking.{success, only_reply, heard, child, no_compiler, compiled}
 use Rattle.meaning.specs.Tries.{first_probe, after_first, text_of}
 use Rattle.meaning.specs.Tests.{broken, guarded, tested}
@@ -122,7 +122,7 @@ run_carried f early other c (Ends Cut st) go = c.cut st
 run_carried f early other c (Asks jobs ask) go =
     c.asks jobs (λ replies. then_run (ended early (ask replies)) go) ∙ ap (Asks jobs) (fun_ext (λ replies. run_carried f early other c (ask replies) go))
 
-found_carried : (f : Run → Run) (early other : How → State → State) → Carries f early other → (kind : Kind) (st : State) (go : Scope → State → Run)
+found_carried : (f : Run → Run) (early other : How → State → State) → Carries f early other → (kind : TestKind) (st : State) (go : Scope → State → Run)
     → f (found_by early kind st go) ≡ found_by other kind st (λ scope now. f (go scope now))
 found_carried f early other c kind st go =
     run_carried f early other c (tested (row_of kind st) st) (λ now. go (answered (is_found kind (value_of now.vars (name_of kind)))) now)

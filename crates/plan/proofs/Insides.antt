@@ -2,15 +2,15 @@
 use Rattle.std.proofs.Common.{◌≡◌, ◌*◌, ◌+◌, ℕ, ◌≤◌, List, [], ◌∷◌, ◌++◌, length, map, Option, Some, None, Bool, true, false, refl, sym, arith, append_assoc, length-append, subst}
 use Rattle.std.proofs.lemmas.List.{append-nil, length-map}
 use Rattle.shellword.specs.declared.part.Part.{Part}
-use Rattle.syntax.specs.declared.listed.Sought.{Sought}
-use Rattle.syntax.specs.declared.listed.Sought.TheVariants.{Entry, «Type»}
-use Rattle.syntax.specs.declared.statement.Question.TheVariants.{Tries, Checks, ChecksEach}
-use Rattle.syntax.specs.declared.program.Try.TheVariants as kinds_are
-use Rattle.syntax.specs.declared.statement.Effect.{Effect}
-use Rattle.syntax.specs.declared.statement.Effect.TheVariants.{Searches}
-use Rattle.syntax.specs.declared.tree.Subject as what
-use Rattle.syntax.specs.declared.tree.Subject.TheVariants.{Asked}
-use Rattle.syntax.specs.Script.{Script, Done, Then, Choice, Check, Cases, No_case, Case}
+use Rattle.ac_tree.specs.declared.listed.Sought.{Sought}
+use Rattle.ac_tree.specs.declared.listed.Sought.TheVariants.{Entry, «Type»}
+use Rattle.ac_tree.specs.declared.statement.Question.TheVariants.{Tries, Checks, ChecksEach}
+use Rattle.ac_tree.specs.declared.program.Try.TheVariants as kinds_are
+use Rattle.ac_tree.specs.declared.statement.Effect.{Effect}
+use Rattle.ac_tree.specs.declared.statement.Effect.TheVariants.{Searches}
+use Rattle.ac_tree.specs.declared.tree.Subject as what
+use Rattle.ac_tree.specs.declared.tree.Subject.TheVariants.{Asked}
+use Rattle.ac_tree.specs.Script.{Script, Done, Then, Choice, Check, Cases, No_case, Case}
 use Rattle.meaning.specs.Meaning.{rounds_of}
 use Rattle.plan.specs.Walk.{Instruction, Begins, Skips, Closes}
 use Rattle.plan.specs.Code.{case_code, check_code, code_after, code_each, code_of, code_of_cases, code_of_programs, default_code}

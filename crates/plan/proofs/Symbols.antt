@@ -7,15 +7,15 @@ use Rattle.std.proofs.lemmas.List.Sums.{AllPass-from_list_all}
 use Rattle.deftable.specs.ShellName.{IsShellName, continues_name, is_shell_name_of}
 use Rattle.m4quote.specs.Names.{cpp_byte}
 use Rattle.m4quote.specs.Text.{is_word_byte}
-use Rattle.syntax.specs.declared.listed.Listed.{Listed}
-use Rattle.syntax.specs.declared.listed.Listed.TheVariants.{Header, Function, Declaration}
-use Rattle.syntax.specs.declared.statement.Effect.TheVariants.{Batch}
-use Rattle.syntax.specs.declared.statement.Question.TheVariants as questions
-use Rattle.syntax.specs.declared.statement.Question.TheVariants.{Given, Tries, Checks, ChecksEach}
-use Rattle.syntax.specs.declared.tree.Subject as subject
-use Rattle.syntax.specs.declared.tree.Subject.TheVariants.{Nothing, Word, Asked}
+use Rattle.ac_tree.specs.declared.listed.Listed.{Listed}
+use Rattle.ac_tree.specs.declared.listed.Listed.TheVariants.{Header, Function, Declaration}
+use Rattle.ac_tree.specs.declared.statement.Effect.TheVariants.{Batch}
+use Rattle.ac_tree.specs.declared.statement.Question.TheVariants as questions
+use Rattle.ac_tree.specs.declared.statement.Question.TheVariants.{Given, Tries, Checks, ChecksEach}
+use Rattle.ac_tree.specs.declared.tree.Subject as subject
+use Rattle.ac_tree.specs.declared.tree.Subject.TheVariants.{Nothing, Word, Asked}
 use Rattle.shellword.specs.declared.part.Part.{Part}
-use Rattle.meaning.specs.Rows.{Kind, Program, Single, Sized, Library, Libraries, kind_for, symbol_part}
+use Rattle.meaning.specs.Rows.{TestKind, Program, Single, Sized, Library, Libraries, kind_for, symbol_part}
 use Rattle.plan.specs.Names.{DefinesAbout, DefinesBy, DefinesName, entry_definition, package_names}
 
 pick : (c : Bool) (a b : ℕ) → (c ≡ true → continues_name a ≡ true) → (c ≡ false → continues_name b ≡ true) → continues_name (cond c a b) ≡ true
@@ -58,7 +58,7 @@ entry_defines Function entry = have_name entry
 entry_defines Declaration entry = declared_name entry
 
 -- Whatever the kind of a test.
-pub kind_defines : (kind : Kind) → DefinesBy kind
+pub kind_defines : (kind : TestKind) → DefinesBy kind
 kind_defines (Program search own) = tt
 kind_defines (Single listed entry includes true) = entry_defines listed entry
 kind_defines (Single listed entry includes false) = tt

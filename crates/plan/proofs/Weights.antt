@@ -4,15 +4,15 @@ use Rattle.std.proofs.Math.Nat.{mul-zero, mul-suc}
 use Rattle.std.proofs.lemmas.List.{drop_more}
 use Rattle.std.proofs.lemmas.Bool.{true≢false}
 use Rattle.shellword.specs.declared.part.Part.{Part}
-use Rattle.syntax.specs.declared.statement.Declares.{Declares}
-use Rattle.syntax.specs.declared.statement.Effect.{Effect}
-use Rattle.syntax.specs.declared.statement.Effect.TheVariants.{Searches}
-use Rattle.syntax.specs.declared.tree.Case as case
-use Rattle.syntax.specs.declared.tree.Stmt.{Stmt, Choose, CacheCheck}
-use Rattle.syntax.specs.declared.tree.Subject as what
-use Rattle.syntax.specs.declared.tree.Stmt.TheVariants as stmt
-use Rattle.syntax.specs.Script.{Script, Done, Then, Choice, Check, Cases, No_case, Case, stmt_then, script_of, cases_of}
-use Rattle.syntax.proofs.ScriptLemmas.{choice_is, check_is}
+use Rattle.ac_tree.specs.declared.statement.Declares.{Declares}
+use Rattle.ac_tree.specs.declared.statement.Effect.{Effect}
+use Rattle.ac_tree.specs.declared.statement.Effect.TheVariants.{Searches}
+use Rattle.ac_tree.specs.declared.tree.Case as case
+use Rattle.ac_tree.specs.declared.tree.Stmt.{Stmt, Choose, CacheCheck}
+use Rattle.ac_tree.specs.declared.tree.Subject as what
+use Rattle.ac_tree.specs.declared.tree.Stmt.TheVariants as stmt
+use Rattle.ac_tree.specs.Script.{Script, Done, Then, Choice, Check, Cases, No_case, Case, stmt_then, script_of, cases_of}
+use Rattle.ac_tree.proofs.ScriptLemmas.{choice_is, check_is}
 use Rattle.meaning.specs.Meaning.{rounds_of}
 use Rattle.plan.specs.Walk.{Instruction, Skips, Closes}
 use Rattle.plan.specs.Weight.{entries_of, entries_asked, times, weight, weight_of_cases}

@@ -1,7 +1,7 @@
 -- What a test defines.
 use Rattle.std.specs.Prelude.{◌≡◌, ◌≢◌, ℕ, List, Option, Some, None}
 use Rattle.deftable.specs.Table.{value_of}
-use Rattle.meaning.specs.Rows.{Kind, after_of}
+use Rattle.meaning.specs.Rows.{TestKind, after_of}
 use Rattle.meaning.specs.State.{State}
 use Rattle.plan.specs.Names.{definition}
 
@@ -12,4 +12,4 @@ DefinesOnly (Some name) old new = (other : List ℕ) → other ≢ name → valu
 
 -- Whatever the value of a test, what is done with it defines no name but that of the test's kind. (own)
 abbrev pub DefinesItsName : Type 0
-DefinesItsName = (kind : Kind) (value : Option (List ℕ)) (st : State) → DefinesOnly (definition kind) st.defs (after_of kind value st).defs
+DefinesItsName = (kind : TestKind) (value : Option (List ℕ)) (st : State) → DefinesOnly (definition kind) st.defs (after_of kind value st).defs

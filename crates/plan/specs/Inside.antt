@@ -1,14 +1,14 @@
 -- Every jump of a plan goes forward and stays inside, and how many jobs a plan may ask for.
 use Rattle.std.specs.Prelude.{ℕ, zero, suc, ◌+◌, ◌≤◌, List, [], ◌∷◌, length}
-use Rattle.syntax.specs.declared.listed.Sought as sought
-use Rattle.syntax.specs.declared.listed.Sought.TheVariants.{Entry, «Type»}
-use Rattle.syntax.specs.declared.statement.Effect.{Effect}
-use Rattle.syntax.specs.declared.statement.Effect.TheVariants.{Search, Batch}
-use Rattle.syntax.specs.declared.statement.Question.TheVariants.{Given, Tries, Checks, ChecksEach, Library, Libraries}
-use Rattle.syntax.specs.declared.program.Try as kinds
-use Rattle.syntax.specs.declared.program.Try.TheVariants.{Compile, Link, Preproc, Run}
-use Rattle.syntax.specs.declared.tree.Subject as subject
-use Rattle.syntax.specs.declared.tree.Subject.TheVariants.{Nothing, Word, Asked}
+use Rattle.ac_tree.specs.declared.listed.Sought as sought
+use Rattle.ac_tree.specs.declared.listed.Sought.TheVariants.{Entry, «Type»}
+use Rattle.ac_tree.specs.declared.statement.Effect.{Effect}
+use Rattle.ac_tree.specs.declared.statement.Effect.TheVariants.{Search, Batch}
+use Rattle.ac_tree.specs.declared.statement.Question.TheVariants.{Given, Tries, Checks, ChecksEach, Library, Libraries}
+use Rattle.ac_tree.specs.declared.program.Try as kinds
+use Rattle.ac_tree.specs.declared.program.Try.TheVariants.{Compile, Link, Preproc, Run}
+use Rattle.ac_tree.specs.declared.tree.Subject as subject
+use Rattle.ac_tree.specs.declared.tree.Subject.TheVariants.{Nothing, Word, Asked}
 use Rattle.plan.specs.Walk.{Instruction, Does, Looks, Defaults, Begins, Skips_unless, Skips, Opens, Closes}
 
 -- How many steps a step may pass. (own)

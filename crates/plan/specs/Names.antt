@@ -1,21 +1,21 @@
 -- The names that a plan defines.
 use Rattle.std.specs.Prelude.{ℕ, true, false, List, [], ◌∷◌, Option, Some, None, All, IfSome, codes}
 use Rattle.deftable.specs.ShellName.{IsShellName}
-use Rattle.syntax.specs.declared.listed.Sought.TheVariants as sought
-pub use Rattle.syntax.specs.Definitions.{entry_definition, sought_definition, library_definition}
-use Rattle.syntax.specs.declared.statement.Effect.{Effect}
-use Rattle.syntax.specs.declared.statement.Effect.TheVariants.{Define, DefineText, Package, Batch}
-use Rattle.syntax.specs.declared.statement.Question as asks
-use Rattle.syntax.specs.declared.statement.Question.TheVariants as questions
-use Rattle.syntax.specs.declared.statement.Question.TheVariants.{Given, Tries, Checks, ChecksEach}
-use Rattle.syntax.specs.declared.tree.Subject as subject
-use Rattle.syntax.specs.declared.tree.Subject.TheVariants.{Nothing, Word, Asked}
-use Rattle.meaning.specs.Rows.{Kind, Program, Single, Sized, Library, Libraries, kind_for}
+use Rattle.ac_tree.specs.declared.listed.Sought.TheVariants as sought
+pub use Rattle.ac_tree.specs.Definitions.{entry_definition, sought_definition, library_definition}
+use Rattle.ac_tree.specs.declared.statement.Effect.{Effect}
+use Rattle.ac_tree.specs.declared.statement.Effect.TheVariants.{Define, DefineText, Package, Batch}
+use Rattle.ac_tree.specs.declared.statement.Question as asks
+use Rattle.ac_tree.specs.declared.statement.Question.TheVariants as questions
+use Rattle.ac_tree.specs.declared.statement.Question.TheVariants.{Given, Tries, Checks, ChecksEach}
+use Rattle.ac_tree.specs.declared.tree.Subject as subject
+use Rattle.ac_tree.specs.declared.tree.Subject.TheVariants.{Nothing, Word, Asked}
+use Rattle.meaning.specs.Rows.{TestKind, Program, Single, Sized, Library, Libraries, kind_for}
 use Rattle.plan.specs.Walk.{Instruction, Does, Looks, Defaults, Begins, Skips_unless, Skips, Opens, Closes}
 
 -- The name that a test of this kind defines, if it defines one: that of an entry, `HAVE_` and a type, or `HAVE_LIB` and a
 -- library. (Autoconf's manual, "Generic Headers" to "Generic Types" and "Library Files")
-abbrev pub definition : Kind → Option (List ℕ)
+abbrev pub definition : TestKind → Option (List ℕ)
 definition (Program search own) = None
 definition (Single listed entry includes true) = Some (entry_definition listed entry)
 definition (Single listed entry includes false) = None
@@ -26,7 +26,7 @@ definition (Library library function others false) = None
 definition (Libraries function libraries others) = None
 
 -- The name that a test of this kind defines, if any, has the form of one. (own)
-abbrev pub DefinesBy : Kind → Type 0
+abbrev pub DefinesBy : TestKind → Type 0
 DefinesBy kind = IfSome (definition kind) IsShellName
 
 -- The names that AC_INIT defines. (Autoconf's manual, "Initializing configure")

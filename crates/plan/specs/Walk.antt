@@ -3,13 +3,13 @@ use Rattle.std.specs.Prelude.{◌≡◌, ℕ, zero, suc, Bool, List, [], ◌∷�
 use Rattle.deftable.specs.Table.{value_of}
 use Rattle.shellword.specs.declared.part.Part.{Part}
 use Rattle.shellword.specs.Value.{word_value}
-use Rattle.syntax.specs.declared.statement.Effect as what
-use Rattle.syntax.specs.declared.statement.Effect.TheVariants.{Searches}
-use Rattle.syntax.specs.declared.statement.Question.TheVariants.{ChecksEach}
-use Rattle.syntax.specs.declared.tree.Subject as subject
-use Rattle.syntax.specs.declared.tree.Subject.TheVariants.{Asked}
-use Rattle.syntax.specs.declared.tree.When.{When}
-use Rattle.syntax.specs.Script.{Script}
+use Rattle.ac_tree.specs.declared.statement.Effect as what
+use Rattle.ac_tree.specs.declared.statement.Effect.TheVariants.{Searches}
+use Rattle.ac_tree.specs.declared.statement.Question.TheVariants.{ChecksEach}
+use Rattle.ac_tree.specs.declared.tree.Subject as subject
+use Rattle.ac_tree.specs.declared.tree.Subject.TheVariants.{Asked}
+use Rattle.ac_tree.specs.declared.tree.When.{When}
+use Rattle.ac_tree.specs.Script.{Script}
 use Rattle.meaning.specs.State.{State, Scope, no_choice, Goes_on, Run, Ends, then_run}
 use Rattle.meaning.specs.Tests.{checking, with_result}
 use Rattle.plan.specs.Broken.{broken_all, guarded_all}
@@ -29,16 +29,16 @@ pub data Instruction : Type 0 where
   Closes : (name : List ℕ) → Instruction
 
 -- A step of the code. A round begins a choice about one entry of a list. (own)
-abbrev pub shown : Step → Instruction
-shown (Do effect) = Does effect.now
-shown (Look variable program always) = Looks variable.now program.now always
-shown (Default variable value) = Defaults variable.now value.now
-shown (Subject subject) = Begins subject.now
-shown (Round sought entry includes) = Begins (Asked (ChecksEach sought (entry.now ∷ []) includes.now))
-shown (SkipUnless when steps) = Skips_unless when.now steps
-shown (Skip steps) = Skips steps
-shown (Open message name steps) = Opens message.now name.now steps
-shown (Close name) = Closes name.now
+abbrev pub instruction_of : Step → Instruction
+instruction_of (Do effect) = Does effect.now
+instruction_of (Look variable program always) = Looks variable.now program.now always
+instruction_of (Default variable value) = Defaults variable.now value.now
+instruction_of (Subject subject) = Begins subject.now
+instruction_of (Round sought entry includes) = Begins (Asked (ChecksEach sought (entry.now ∷ []) includes.now))
+instruction_of (SkipUnless when steps) = Skips_unless when.now steps
+instruction_of (Skip steps) = Skips steps
+instruction_of (Open message name steps) = Opens message.now name.now steps
+instruction_of (Close name) = Closes name.now
 
 -- What an effect does in its own step; the programs of AC_CHECK_PROGS and AC_PROG_CC are steps after it. (own)
 abbrev pub own_effect : what.Effect → State → Run

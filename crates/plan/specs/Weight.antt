@@ -1,11 +1,11 @@
 -- The weight of a list of statements.
 use Rattle.std.specs.Prelude.{ℕ, zero, suc, ◌+◌, length}
-use Rattle.syntax.specs.declared.statement.Effect.{Effect}
-use Rattle.syntax.specs.declared.statement.Effect.TheVariants.{Searches, Batch}
-use Rattle.syntax.specs.declared.statement.Question.TheVariants.{Given, Tries, Checks, ChecksEach, Library, Libraries}
-use Rattle.syntax.specs.declared.tree.Subject as subject
-use Rattle.syntax.specs.declared.tree.Subject.TheVariants.{Nothing, Word, Asked}
-use Rattle.syntax.specs.Script.{Script, Done, Then, Choice, Check, Cases, No_case, Case}
+use Rattle.ac_tree.specs.declared.statement.Effect.{Effect}
+use Rattle.ac_tree.specs.declared.statement.Effect.TheVariants.{Searches, Batch}
+use Rattle.ac_tree.specs.declared.statement.Question.TheVariants.{Given, Tries, Checks, ChecksEach, Library, Libraries}
+use Rattle.ac_tree.specs.declared.tree.Subject as subject
+use Rattle.ac_tree.specs.declared.tree.Subject.TheVariants.{Nothing, Word, Asked}
+use Rattle.ac_tree.specs.Script.{Script, Done, Then, Choice, Check, Cases, No_case, Case}
 use Rattle.meaning.specs.Meaning.{rounds_of}
 
 -- The number of entries of an effect's list: programs, or what is tested at once. (own)

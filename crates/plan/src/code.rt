@@ -3,12 +3,12 @@
 ghost use Rattle.std.specs.Prelude.{◌≡◌, [], ◌∷◌, OnOk, length, map};
 ghost use Rattle.plan.specs.Inside.{IsShort, AreShort};
 ghost use Rattle.plan.specs.Names.{DefinesIn, DefinesNames};
-ghost use Rattle.plan.specs.Walk.{Does, shown};
+ghost use Rattle.plan.specs.Walk.{Does, instruction_of};
 
 use crate::step::Step;
+use ac_tree::Effect;
 use std::alloc::{AllocError, Global};
 use std::marker::Model;
-use syntax::Effect;
 
 /// Steps, with each further one put at the front. Contracts see them from the first on.
 #[derive(Drop)]
@@ -20,20 +20,20 @@ pub(crate) struct Code<'a> {
 impl<'a> Model for Code<'a> {
     ghost use Rattle.std.specs.Prelude.{List, map, reverse};
     ghost use Rattle.std.specs.Coded.{codes};
-    ghost use Rattle.syntax.specs.contracts.statement.Effect as effect;
-    ghost use Rattle.syntax.specs.contracts.tree.Subject as subject;
-    ghost use Rattle.syntax.specs.contracts.tree.When as when;
+    ghost use Rattle.ac_tree.specs.contracts.statement.Effect as effect;
+    ghost use Rattle.ac_tree.specs.contracts.tree.Subject as subject;
+    ghost use Rattle.ac_tree.specs.contracts.tree.When as when;
     ghost use Rattle.plan.specs.Inside.{AreShort};
     ghost use Rattle.plan.specs.Names.{DefinesNames};
-    ghost use Rattle.plan.specs.Walk.{Instruction, shown};
+    ghost use Rattle.plan.specs.Walk.{Instruction, instruction_of};
 
     ghost Value = { List Instruction };
 
     ghost coded = { Prim.hlevel (codes, effect.the_row.coded, subject.the_row.coded, when.the_row.coded) };
 
-    ghost view = { λ c. map shown (reverse c.steps.items) };
+    ghost view = { λ c. map instruction_of (reverse c.steps.items) };
 
-    ghost invariant = { λ c. DefinesNames (map shown (reverse c.steps.items)) × AreShort (map shown (reverse c.steps.items)) };
+    ghost invariant = { λ c. DefinesNames (map instruction_of (reverse c.steps.items)) × AreShort (map instruction_of (reverse c.steps.items)) };
 }
 
 impl<'a> Code<'a> {
@@ -49,9 +49,9 @@ impl<'a> Code<'a> {
     /// Puts a step at the front. It defines nothing, or a name that has the form of one, and a list whose entries it tests
     /// at once has at most 256.
     pub(crate) fn put(&mut self, step: Step<'a>) -> Result<(), AllocError>
-        requires names { DefinesIn (shown step) }
-        requires short { IsShort (shown step) }
-        ensures { OnOk result (self.new ≡ shown step.entry ∷ self.old) }
+        requires names { DefinesIn (instruction_of step) }
+        requires short { IsShort (instruction_of step) }
+        ensures { OnOk result (self.new ≡ instruction_of step.entry ∷ self.old) }
     {
         self.steps.push(step)?;
         Ok(())
@@ -85,7 +85,7 @@ impl<'a> Code<'a> {
 
     /// Returns the steps, from the first on.
     pub(crate) fn into_steps(self) -> Vec<Step<'a>>
-        ensures steps { map shown result.items ≡ self.entry }
+        ensures steps { map instruction_of result.items ≡ self.entry }
         ensures names { DefinesNames self.entry }
         ensures short { AreShort self.entry }
     {

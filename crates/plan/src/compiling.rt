@@ -1,7 +1,7 @@
 //! Compiles statements to a plan.
 
 ghost use Rattle.std.specs.Prelude.{◌≡◌, ◌<◌, ◌≤◌, ◌*◌, ◌^◌, ◌↔◌, Err, IfOk, length};
-ghost use Rattle.syntax.specs.Script.{script_of};
+ghost use Rattle.ac_tree.specs.Script.{script_of};
 ghost use Rattle.plan.specs.Inside.{AreShort, asks_after};
 ghost use Rattle.plan.specs.Names.{DefinesNames};
 ghost use Rattle.plan.specs.Walk.{DoesWhat};
@@ -12,8 +12,8 @@ use crate::emit::emit_all;
 use crate::fault::PlanFault;
 use crate::step::Plan;
 use crate::weight::weigh;
+use ac_tree::{Source, Stmt};
 use std::alloc::Global;
-use syntax::{Source, Stmt};
 
 const HEAVIEST: usize = 65_535;
 

@@ -2,20 +2,20 @@
 
 ghost use Rattle.std.specs.Prelude.{◌≡◌, ◌∷◌, ◌++◌, IfOk, OnOk, true};
 ghost use Rattle.meaning.specs.Meaning.{rounds_asked, rounds_of};
-ghost use Rattle.syntax.specs.declared.statement.Question.TheVariants.{ChecksEach};
-ghost use Rattle.syntax.specs.declared.tree.Subject.TheVariants.{Asked};
-ghost use Rattle.syntax.specs.Script.{Done, script_of, cases_of, stmt_then};
+ghost use Rattle.ac_tree.specs.declared.statement.Question.TheVariants.{ChecksEach};
+ghost use Rattle.ac_tree.specs.declared.tree.Subject.TheVariants.{Asked};
+ghost use Rattle.ac_tree.specs.Script.{Done, script_of, cases_of, stmt_then};
 ghost use Rattle.plan.specs.Code.{case_code, check_code, code_after, code_each, code_of, code_of_cases, code_of_programs, default_code};
 ghost use Rattle.plan.specs.Inside.{IsShort};
 ghost use Rattle.plan.specs.Names.{DefinesIn};
-ghost use Rattle.plan.specs.Walk.{shown};
+ghost use Rattle.plan.specs.Walk.{instruction_of};
 
 use crate::code::Code;
 use crate::step::Step;
+use ac_tree::{Case, Effect, Question, Sought, Stmt, Subject};
 use deftable::Bytes;
 use shellword::HereText;
 use std::alloc::{AllocError, Global};
-use syntax::{Case, Effect, Question, Sought, Stmt, Subject};
 
 /// Puts the steps of the programs that are looked for at the front.
 fn emit_programs<'a>(
@@ -172,9 +172,9 @@ fn emit_round<'a>(
     begins: Step<'a>,
     cases: &'a [Case],
 ) -> Result<(), AllocError>
-    requires names { DefinesIn (shown begins) }
-    requires short { IsShort (shown begins) }
-    ensures { OnOk result (code.new ≡ shown begins.entry ∷ (code_of_cases (cases_of cases.now) ++ code.old)) }
+    requires names { DefinesIn (instruction_of begins) }
+    requires short { IsShort (instruction_of begins) }
+    ensures { OnOk result (code.new ≡ instruction_of begins.entry ∷ (code_of_cases (cases_of cases.now) ++ code.old)) }
 {
     emit_cases(code, cases)?;
     code.put(begins)?;

@@ -1,10 +1,10 @@
 //! The steps of a plan.
 
 use crate::code::Code;
+use ac_tree::{Effect, Sought, Subject, When};
 use deftable::Bytes;
 use shellword::HereText;
 use std::marker::Model;
-use syntax::{Effect, Sought, Subject, When};
 
 /// A step of a plan. It borrows from the tree, and a jump has the number of steps that it passes.
 #[derive(Clone, Copy)]
@@ -68,10 +68,10 @@ impl Drop for Plan<'_> {
 impl<'a> Model for Plan<'a> {
     ghost use Rattle.std.specs.Prelude.{List, map, ◌≤◌, ◌^◌};
     ghost use Rattle.std.specs.Coded.{codes};
-    ghost use Rattle.syntax.specs.contracts.statement.Effect as effect;
-    ghost use Rattle.syntax.specs.contracts.tree.Subject as subject;
-    ghost use Rattle.syntax.specs.contracts.tree.When as when;
-    ghost use Rattle.plan.specs.Walk.{Instruction, shown};
+    ghost use Rattle.ac_tree.specs.contracts.statement.Effect as effect;
+    ghost use Rattle.ac_tree.specs.contracts.tree.Subject as subject;
+    ghost use Rattle.ac_tree.specs.contracts.tree.When as when;
+    ghost use Rattle.plan.specs.Walk.{Instruction, instruction_of};
     ghost use Rattle.plan.specs.Inside.{StaysInside, AreShort, AskFew, asks_after};
     ghost use Rattle.plan.specs.Names.{DefinesNames};
 
@@ -79,14 +79,14 @@ impl<'a> Model for Plan<'a> {
 
     ghost coded = { Prim.hlevel (codes, effect.the_row.coded, subject.the_row.coded, when.the_row.coded) };
 
-    ghost view = { λ p. map shown p.steps.items };
+    ghost view = { λ p. map instruction_of p.steps.items };
 
-    ghost invariant = { λ p. StaysInside (map shown p.steps.items) × DefinesNames (map shown p.steps.items) × AreShort (map shown p.steps.items) × AskFew (map shown p.steps.items) × (asks_after (map shown p.steps.items) 0 ≤ 2 ^ 36) };
+    ghost invariant = { λ p. StaysInside (map instruction_of p.steps.items) × DefinesNames (map instruction_of p.steps.items) × AreShort (map instruction_of p.steps.items) × AskFew (map instruction_of p.steps.items) × (asks_after (map instruction_of p.steps.items) 0 ≤ 2 ^ 36) };
 }
 
 impl<'a> Plan<'a> {
     ghost use Rattle.std.specs.Prelude.{◌≡◌, ◌≤◌, ◌^◌, length, map};
-    ghost use Rattle.plan.specs.Walk.{shown};
+    ghost use Rattle.plan.specs.Walk.{instruction_of};
     ghost use Rattle.plan.specs.Inside.{StaysInside, AreShort, AskFew, asks_after};
     ghost use Rattle.plan.specs.Names.{DefinesNames};
 
@@ -104,7 +104,7 @@ impl<'a> Plan<'a> {
 
     /// Returns the steps, from the first on.
     pub fn steps(&self) -> &[Step<'a>]
-        ensures steps { map shown result.now ≡ self.now }
+        ensures steps { map instruction_of result.now ≡ self.now }
         ensures inside { StaysInside self.now }
         ensures names { DefinesNames self.now }
         ensures asks { asks_after self.now 0 ≤ 2 ^ 36 }

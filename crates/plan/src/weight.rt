@@ -1,11 +1,11 @@
 //! The weight of statements.
 
 ghost use Rattle.std.specs.Prelude.{◌≡◌, ◌+◌, ◌-◌, ◌<◌, ◌≤◌, ◌∷◌, [], IfSome, IfNone, length};
-ghost use Rattle.syntax.specs.Script.{Done, script_of, cases_of, stmt_then};
+ghost use Rattle.ac_tree.specs.Script.{Done, script_of, cases_of, stmt_then};
 ghost use Rattle.meaning.specs.Meaning.{rounds_of};
 ghost use Rattle.plan.specs.Weight.{entries_asked, entries_of, times, weight, weight_of_cases};
 
-use syntax::{Case, Effect, Question, Stmt, Subject};
+use ac_tree::{Case, Effect, Question, Stmt, Subject};
 
 /// Returns what is left of `room` after the weight of the statements, or `None` if they weigh more.
 #[cycle(weigh)]

@@ -1,12 +1,12 @@
 -- A run reads no reply past those to the jobs that it asks for.
 use Rattle.std.proofs.Common.{◌≡◌, ℕ, zero, suc, ◌≤◌, List, [], ◌∷◌, length, take, drop, Some, refl, sym, ap, ◌∙◌, subst, arith, length-append}
 use Rattle.std.proofs.lemmas.List.{length-drop}
-use Rattle.jobs.specs.declared.job.Job.{Job}
+use Rattle.crew_jobs.specs.declared.job.Job.{Job}
 use Rattle.crew_trait.specs.declared.reply.Reply.{Reply}
 use Rattle.crew_trait.specs.Events.{replies_in}
 use Rattle.meaning.specs.State.{Run, Ends, Asks}
 use Rattle.meaning.specs.Play.{Played, play, after, all_jobs, first_refused}
-use Rattle.machine.specs.declared.machine.RunEnd.{RunEnd}
+use Rattle.run_machine.specs.declared.machine.RunEnd.{RunEnd}
 use Rattle.proberun.specs.Ran.{outcome_from, state_of}
 use Rattle.proberun.specs.Agreeing.{Agree, RunsAgree}
 use Rattle.proberun.proofs.RunLemmas.{length-replies}

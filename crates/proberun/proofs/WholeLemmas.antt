@@ -10,20 +10,20 @@ use Rattle.meaning.specs.State.{State, How, Goes_on, Completed, Stopped, Cut, Ru
 use Rattle.meaning.specs.Play.{play, after, all_jobs, first_refused, whole}
 use Rattle.plan.specs.Walk.{DoesWhat, empty_mind, Instruction, walk}
 use Rattle.plan.specs.Inside.{asks_after}
-use Rattle.machine.specs.declared.machine.Phase.{Phase}
-use Rattle.machine.specs.declared.machine.Phase.TheVariants as phase
-use Rattle.machine.specs.declared.machine.Turn.{Turn}
-use Rattle.machine.specs.declared.machine.Turn.TheVariants as turn
-use Rattle.machine.specs.declared.machine.RunOutcome.{RunOutcome}
-use Rattle.machine.specs.declared.machine.RunOutcome.TheVariants as outcome
-use Rattle.machine.specs.declared.machine.RunEnd.{RunEnd}
+use Rattle.run_machine.specs.declared.machine.Phase.{Phase}
+use Rattle.run_machine.specs.declared.machine.Phase.TheVariants as phase
+use Rattle.run_machine.specs.declared.machine.Turn.{Turn}
+use Rattle.run_machine.specs.declared.machine.Turn.TheVariants as turn
+use Rattle.run_machine.specs.declared.machine.RunOutcome.{RunOutcome}
+use Rattle.run_machine.specs.declared.machine.RunOutcome.TheVariants as outcome
+use Rattle.run_machine.specs.declared.machine.RunEnd.{RunEnd}
 use Rattle.run_test.specs.declared.wait.Wait.TheVariants as waits
 use Rattle.run_test.specs.Waits.{given}
-use Rattle.machine.specs.Standing.{Standing, run_under, run_in, run_at, left_in, run_left, Shows, CutsAt, Refusals, Holds, Fits, fits_in, asks_in, asks_left, Turned, outcome_of}
+use Rattle.run_machine.specs.Standing.{Standing, run_under, run_in, run_at, left_in, run_left, Shows, CutsAt, Refusals, Holds, Fits, fits_in, asks_in, asks_left, Turned, outcome_of}
 use Rattle.proberun.specs.Serving.{Served}
 use Rattle.proberun.specs.Ran.{Ran, outcome_from, state_of}
 use Rattle.proberun.specs.Progress.{Progress, Heeded, HasBegun, Moving, Leaves, WasRun}
-use Rattle.syntax.specs.Script.{Script}
+use Rattle.ac_tree.specs.Script.{Script}
 use Rattle.proberun.proofs.RunLemmas.{progress_begins, progress_same, progress_heard, progress_group, length-replies, answered_both, refused_later, no_failures}
 
 -- A machine that is ready for its next turn.

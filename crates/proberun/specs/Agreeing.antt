@@ -4,7 +4,7 @@ use Rattle.crew_trait.specs.declared.reply.Reply.{Reply}
 use Rattle.crew_trait.specs.Events.{Account, replies_in}
 use Rattle.meaning.specs.State.{Run}
 use Rattle.meaning.specs.Play.{all_jobs}
-use Rattle.machine.specs.declared.machine.RunEnd.{RunEnd}
+use Rattle.run_machine.specs.declared.machine.RunEnd.{RunEnd}
 use Rattle.proberun.specs.Ran.{Ran}
 
 -- The n-th replies are the same, for every n that both lists have. (own)

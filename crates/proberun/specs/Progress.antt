@@ -1,17 +1,17 @@
 -- How far a run over a crew is, between two groups of jobs.
 use Rattle.plan.specs.Walk.{empty_mind}
 use Rattle.std.specs.Prelude.{◌≡◌, ℕ, ◌+◌, List, [], ◌++◌, length, fold, None, IfSome, Result, Ok, Err}
-use Rattle.jobs.specs.declared.job.Job.{Job}
+use Rattle.crew_jobs.specs.declared.job.Job.{Job}
 use Rattle.crew_trait.specs.declared.reply.Reply.{Reply}
 use Rattle.crew_trait.specs.declared.event.CrewEvent.{CrewEvent}
 use Rattle.crew_trait.specs.Events.{Account, IsIdle, replies_in, flying_after}
 use Rattle.meaning.specs.State.{Run, State}
 use Rattle.meaning.specs.Play.{play, after, all_jobs, first_refused}
-use Rattle.machine.specs.declared.machine.Phase.{Phase}
-use Rattle.machine.specs.declared.machine.Phase.TheVariants as phase
-use Rattle.machine.specs.declared.machine.RunEnd.{RunEnd}
+use Rattle.run_machine.specs.declared.machine.Phase.{Phase}
+use Rattle.run_machine.specs.declared.machine.Phase.TheVariants as phase
+use Rattle.run_machine.specs.declared.machine.RunEnd.{RunEnd}
 use Rattle.run_test.specs.declared.wait.Wait.TheVariants as waits
-use Rattle.machine.specs.Standing.{Standing, outcome_of}
+use Rattle.run_machine.specs.Standing.{Standing, outcome_of}
 use Rattle.proberun.specs.Ran.{Ran}
 use Rattle.proberun.specs.Starts.{StartsAre, TakesLeast, Fills, EndsGroup, failures_in}
 

@@ -1,13 +1,13 @@
 -- A whole run over a crew.
 use Rattle.std.specs.Prelude.{◌≡◌, ℕ, ◌+◌, ◌^◌, ◌≤◌, List, ◌++◌, length, Option, Some, None}
-use Rattle.jobs.specs.declared.job.Job.{Job}
+use Rattle.crew_jobs.specs.declared.job.Job.{Job}
 use Rattle.crew_trait.specs.declared.event.CrewEvent.{CrewEvent}
 use Rattle.crew_trait.specs.Events.{Account, IsIdle, replies_in}
 use Rattle.meaning.specs.State.{State, How, Goes_on, Completed, Stopped, Cut, Run}
 use Rattle.meaning.specs.Play.{play, all_jobs, first_refused}
-use Rattle.machine.specs.declared.machine.RunOutcome.{RunOutcome}
-use Rattle.machine.specs.declared.machine.RunOutcome.TheVariants as outcome
-pub use Rattle.machine.specs.declared.machine.RunEnd.{RunEnd}
+use Rattle.run_machine.specs.declared.machine.RunOutcome.{RunOutcome}
+use Rattle.run_machine.specs.declared.machine.RunOutcome.TheVariants as outcome
+pub use Rattle.run_machine.specs.declared.machine.RunEnd.{RunEnd}
 use Rattle.proberun.specs.Starts.{StartsAre, TakesLeast, Fills, EndsGroup, failures_in}
 
 -- A run may have this many children at once. (own)

@@ -25,5 +25,5 @@ mod serving;
 mod slots;
 
 pub use agreeing::runs_agree;
-pub use machine::{Machine, RunEnd, RunOutcome as Outcome, Turn};
+pub use run_machine::{Machine, RunEnd, RunOutcome as Outcome, Turn};
 pub use running::run;

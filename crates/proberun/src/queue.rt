@@ -2,7 +2,7 @@
 
 ghost use Rattle.std.specs.Prelude.{◌≡◌, [], ◌∷◌, IfOk, IfSome, IfNone};
 
-use jobs::Job;
+use crew_jobs::Job;
 use std::alloc::{AllocError, Global};
 use std::marker::Model;
 
@@ -16,8 +16,8 @@ pub(crate) struct Queue {
 impl Model for Queue {
     ghost use Rattle.std.specs.Prelude.{List, reverse};
     ghost use Rattle.std.specs.Coded.{codes};
-    ghost use Rattle.jobs.specs.declared.job.Job.{Job};
-    ghost use Rattle.jobs.specs.contracts.job.Job as job;
+    ghost use Rattle.crew_jobs.specs.declared.job.Job.{Job};
+    ghost use Rattle.crew_jobs.specs.contracts.job.Job as job;
 
     ghost Value = { List Job };
 

@@ -2,8 +2,8 @@
 
 ghost use Rattle.std.specs.Prelude.{◌≡◌, ◌^◌, ◌≤◌, IfOk, IsSome, OnErr, OnOk, length};
 ghost use Rattle.crew_trait.specs.Events.{IsIdle, in_flight};
-ghost use Rattle.machine.specs.Standing.{outcome_of};
-ghost use Rattle.machine.specs.declared.machine.RunEnd.{RunEnd};
+ghost use Rattle.run_machine.specs.Standing.{outcome_of};
+ghost use Rattle.run_machine.specs.declared.machine.RunEnd.{RunEnd};
 ghost use Rattle.meaning.specs.Meaning.{meaning};
 ghost use Rattle.meaning.specs.Play.{whole};
 ghost use Rattle.meaning.specs.State.{opened};
@@ -12,15 +12,15 @@ ghost use Rattle.plan.specs.Walk.{DoesWhat, empty_mind, walk};
 ghost use Rattle.proberun.specs.Progress.{HasBegun, Leaves, WasRun, before_steps};
 ghost use Rattle.proberun.specs.Ran.{IsWindow, MayRun, Ran};
 ghost use Rattle.proberun.specs.Serving.{AllFree};
-ghost use Rattle.syntax.specs.Script.{Script};
+ghost use Rattle.ac_tree.specs.Script.{Script};
 
 use crate::queue::Queue;
 use crate::serving::serve;
 use crate::slots::free_slots;
 use crew_trait::Crew;
 use deftable::Vars;
-use machine::{Machine, RunEnd, Turn};
 use plan::Plan;
+use run_machine::{Machine, RunEnd, Turn};
 use std::alloc::{AllocError, Global};
 
 // For the proof only: a plan asks for at most 2^36 jobs, which the contract of `steps` says.

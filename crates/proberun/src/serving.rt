@@ -7,9 +7,9 @@ ghost use Rattle.proberun.specs.Serving.{Serving, Served, HasHeld, HeldBelow, Al
 
 use crate::queue::Queue;
 use crate::slots::{free_slot, is_idle};
+use crew_jobs::Job;
 use crew_trait::{Crew, Reply};
-use jobs::Job;
-use machine::Machine;
+use run_machine::Machine;
 
 // Returns a free slot and the next job, if there are both.
 fn next_start(slots: &[Option<usize>], jobs: &mut Queue) -> Option<(usize, Job)>

@@ -3,25 +3,25 @@ use Rattle.std.proofs.Common.{◌≡◌, ℕ, ◌<◌, ◌≤◌, Bool, true, fa
 use Rattle.std.specs.Prelude.{not, ◌||◌}
 use Rattle.std.specs.declared.alloc.AllocError.{AllocError}
 use Rattle.shellword.specs.declared.part.Part.{Part}
-use Rattle.syntax.specs.declared.listed.Listed.{Listed}
-use Rattle.syntax.specs.declared.listed.Sought.{Sought}
-use Rattle.jobs.specs.declared.job.Job.{Job}
-use Rattle.jobs.specs.Probe.{run_of}
-use Rattle.syntax.specs.declared.program.Program.{Program}
-use Rattle.syntax.specs.declared.program.Try as kinds
-use Rattle.syntax.specs.declared.program.Try.TheVariants as tries
-use Rattle.syntax.specs.declared.statement.Effect.{Effect}
-use Rattle.syntax.specs.declared.statement.Effect.TheVariants.{Search, Batch}
-use Rattle.syntax.specs.declared.statement.ProgramValue.{ProgramValue}
-use Rattle.syntax.specs.declared.statement.ProgramValue.TheVariants.{Text, FullName}
+use Rattle.ac_tree.specs.declared.listed.Listed.{Listed}
+use Rattle.ac_tree.specs.declared.listed.Sought.{Sought}
+use Rattle.crew_jobs.specs.declared.job.Job.{Job}
+use Rattle.crew_jobs.specs.Probe.{run_of}
+use Rattle.ac_tree.specs.declared.program.Program.{Program}
+use Rattle.ac_tree.specs.declared.program.Try as kinds
+use Rattle.ac_tree.specs.declared.program.Try.TheVariants as tries
+use Rattle.ac_tree.specs.declared.statement.Effect.{Effect}
+use Rattle.ac_tree.specs.declared.statement.Effect.TheVariants.{Search, Batch}
+use Rattle.ac_tree.specs.declared.statement.ProgramValue.{ProgramValue}
+use Rattle.ac_tree.specs.declared.statement.ProgramValue.TheVariants.{Text, FullName}
 use Rattle.meaning.specs.State.{State, Scope, answered, Run, Ends, Goes_on, then_run}
 use Rattle.meaning.specs.Asking.{child, compiled}
 use Rattle.meaning.specs.Meaning.{effect, begun, check_prog, has_value, first_found, program_test}
-use Rattle.meaning.specs.Rows.{Kind, kind_for}
+use Rattle.meaning.specs.Rows.{TestKind, kind_for}
 use Rattle.plan.specs.Broken.{broken_all, guarded_all}
 use Rattle.plan.specs.Inside.{asks_to_try}
 use Rattle.plan.specs.Walk.{Mind, minded}
-use Rattle.batching.specs.Runs.{list_run}
+use Rattle.run_step.specs.BatchRuns.{list_run}
 use Rattle.run_test.specs.declared.flow.Flow.{Flow}
 use Rattle.run_test.specs.declared.wait.Wait.TheVariants as waits
 use Rattle.run_test.specs.Flows.{Inside, Leads, Led, Continues}
@@ -34,8 +34,8 @@ use Rattle.run_step.specs.Openings.{search_kind, first_kind}
 use Rattle.run_step.specs.Runs.{own_run, looks_run, tries_run, first_job, found_run, round}
 
 -- A test that is opened and started continues what its kind is.
-pub opened : (f : Flow) (kind : Kind) (o : Opening) (scope about : Scope) (st now : State) (run : Inside) → ((tests : List (List ℕ)) (next : ℕ → Scope → State → Run) → kind_run kind scope st tests next ≡ run tests next)
-    → Opens kind st o → ((k : Kind) → Opens k st o → Leads f (kind_run k scope st) about now) → Leads f run about now
+pub opened : (f : Flow) (kind : TestKind) (o : Opening) (scope about : Scope) (st now : State) (run : Inside) → ((tests : List (List ℕ)) (next : ℕ → Scope → State → Run) → kind_run kind scope st tests next ≡ run tests next)
+    → Opens kind st o → ((k : TestKind) → Opens k st o → Leads f (kind_run k scope st) about now) → Leads f run about now
 opened f kind o scope about st now run e h leads = led f about now _ _ e (leads kind h)
 
 -- The test of a program, by the value that its variable gets.

@@ -2,12 +2,12 @@
 use Rattle.std.specs.Prelude.{ℕ, Bool, true, List, [], ◌∷◌, Option, Some, None}
 use Rattle.shellword.specs.declared.part.Part.{Part}
 use Rattle.shellword.specs.Value.{word_value}
-use Rattle.syntax.specs.declared.listed.Sought.{Sought}
-use Rattle.syntax.specs.declared.statement.ProgramValue.{ProgramValue}
-use Rattle.syntax.specs.declared.statement.ProgramValue.TheVariants.{Text, FullName}
-use Rattle.syntax.specs.TestNames.{search_name}
+use Rattle.ac_tree.specs.declared.listed.Sought.{Sought}
+use Rattle.ac_tree.specs.declared.statement.ProgramValue.{ProgramValue}
+use Rattle.ac_tree.specs.declared.statement.ProgramValue.TheVariants.{Text, FullName}
+use Rattle.ac_tree.specs.TestNames.{search_name}
 use Rattle.meaning.specs.Meaning.{check_prog, has_value, is_full_name}
-use Rattle.meaning.specs.Rows.{Kind, Search, kind_for, value_or_empty}
+use Rattle.meaning.specs.Rows.{TestKind, Search, kind_for, value_or_empty}
 use Rattle.meaning.specs.State.{State}
 use Rattle.run_test.specs.declared.trying.Opening.{Opening}
 use Rattle.run_test.specs.Courses.{value_in}
@@ -30,7 +30,7 @@ search_for variable program value otherwise st =
     record { variable = variable; name = search_name value variable; program = program; found = found_in value st; otherwise = value_in otherwise st }
 
 -- The kind of test of AC_CHECK_PROG and AC_PATH_PROG. (Autoconf's manual, "Generic Programs")
-abbrev pub search_kind : List ℕ → List ℕ → ProgramValue → Option (List Part) → State → Kind
+abbrev pub search_kind : List ℕ → List ℕ → ProgramValue → Option (List Part) → State → TestKind
 search_kind variable program value otherwise st = program_kind (search_for variable program value otherwise st) (counts_for value variable st) st
 
 -- The test of a program of a list. (Autoconf's manual, "Generic Programs")
@@ -38,6 +38,6 @@ abbrev pub OpensListed : List ℕ → List ℕ → State → Opening → Type 0
 OpensListed variable program st o = Opens (program_kind (check_prog variable program program None) (has_value st variable) st) st o
 
 -- The kind of test of the first entry of a list, if there is one. (own)
-abbrev pub first_kind : Sought → List (List ℕ) → Option (List Part) → Kind
+abbrev pub first_kind : Sought → List (List ℕ) → Option (List Part) → TestKind
 first_kind sought [] includes = kind_for sought [] includes true
 first_kind sought (entry ∷ more) includes = kind_for sought entry includes true

@@ -1,6 +1,6 @@
 -- What follows the replies to the jobs of a step.
 use Rattle.std.specs.Prelude.{ℕ, Bool, [], ◌∷◌, Option, None, ◌+◌, option_map, option_to_list}
-use Rattle.jobs.specs.declared.job.Job.{Job}
+use Rattle.crew_jobs.specs.declared.job.Job.{Job}
 use Rattle.crew_trait.specs.declared.reply.Reply.{Reply}
 use Rattle.meaning.specs.State.{State, Scope}
 use Rattle.meaning.specs.Asking.{heard}

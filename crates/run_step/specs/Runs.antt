@@ -1,25 +1,25 @@
 -- Runs of steps, as functions of the tests around them and of what follows them.
 use Rattle.std.specs.Prelude.{ℕ, Bool, List, [], ◌∷◌, Option, Result, IfOk, if◌then◌else◌}
 use Rattle.std.specs.declared.alloc.AllocError.{AllocError}
-use Rattle.jobs.specs.declared.job.Job.{Job}
+use Rattle.crew_jobs.specs.declared.job.Job.{Job}
 use Rattle.deftable.specs.Table.{value_of}
 use Rattle.shellword.specs.declared.part.Part.{Part}
-use Rattle.syntax.specs.declared.listed.Sought.{Sought}
-use Rattle.syntax.specs.declared.feature.OptionKind.{OptionKind}
-use Rattle.syntax.specs.declared.program.Program.{Program}
-use Rattle.syntax.specs.declared.program.Try.{Try}
-use Rattle.syntax.specs.declared.statement.Effect.{Effect}
-use Rattle.syntax.specs.declared.statement.Question.{Question}
-use Rattle.syntax.specs.declared.statement.Question.TheVariants.{ChecksEach}
-use Rattle.syntax.specs.declared.tree.Subject.{Subject}
-use Rattle.syntax.specs.declared.tree.Subject.TheVariants.{Asked}
-use Rattle.syntax.specs.declared.tree.When.{When}
+use Rattle.ac_tree.specs.declared.listed.Sought.{Sought}
+use Rattle.ac_tree.specs.declared.feature.OptionKind.{OptionKind}
+use Rattle.ac_tree.specs.declared.program.Program.{Program}
+use Rattle.ac_tree.specs.declared.program.Try.{Try}
+use Rattle.ac_tree.specs.declared.statement.Effect.{Effect}
+use Rattle.ac_tree.specs.declared.statement.Question.{Question}
+use Rattle.ac_tree.specs.declared.statement.Question.TheVariants.{ChecksEach}
+use Rattle.ac_tree.specs.declared.tree.Subject.{Subject}
+use Rattle.ac_tree.specs.declared.tree.Subject.TheVariants.{Asked}
+use Rattle.ac_tree.specs.declared.tree.When.{When}
 use Rattle.meaning.specs.Meaning.{asked, begun, found_by, given, is_taken, looks}
-use Rattle.meaning.specs.Rows.{Kind}
+use Rattle.meaning.specs.Rows.{TestKind}
 use Rattle.meaning.specs.State.{State, Scope, answered, then_run}
 use Rattle.meaning.specs.Tries.{text_of, tried}
 use Rattle.plan.specs.Broken.{broken_all, guarded_all}
-use Rattle.plan.specs.Walk.{act, minded, own_effect, shown}
+use Rattle.plan.specs.Walk.{act, minded, own_effect, instruction_of}
 use Rattle.plan.specs.declared.step.Step.{Step}
 use Rattle.run_test.specs.declared.flow.Flow.{Flow}
 use Rattle.run_test.specs.Attempts.{tried_job}
@@ -46,7 +46,7 @@ abbrev pub given_run : OptionKind → List ℕ → State → Inside
 given_run kind variable st tests next = given (value_of st.vars variable) kind st (next 0)
 
 -- A test as a question. (own)
-abbrev pub found_run : Kind → State → Inside
+abbrev pub found_run : TestKind → State → Inside
 found_run kind st tests next = found_by (broken_all tests) kind st (next 0)
 
 -- A question. (own)
@@ -68,4 +68,4 @@ skipped when scope st steps = if is_taken when scope st.vars then 0 else steps
 -- A step, with what follows it, continues as its flow says, from one subject, open tests and state to others. (own)
 abbrev pub Act : Step → Result Flow AllocError → Scope → Scope → List (List ℕ) → List (List ℕ) → State → State → Type 0
 Act step result about now before tests old new =
-    IfOk result (λ flow. Continues flow (λ next. act (shown step) next (minded about before) old) (minded now tests) new)
+    IfOk result (λ flow. Continues flow (λ next. act (instruction_of step) next (minded about before) old) (minded now tests) new)

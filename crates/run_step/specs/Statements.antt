@@ -2,7 +2,7 @@
 use Rattle.std.specs.Prelude.{ℕ, List, Some}
 use Rattle.shellword.specs.declared.part.Part.{Part}
 use Rattle.shellword.specs.Value.{word_value}
-use Rattle.syntax.specs.declared.statement.Message.{Message}
+use Rattle.ac_tree.specs.declared.statement.Message.{Message}
 use Rattle.meaning.specs.Meaning.{defaulted}
 use Rattle.meaning.specs.Messages.{said}
 use Rattle.meaning.specs.State.{State, with_definition, with_variable}

@@ -11,15 +11,15 @@ ghost use Rattle.run_test.specs.Flows.{IsStep, Led, LedOn};
 ghost use Rattle.run_test.specs.Starts.{Opens};
 ghost use Rattle.run_test.specs.declared.flow.Flow.TheVariants.{Pass};
 
+use ac_tree::{Entries, OptionKind, Program, Question, Sought, Subject, Try};
+use crew_jobs::Job;
 use deftable::Bytes;
-use jobs::Job;
+use run_state::{About, Store};
 use run_test::compiler::{job_to_try, stop_without_compiler};
 use run_test::questions::{ask_answer, ask_link};
 use run_test::{Flow, Opening, open_entry, open_libraries, open_library, start};
-use runstate::{About, Store};
 use shellword::HereText;
 use std::alloc::{AllocError, Global};
-use syntax::{Entries, OptionKind, Program, Question, Sought, Subject, Try};
 
 /// Returns the variable that gets the value of an option if the option is given.
 fn value_name(kind: OptionKind) -> &'static [u8]

@@ -5,9 +5,9 @@ ghost use Rattle.plan.specs.Walk.{outer_tests};
 ghost use Rattle.run_step.specs.Checks.{Begins, IsOpened, begun, shown_of};
 ghost use Rattle.run_test.specs.declared.flow.Flow.TheVariants.{Pass};
 
+use run_state::pieces::{begin_check, end_check, end_known_check};
+use run_state::{OpenTests, Store};
 use run_test::Flow;
-use runstate::pieces::{begin_check, end_check, end_known_check};
-use runstate::{OpenTests, Store};
 use shellword::HereText;
 use std::alloc::{AllocError, Global};
 

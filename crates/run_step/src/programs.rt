@@ -4,14 +4,14 @@ ghost use Rattle.std.specs.Prelude.{◌≡◌, IfOk};
 ghost use Rattle.run_step.specs.Openings.{OpensListed, counts_for, found_in, search_kind};
 ghost use Rattle.run_test.specs.Starts.{Opens};
 
+use ac_tree::ProgramValue;
+use ac_tree::test_names::{program_name, search_name};
 use deftable::{Bytes, Name};
+use run_state::Store;
 use run_test::entries::value_of;
 use run_test::{Opening, Search, open_program};
-use runstate::Store;
 use shellword::HereText;
 use std::alloc::{AllocError, Global};
-use syntax::ProgramValue;
-use syntax::test_names::{program_name, search_name};
 
 /// Returns the value that a variable gets if its program is found, or `None` for the full name of the program.
 fn found_in(alloc: Global, store: &Store, value: &ProgramValue) -> Result<Option<Bytes>, AllocError>

@@ -1,7 +1,7 @@
 //! What follows the replies to the jobs of a step.
 
 ghost use Rattle.std.specs.Prelude.{◌≡◌, ◌<◌, ◌+◌, ◌^◌, ◌∷◌, [], IfOk, OnOk, None, length, option_to_list};
-ghost use Rattle.jobs.specs.Probe.{run_of};
+ghost use Rattle.crew_jobs.specs.Probe.{run_of};
 ghost use Rattle.meaning.specs.Asking.{same};
 ghost use Rattle.meaning.specs.Play.{refused_after};
 ghost use Rattle.run_step.specs.Replies.{answer_run, cut_by, heard_run, one_run, refused_by, replied_run};
@@ -10,14 +10,14 @@ ghost use Rattle.run_test.specs.Runs.{question_run};
 ghost use Rattle.run_test.specs.Waits.{Awaits, cut_state, given, waits_for};
 ghost use Rattle.run_test.specs.declared.flow.Flow.TheVariants.{Cut};
 
-use batching::hear_batch;
+use crate::hear_batch;
 use conftest::run_job;
+use crew_jobs::Job;
 use crew_trait::Reply;
-use jobs::Job;
+use run_state::{About, Store};
 use run_test::questions::ask_answer;
 use run_test::replies::{log_asked, success};
 use run_test::{Flow, Wait, break_off, take_answer};
-use runstate::{About, Store};
 use std::alloc::{AllocError, Global};
 
 /// Jobs that were asked for, what is waited for, and the replies.

@@ -8,16 +8,16 @@ ghost use Rattle.run_step.specs.Runs.{own_run};
 ghost use Rattle.run_step.specs.Statements.{assigned, defined, printed, with_default};
 ghost use Rattle.run_test.specs.Flows.{IsStep, Led};
 ghost use Rattle.run_test.specs.declared.flow.Flow.TheVariants.{Complete, Pass, Stop};
-ghost use Rattle.syntax.specs.declared.statement.Message.TheVariants.{Error};
+ghost use Rattle.ac_tree.specs.declared.statement.Message.TheVariants.{Error};
 
+use crate::begin_batch;
 use crate::programs::open_search;
-use batching::begin_batch;
+use ac_tree::{Effect, Message};
+use run_state::pieces::say;
+use run_state::{About, Store, initialise};
 use run_test::{Flow, start};
-use runstate::pieces::say;
-use runstate::{About, Store, initialise};
 use shellword::{HereText, Word};
 use std::alloc::{AllocError, Global};
-use syntax::{Effect, Message};
 
 /// Sets a variable to the value of a word.
 fn assign(alloc: Global, store: &mut Store, name: &[u8], value: &Word) -> Result<(), AllocError>

@@ -3,7 +3,7 @@
 ghost use Rattle.std.specs.Prelude.{◌≡◌, ◌≤◌, IfOk, None, if◌then◌else◌};
 ghost use Rattle.meaning.specs.Meaning.{is_taken};
 ghost use Rattle.plan.specs.Inside.{asks_of, reach};
-ghost use Rattle.plan.specs.Walk.{shown};
+ghost use Rattle.plan.specs.Walk.{instruction_of};
 ghost use Rattle.run_step.specs.Runs.{Act, skipped};
 ghost use Rattle.run_test.specs.Flows.{Heeds, IsGroup, asks_now, passed};
 ghost use Rattle.run_test.specs.declared.flow.Flow.TheVariants.{Pass};
@@ -12,12 +12,12 @@ use crate::asking::{begin, begin_round};
 use crate::checks::{close_check, open_check};
 use crate::programs::open_listed_prog;
 use crate::statements::{execute, is_wanted, pass, set_default};
-use casematch::matches_any;
+use ac_tree::When;
 use plan::Step;
+use run_state::{About, OpenTests, Store};
 use run_test::{Flow, start};
-use runstate::{About, OpenTests, Store};
+use shell_case::matches_any;
 use std::alloc::{AllocError, Global};
-use syntax::When;
 
 /// Returns whether a case is taken.
 #[tactic(auto, unfolding(meaning::specs::Meaning::is_taken))]
@@ -57,8 +57,8 @@ pub fn do_step(
     tests: &mut OpenTests,
     step: &Step,
 ) -> Result<Flow, AllocError>
-    ensures within { IfOk result (λ flow. passed flow ≤ reach (shown step.now)) }
-    ensures asks { IfOk result (λ flow. asks_now flow ≤ asks_of (shown step.now)) }
+    ensures within { IfOk result (λ flow. passed flow ≤ reach (instruction_of step.now)) }
+    ensures asks { IfOk result (λ flow. asks_now flow ≤ asks_of (instruction_of step.now)) }
     ensures group { IfOk result IsGroup }
     ensures heeds { IfOk result (λ flow. Heeds flow None) }
     ensures acts { Act step.now result about.old about.new tests.old tests.new store.old store.new }

@@ -1,7 +1,7 @@
 -- Flows, and what is waited for.
 use Rattle.std.proofs.Common.{◌≡◌, ◌↔◌, ℕ, Bool, Option, None, Some, Vec, Global, ◌+◌, ◌<◌, ◌≤◌, true, List, [], ◌∷◌, length, Result, Ok, Err, IfOk, refl, sym, ap, ◌∙◌, subst, arith}
 use Rattle.std.specs.declared.alloc.AllocError.{AllocError}
-use Rattle.jobs.specs.declared.job.Job.{Job}
+use Rattle.crew_jobs.specs.declared.job.Job.{Job}
 use Rattle.crew_trait.specs.declared.reply.Reply.{Reply}
 use Rattle.meaning.specs.State.{State, Scope, Run, Asks}
 use Rattle.plan.specs.Walk.{Mind, minded}

@@ -3,7 +3,7 @@ use Rattle.std.proofs.Common.{◌≡◌, ℕ, zero, suc, ◌+◌, ◌<◌, Bool,
 use Rattle.std.specs.Prelude.{not, Option, Some, None, is_some, option_map, slice_get, drop}
 use Rattle.std.specs.declared.alloc.AllocError.{AllocError}
 use Rattle.std.proofs.Math.Path.{fun_ext}
-use Rattle.jobs.specs.declared.job.Job.{Job}
+use Rattle.crew_jobs.specs.declared.job.Job.{Job}
 use Rattle.crew_trait.specs.declared.reply.Reply.{Reply}
 use Rattle.meaning.specs.State.{State, Scope, How, with_child, Stopped, Run, Ends, Asks}
 use Rattle.meaning.specs.Tests.{checking}

@@ -1,7 +1,7 @@
 -- The directories of a path.
 use Rattle.std.proofs.Common.{◌≡◌, ℕ, zero, suc, ◌+◌, ◌-◌, ◌≤◌, ◌==◌, true, cond, List, [], ◌∷◌, length, map, take, get_or, Bor, refl, sym, ap, ◌∙◌, subst, arith}
 use Rattle.std.proofs.lemmas.List.{length-map, take-map}
-use Rattle.textcut.specs.Cuts.{parts}
+use Rattle.text_cut.specs.Cuts.{parts}
 use Rattle.meaning.specs.Directories.{ends_empty, without_last_empty, directory_of, directories_of}
 
 -- The last part.

@@ -3,15 +3,15 @@ use Rattle.std.proofs.Common.{◌≡◌, ℕ, ◌≤◌, Bool, true, false, cond
 use Rattle.std.specs.Prelude.{suc, ◌&&◌, not, bytes_eq, Option, Some, None}
 use Rattle.deftable.specs.Table.{value_of}
 use Rattle.shellword.specs.declared.part.Part.{Part}
-use Rattle.syntax.specs.declared.listed.Listed.{Listed}
-use Rattle.syntax.specs.declared.listed.Listed.TheVariants.{Header, Function, Declaration}
-use Rattle.syntax.specs.declared.listed.Sought.{Sought}
-use Rattle.syntax.specs.declared.listed.Sought.TheVariants as sought
+use Rattle.ac_tree.specs.declared.listed.Listed.{Listed}
+use Rattle.ac_tree.specs.declared.listed.Listed.TheVariants.{Header, Function, Declaration}
+use Rattle.ac_tree.specs.declared.listed.Sought.{Sought}
+use Rattle.ac_tree.specs.declared.listed.Sought.TheVariants as sought
 use Rattle.meaning.specs.State.{State, Scope, Run}
 use Rattle.meaning.specs.Directories.{directories_of}
 use Rattle.meaning.specs.Meaning.{found_by}
 use Rattle.meaning.specs.Rows as rows
-use Rattle.meaning.specs.Rows.{Kind, Search, attempt_in, row_of, kind_for, name_of, is_yes, is_linked, value_or_empty, with_library, with_library_if, with_linked, with_entry_defined, defined_if}
+use Rattle.meaning.specs.Rows.{TestKind, Search, attempt_in, row_of, kind_for, name_of, is_yes, is_linked, value_or_empty, with_library, with_library_if, with_linked, with_entry_defined, defined_if}
 use Rattle.meaning.proofs.Values.{value_there}
 use Rattle.plan.specs.Broken.{broken_all}
 use Rattle.plan.specs.Inside.{asks_to_find}
@@ -68,7 +68,7 @@ scope_is_of (rows.Library library function others adds) st value scope = refl
 scope_is_of (rows.Libraries function libraries others) st value scope = refl
 
 -- A test that is a question continues as one.
-pub question_found : (kind : Kind) (scope : Scope) (st : State) (tests : List (List ℕ)) (next : ℕ → Scope → State → Run) → is_question kind ≡ true
+pub question_found : (kind : TestKind) (scope : Scope) (st : State) (tests : List (List ℕ)) (next : ℕ → Scope → State → Run) → is_question kind ≡ true
     → kind_run kind scope st tests next ≡ found_by (broken_all tests) kind st (next 0)
 question_found (rows.Program s own) scope st tests next asks = absurd cc
 question_found (rows.Single listed entry includes defines) scope st tests next asks = refl
@@ -111,7 +111,7 @@ entry_vars false what entry found st = refl
 entry_vars true (sought.Entry listed) entry found st = have_vars listed entry found st
 entry_vars true sought.«Type» entry found st = defined_vars found _ st
 
-pub leaves : (kind : Kind) (st : State) → LeavesScope (course_of kind st)
+pub leaves : (kind : TestKind) (st : State) → LeavesScope (course_of kind st)
 leaves (rows.Program s own) st value scope now = refl
 leaves (rows.Single listed entry includes defines) st value scope now =
     ap (λ vars. scope_in (course_of (rows.Single listed entry includes defines) st) (value_of vars (name_of (rows.Single listed entry includes defines))) scope) (entry_vars defines (sought.Entry listed) entry (is_yes value) now)
@@ -125,7 +125,7 @@ leaves (rows.Libraries function libraries others) st value scope now =
 -- ---- a test whose name is set
 
 -- The values that attempts are made of don't count if the name is set.
-pub bare_known : (kind : Kind) (value : List ℕ) (scope : Scope) (st : State) (tests : List (List ℕ)) (next : ℕ → Scope → State → Run)
+pub bare_known : (kind : TestKind) (value : List ℕ) (scope : Scope) (st : State) (tests : List (List ℕ)) (next : ℕ → Scope → State → Run)
     → known_run (course_of kind st) value scope st tests next ≡ known_run (bare_of kind) value scope st tests next
 bare_known (rows.Program s own) value scope st tests next = refl
 bare_known (rows.Single listed entry includes defines) value scope st tests next = refl
@@ -135,14 +135,14 @@ bare_known (rows.Libraries function libraries others) value scope st tests next 
 
 -- ---- how many jobs a test may ask for
 
-pub bare_asks : (kind : Kind) → count_in (bare_of kind) ≤ most_of kind
+pub bare_asks : (kind : TestKind) → count_in (bare_of kind) ≤ most_of kind
 bare_asks (rows.Program s own) = omega arith
 bare_asks (rows.Single listed entry includes defines) = omega arith
 bare_asks (rows.Sized name includes defines) = omega arith
 bare_asks (rows.Library library function others adds) = omega arith
 bare_asks (rows.Libraries function libraries others) = omega arith
 
-pub course_asks : (kind : Kind) (st : State) → count_in (course_of kind st) ≤ most_of kind
+pub course_asks : (kind : TestKind) (st : State) → count_in (course_of kind st) ≤ most_of kind
 course_asks (rows.Program s None) st = few_directories (value_or_empty st (codes "PATH"))
 course_asks (rows.Program s (Some own)) st = omega arith
 course_asks (rows.Single listed entry includes defines) st = omega arith

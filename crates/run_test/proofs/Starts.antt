@@ -5,7 +5,7 @@ use Rattle.std.proofs.Math.Path.{fun_ext}
 use Rattle.deftable.specs.Table.{value_of}
 use Rattle.meaning.specs.State.{State, Scope, How, as_is, Run, Ends, Goes_on, then_run}
 use Rattle.meaning.specs.Asking.{Attempt, same, compiled, attempted, without_compiler}
-use Rattle.meaning.specs.Rows.{Kind, name_of}
+use Rattle.meaning.specs.Rows.{TestKind, name_of}
 use Rattle.meaning.specs.Tests.{Row, guarded, by_attempts, checking, with_result, with_value, may_begin, test_by, tested, tested_by}
 use Rattle.plan.specs.Broken.{broken_all, guarded_all}
 use Rattle.plan.proofs.Endings.{then_then, guarded_then, guarded_inner, Carries, then_carries, ended_carries, compiled_carried}
@@ -100,14 +100,14 @@ course_cached c st tests next scope value keeps set =
 -- ---- the test of a kind
 
 -- The test of a kind is that of its course.
-as_course : (kind : Kind) (scope : Scope) (st : State) (tests : List (List ℕ)) (next : ℕ → Scope → State → Run)
+as_course : (kind : TestKind) (scope : Scope) (st : State) (tests : List (List ℕ)) (next : ℕ → Scope → State → Run)
     → kind_run kind scope st tests next ≡ then_run (guarded_all tests (tested (row_in (course_of kind st) st) st)) (after_test (course_of kind st) (next 0) scope)
 as_course kind scope st tests next =
     let c = course_of kind st in
     ap (λ (r : Row). then_run (guarded_all tests (tested r st)) (λ now. next 0 (scope_in c (value_of now.vars r.test.name) scope) now)) (row_is kind st)
 
 -- A test of a kind begins as its course, by the value of its name.
-pub kind_starts : (kind : Kind) (value : Option (List ℕ)) (scope : Scope) (st : State) (tests : List (List ℕ)) (next : ℕ → Scope → State → Run) → value ≡ value_of st.vars (name_of kind)
+pub kind_starts : (kind : TestKind) (value : Option (List ℕ)) (scope : Scope) (st : State) (tests : List (List ℕ)) (next : ℕ → Scope → State → Run) → value ≡ value_of st.vars (name_of kind)
     → started_run value (course_by value kind st) scope st tests next ≡ kind_run kind scope st tests next
 kind_starts kind None scope st tests next is =
     let c = course_of kind st in
@@ -121,14 +121,14 @@ kind_starts kind (Some value) scope st tests next is =
     sym (as_course kind scope st tests next ∙ course_cached c st tests (next 0) scope value (leaves kind st) set ∙ bare_known kind value scope st tests next)
 
 -- How many jobs it may ask for.
-asks_by : (value : Option (List ℕ)) (kind : Kind) (st : State) → count_in (course_by value kind st) ≤ most_of kind
+asks_by : (value : Option (List ℕ)) (kind : TestKind) (st : State) → count_in (course_by value kind st) ≤ most_of kind
 asks_by None kind st = course_asks kind st
 asks_by (Some value) kind st = bare_asks kind
 
-pub opening_asks : (kind : Kind) (st : State) (o : Opening) → Opens kind st o → count_in o.course ≤ most_of kind
+pub opening_asks : (kind : TestKind) (st : State) (o : Opening) → Opens kind st o → count_in o.course ≤ most_of kind
 opening_asks kind st o h = subst (λ c. count_in c ≤ most_of kind) (sym h.course) (asks_by o.value kind st)
 
-pub opening_starts : (kind : Kind) (o : Opening) (scope : Scope) (st : State) (tests : List (List ℕ)) (next : ℕ → Scope → State → Run) → Opens kind st o
+pub opening_starts : (kind : TestKind) (o : Opening) (scope : Scope) (st : State) (tests : List (List ℕ)) (next : ℕ → Scope → State → Run) → Opens kind st o
     → started_run o.value o.course scope st tests next ≡ kind_run kind scope st tests next
 opening_starts kind o scope st tests next h =
     ap (λ c. started_run o.value c scope st tests next) h.course ∙ kind_starts kind o.value scope st tests next h.value

@@ -1,12 +1,12 @@
 -- Attempts of the code, and the jobs that they are made of.
 use Rattle.std.specs.Prelude.{◌≡◌, ◌+◌, ◌<◌, ◌^◌, ℕ, not, Bool, true, false, List, [], ◌∷◌, Some, None, Option, is_some, map, option_map, slice_get, IfSome, codes}
-use Rattle.jobs.specs.declared.job.Job.{Job}
-use Rattle.jobs.specs.Probe.{Compile, Link, job_of}
-use Rattle.csource.specs.Sources.{type_source, second_type_source}
-use Rattle.syntax.specs.declared.listed.Listed.{Listed}
-use Rattle.syntax.specs.declared.listed.Sought.{Sought}
-use Rattle.syntax.specs.declared.listed.Sought.TheVariants.{Entry, «Type»}
-use Rattle.syntax.specs.declared.program.Try.{Try}
+use Rattle.crew_jobs.specs.declared.job.Job.{Job}
+use Rattle.crew_jobs.specs.Probe.{Compile, Link, job_of}
+use Rattle.conftest_source.specs.Sources.{type_source, second_type_source}
+use Rattle.ac_tree.specs.declared.listed.Listed.{Listed}
+use Rattle.ac_tree.specs.declared.listed.Sought.{Sought}
+use Rattle.ac_tree.specs.declared.listed.Sought.TheVariants.{Entry, «Type»}
+use Rattle.ac_tree.specs.declared.program.Try.{Try}
 use Rattle.meaning.specs.State.{State}
 use Rattle.meaning.specs.Asking as asking
 use Rattle.meaning.specs.Rows.{entry_probe}

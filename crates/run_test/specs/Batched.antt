@@ -1,6 +1,6 @@
 -- The end of a batch, with the replies to its jobs.
 use Rattle.std.specs.Prelude.{ℕ, suc, Bool, true, false, ◌||◌, List, [], ◌∷◌, Option, Some, None, drop, if◌then◌else◌}
-use Rattle.jobs.specs.declared.job.Job.{Job}
+use Rattle.crew_jobs.specs.declared.job.Job.{Job}
 use Rattle.crew_trait.specs.declared.reply.Reply.{Reply}
 use Rattle.deftable.specs.Table.{value_of}
 use Rattle.meaning.specs.State.{State, with_child, Cut, Run, Ends}

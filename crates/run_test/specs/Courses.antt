@@ -1,18 +1,18 @@
 -- Tests that have begun: a column of the courses for each question.
 use Rattle.std.specs.Prelude.{ℕ, suc, Bool, true, false, ◌&&◌, List, [], ◌∷◌, ◌++◌, Option, Some, None, codes, map, option_map, unwrap_or, is_some, length}
-use Rattle.jobs.specs.Probe.{Compile, Link, job_of}
-use Rattle.csource.specs.Sources.{default_includes, function_source, type_source, second_type_source}
+use Rattle.crew_jobs.specs.Probe.{Compile, Link, job_of}
+use Rattle.conftest_source.specs.Sources.{default_includes, function_source, type_source, second_type_source}
 use Rattle.deftable.specs.Table.{with_entry}
 use Rattle.shellword.specs.declared.part.Part.{Part}
 use Rattle.shellword.specs.Value.{word_value}
-use Rattle.syntax.specs.TestNames.{sought_name}
-use Rattle.syntax.specs.declared.listed.Sought.{Sought}
-use Rattle.syntax.specs.declared.listed.Sought.TheVariants as sought
+use Rattle.ac_tree.specs.TestNames.{sought_name}
+use Rattle.ac_tree.specs.declared.listed.Sought.{Sought}
+use Rattle.ac_tree.specs.declared.listed.Sought.TheVariants as sought
 use Rattle.meaning.specs.State.{State, Scope, answered, with_variable, with_definition}
 use Rattle.meaning.specs.Asking.{Attempt}
 use Rattle.meaning.specs.Directories.{directories_of}
 use Rattle.meaning.specs.Rows as rows
-use Rattle.meaning.specs.Rows.{Kind, name_of, attempt_in, entry_message, entry_probe, first_of, text_or_no, is_yes, is_linked, with_entry_defined, defined_if, symbol_part, with_library_if, with_linked, libraries_after, value_or_empty}
+use Rattle.meaning.specs.Rows.{TestKind, name_of, attempt_in, entry_message, entry_probe, first_of, text_or_no, is_yes, is_linked, with_entry_defined, defined_if, symbol_part, with_library_if, with_linked, libraries_after, value_or_empty}
 use Rattle.meaning.specs.Tests.{Row, by_attempts, checking}
 use Rattle.plan.specs.Inside.{asks_to_find}
 use Rattle.run_test.specs.declared.course.Course.{Course}
@@ -167,7 +167,7 @@ abbrev pub value_in : Option (List Part) → State → Option (List ℕ)
 value_in text st = option_map (λ t. word_value t st.vars) text
 
 -- The course of a test of this kind that begins in this state. (own)
-abbrev pub course_of : Kind → State → Course
+abbrev pub course_of : TestKind → State → Course
 course_of (rows.Program s own) st = Program (record s { otherwise = first_of own s.otherwise }) (directories_for own st)
 course_of (rows.Single listed entry includes defines) st =
     Entry (entry_test (sought.Entry listed) entry defines) (value_in includes st)
@@ -178,7 +178,7 @@ course_of (rows.Libraries function libraries others) st =
     Libraries (name_of (rows.Libraries function libraries others)) function (libraries_after others st) libraries
 
 -- The course of a test whose name is set: it needs none of the values that attempts are made of. (own)
-abbrev pub bare_of : Kind → Course
+abbrev pub bare_of : TestKind → Course
 bare_of (rows.Program s own) = Program s []
 bare_of (rows.Single listed entry includes defines) = Entry (entry_test (sought.Entry listed) entry defines) None
 bare_of (rows.Sized name includes defines) = Entry (entry_test sought.«Type» name defines) None
@@ -186,7 +186,7 @@ bare_of (rows.Library library function others adds) = Library (name_of (rows.Lib
 bare_of (rows.Libraries function libraries others) = Libraries (name_of (rows.Libraries function libraries others)) function [] []
 
 -- The course of a test, by the value of its name. (own)
-abbrev pub course_by : Option (List ℕ) → Kind → State → Course
+abbrev pub course_by : Option (List ℕ) → TestKind → State → Course
 course_by None kind st = course_of kind st
 course_by (Some value) kind st = bare_of kind
 

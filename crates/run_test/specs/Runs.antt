@@ -1,10 +1,10 @@
 -- Runs of tests, as functions of the tests around them and of what follows them.
 use Rattle.std.specs.Prelude.{ℕ, Bool, List, ◌∷◌, Option, Some, None, if◌then◌else◌}
-use Rattle.jobs.specs.declared.job.Job.{Job}
+use Rattle.crew_jobs.specs.declared.job.Job.{Job}
 use Rattle.deftable.specs.Table.{value_of}
 use Rattle.meaning.specs.State.{State, Scope, answered, then_run}
 use Rattle.meaning.specs.Asking.{child, same, without_compiler}
-use Rattle.meaning.specs.Rows.{Kind, row_of, name_of}
+use Rattle.meaning.specs.Rows.{TestKind, row_of, name_of}
 use Rattle.meaning.specs.Tests.{checking, tested}
 use Rattle.plan.specs.Broken.{broken_all, guarded_all}
 use Rattle.run_test.specs.declared.course.Course.{Course}
@@ -16,7 +16,7 @@ use Rattle.run_test.specs.Trying.{known_in, trying, after_attempt}
 use Rattle.run_test.specs.Waits.{after_reply}
 
 -- The test of a kind. What follows it gets the subject that its course leaves. (own)
-abbrev pub kind_run : Kind → Scope → State → Inside
+abbrev pub kind_run : TestKind → Scope → State → Inside
 kind_run kind scope st tests next =
     then_run (guarded_all tests (tested (row_of kind st) st)) (λ now. next 0 (scope_in (course_of kind st) (value_of now.vars (name_of kind)) scope) now)
 

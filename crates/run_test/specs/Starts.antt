@@ -4,7 +4,7 @@ use Rattle.deftable.specs.Table.{value_of}
 use Rattle.shellword.specs.declared.part.Part.{Part}
 use Rattle.std.specs.declared.alloc.AllocError.{AllocError}
 use Rattle.meaning.specs.State.{State, Scope}
-use Rattle.meaning.specs.Rows.{Kind, Search, Program, Single, Sized, Library, Libraries, name_of, libraries_after, value_if, value_or_empty}
+use Rattle.meaning.specs.Rows.{TestKind, Search, Program, Single, Sized, Library, Libraries, name_of, libraries_after, value_if, value_or_empty}
 use Rattle.plan.specs.Inside.{most_directories}
 use Rattle.run_test.specs.declared.course.Course.{Course}
 use Rattle.run_test.specs.declared.trying.Opening.{Opening}
@@ -14,16 +14,16 @@ use Rattle.run_test.specs.Runs.{kind_run}
 use Rattle.run_test.specs.Courses.{course_by, course_of, value_in}
 
 -- An opening is that of a kind: it has the value of the test's name, and the test's course by that value. (own)
-pub record Opens (kind : Kind) (st : State) (o : Opening) : Type 0 where
+pub record Opens (kind : TestKind) (st : State) (o : Opening) : Type 0 where
   pub value : o.value ≡ value_of st.vars (name_of kind)
   pub course : o.course ≡ course_by o.value kind st
 
 -- If the opening is that of a kind, the flow continues the test of this kind, from one subject and state to others. (own)
 abbrev pub Begins : Opening → Result Flow AllocError → Scope → Scope → State → State → Type 0
-Begins o result scope about st now = (kind : Kind) → Opens kind st o → Led result (kind_run kind scope st) about now
+Begins o result scope about st now = (kind : TestKind) → Opens kind st o → Led result (kind_run kind scope st) about now
 
 -- How many jobs the test of a kind may ask for. (own)
-abbrev pub most_of : Kind → ℕ
+abbrev pub most_of : TestKind → ℕ
 most_of (Program s own) = most_directories
 most_of (Single listed entry includes defines) = 1
 most_of (Sized name includes defines) = 2
@@ -32,10 +32,10 @@ most_of (Libraries function libraries others) = 1 + length libraries
 
 -- If the opening is that of a kind, no more jobs are asked for than the test of this kind may. (own)
 abbrev pub AsksMost : Opening → State → Result Flow AllocError → Type 0
-AsksMost o st result = (kind : Kind) → Opens kind st o → IfOk result (IsStep (most_of kind) None)
+AsksMost o st result = (kind : TestKind) → Opens kind st o → IfOk result (IsStep (most_of kind) None)
 
 -- The kind of test that looks for a program. The variable's own value counts if the Boolean is true. (own)
-abbrev pub program_kind : Search → Bool → State → Kind
+abbrev pub program_kind : Search → Bool → State → TestKind
 program_kind s counts st = Program s (value_if counts (value_or_empty st s.variable))
 
 -- The course of a search in the directories of PATH. (Autoconf's manual, "Generic Programs")

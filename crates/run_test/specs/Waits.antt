@@ -1,7 +1,7 @@
 -- What a machine waits for, and what follows the replies.
 use Rattle.std.specs.Prelude.{◌≡◌, ◌<◌, ◌≤◌, ℕ, Bool, true, false, List, [], ◌∷◌, Option, Some, length, map, unwrap_or, if◌then◌else◌}
-use Rattle.jobs.specs.declared.job.Job.{Job}
-use Rattle.jobs.specs.Probe.{run_of}
+use Rattle.crew_jobs.specs.declared.job.Job.{Job}
+use Rattle.crew_jobs.specs.Probe.{run_of}
 use Rattle.crew_trait.specs.declared.reply.Reply.{Reply}
 use Rattle.crew_trait.specs.declared.reply.Reply.TheVariants.{StartRefused}
 use Rattle.meaning.specs.State.{State, Scope, answered, Cut, Run}

@@ -7,16 +7,16 @@ ghost use Rattle.run_test.specs.Courses.{includes_in};
 
 use crate::compiler::{job_to_try, job_with};
 use crate::course::{Course, Search};
+use ac_tree::{Listed, Sought, Try};
 use conftest::path_job;
-use csource::{
+use conftest_source::{
     declaration_source, default_includes, function_source, header_source, second_type_source,
     type_source,
 };
+use crew_jobs::Job;
 use deftable::Bytes;
-use jobs::Job;
-use runstate::Store;
+use run_state::Store;
 use std::alloc::{AllocError, Global};
-use syntax::{Listed, Sought, Try};
 
 /// An attempt with its job, if there is a compiler for it. If the child's success is `ends_on`, the test ends with the
 /// value.

@@ -8,13 +8,13 @@ ghost use Rattle.run_test.specs.Attempts.{job_with, tried_job};
 ghost use Rattle.run_test.specs.declared.flow.Flow.TheVariants.{Stop};
 
 use crate::flow::Flow;
+use ac_tree::Try;
 use conftest::{JobFault, compile_job, link_job, link_job_with, preproc_job};
+use crew_jobs::Job;
 use deftable::Bytes;
-use jobs::Job;
-use runstate::Store;
-use runstate::pieces::report_no_compiler;
+use run_state::Store;
+use run_state::pieces::report_no_compiler;
 use std::alloc::{AllocError, Global};
-use syntax::Try;
 
 /// Returns the first job of a program that is tried, with this number, or `None` if there is no compiler.
 pub fn job_to_try(

@@ -2,9 +2,9 @@
 
 ghost use Rattle.std.specs.Prelude.{◌≡◌, ◌+◌, ◌<◌, ◌^◌, Some};
 
+use ac_tree::Sought;
 use deftable::{Bytes, Texts};
 use std::marker::Model;
-use syntax::Sought;
 
 /// A search for a program, which sets a variable. Contracts see it as `meaning` defines it.
 pub struct Search {

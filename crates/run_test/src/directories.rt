@@ -5,9 +5,9 @@ ghost use Rattle.meaning.specs.Directories.{ends_empty, directory_of, directorie
 ghost use Rattle.meaning.specs.Rows.{value_or_empty};
 
 use deftable::{Bytes, Texts};
-use runstate::Store;
+use run_state::Store;
 use std::alloc::{AllocError, Global};
-use textcut::parts;
+use text_cut::parts;
 
 /// The largest number of directories that a search tries (own).
 const MOST_DIRECTORIES: usize = 65_536;

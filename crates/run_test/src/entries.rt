@@ -10,15 +10,15 @@ ghost use Rattle.run_test.specs.Entries.{begun, decided, digit_of, entry_result,
 use crate::attempts::{includes_of, listed_job};
 use crate::course::EntryTest;
 use crate::loan::Loan;
+use ac_tree::definitions::sought_definition;
+use ac_tree::test_names::sought_name;
+use ac_tree::{Listed, Sought};
+use crew_jobs::Job;
 use deftable::Bytes;
-use jobs::Job;
-use runstate::Store;
-use runstate::pieces::{begin_declaration, begin_search, break_test, end_check, end_known_check};
+use run_state::Store;
+use run_state::pieces::{begin_declaration, begin_search, break_test, end_check, end_known_check};
 use shellword::HereText;
 use std::alloc::{AllocError, Global};
-use syntax::definitions::sought_definition;
-use syntax::test_names::sought_name;
-use syntax::{Listed, Sought};
 
 /// Returns the test of an entry or a type. `defines` is whether its result is defined.
 pub fn entry_test(

@@ -1,7 +1,7 @@
 //! What follows a step.
 
 use crate::wait::Wait;
-use jobs::Job;
+use crew_jobs::Job;
 
 /// What follows a step, or the replies to the jobs that it asked for.
 #[derive(Drop)]

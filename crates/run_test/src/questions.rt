@@ -8,7 +8,7 @@ ghost use Rattle.run_test.specs.declared.wait.Wait.TheVariants as waits;
 use crate::flow::Flow;
 use crate::trying::alone;
 use crate::wait::Wait;
-use jobs::Job;
+use crew_jobs::Job;
 use std::alloc::{AllocError, Global};
 
 /// Asks for a child whose success is the answer to the question of a choice.

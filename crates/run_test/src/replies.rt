@@ -4,9 +4,9 @@ ghost use Rattle.std.specs.Prelude.{◌≡◌, ◌∷◌, [], OnOk, option_to_li
 ghost use Rattle.meaning.specs.Asking.{success};
 ghost use Rattle.run_test.specs.Batched.{with_asked};
 
+use crew_jobs::Job;
 use crew_trait::Reply;
-use jobs::Job;
-use runstate::Store;
+use run_state::Store;
 use std::alloc::AllocError;
 
 /// Returns whether the child with this reply succeeded, or `None` if it didn't answer.

@@ -9,12 +9,12 @@ use crate::course::{Course, Search};
 use crate::directories::path_directories;
 use crate::entries::{entry_test, value_of};
 use crate::trying::Opening;
+use ac_tree::Sought;
+use ac_tree::test_names::{libraries_name, library_name};
 use deftable::{Bytes, Texts};
-use runstate::Store;
+use run_state::Store;
 use shellword::HereText;
 use std::alloc::{AllocError, Global};
-use syntax::Sought;
-use syntax::test_names::{libraries_name, library_name};
 
 /// Returns the course of a search in the directories of PATH.
 fn path_course(alloc: Global, store: &Store, search: Search) -> Result<Course, AllocError>

@@ -18,10 +18,10 @@ use crate::flow::Flow;
 use crate::loan::Loan;
 use crate::values::{answer, begin_message, name_of, otherwise_of, shown_of, use_value};
 use crate::wait::Wait;
+use crew_jobs::Job;
 use deftable::Bytes;
-use jobs::Job;
-use runstate::pieces::{break_test, end_check, end_known_check};
-use runstate::{About, Store};
+use run_state::pieces::{break_test, end_check, end_known_check};
+use run_state::{About, Store};
 use std::alloc::{AllocError, Global};
 
 /// Makes a list of one job.

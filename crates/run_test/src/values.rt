@@ -8,12 +8,12 @@ ghost use Rattle.run_test.specs.Courses.{begun_libraries, begun_library, entry_o
 use crate::course::Course;
 use crate::entries::{begin_entry, is_yes, use_entry};
 use crate::loan::{Loan, lent};
+use ac_tree::Sought;
+use ac_tree::definitions::library_definition;
 use deftable::Bytes;
-use runstate::pieces::{begin_check, begin_search};
-use runstate::{About, Store};
+use run_state::pieces::{begin_check, begin_search};
+use run_state::{About, Store};
 use std::alloc::{AllocError, Global};
-use syntax::Sought;
-use syntax::definitions::library_definition;
 
 /// Returns the name of a test.
 pub fn name_of(course: &Course) -> &[u8]

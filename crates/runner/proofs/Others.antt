@@ -1,59 +1,59 @@
 -- What is said of a call of one kind, for a call of another kind.
 use Rattle.std.specs.Prelude.{◌≡◌, ◌⊎◌, ℕ, List, length, refl}
 use Rattle.std.proofs.Common.{◌≢◌, ◌≤◌, ◌<◌, ◌∙◌, arith, inr, subst, sym}
-use Rattle.invocation.specs.Calls.{Call, Why, Help, Lint, Port, IfFilter, IfStandIn, IfConfigure, IfStatus, IfRecheck, IfWhy, IfHelp, IfLint}
-use Rattle.invocation.specs.Lent.{call_seen}
+use Rattle.cmd_call.specs.Calls.{ProgramCall, Why, Help, Lint, Port, IfFilter, IfStandIn, IfConfigure, IfStatus, IfRecheck, IfWhy, IfHelp, IfLint}
+use Rattle.cmd_call.specs.Lent.{call_seen}
 use Rattle.runner.specs.Ports.{IfPort}
-use Rattle.invocation.specs.declared.call.Call as lent
-use Rattle.invocation.specs.declared.call.Call.TheVariants as lends
+use Rattle.cmd_call.specs.declared.call.ProgramCall as lent
+use Rattle.cmd_call.specs.declared.call.ProgramCall.TheVariants as lends
 
-pub no_filter : (call : lent.Call) (seen : Call) (P : Type 0) → (call ≡ lends.Filter → ⊥) → call_seen call ≡ seen → IfFilter seen P
+pub no_filter : (call : lent.ProgramCall) (seen : ProgramCall) (P : Type 0) → (call ≡ lends.Filter → ⊥) → call_seen call ≡ seen → IfFilter seen P
 no_filter lends.Filter seen P ne e = absurd (ne refl)
 no_filter call seen P ne e = subst (λ s. IfFilter s P) e tt
 
-pub no_standin : (call : lent.Call) (seen : Call) (P : List (List ℕ) → Type 0) → ((words : _) → call ≡ lends.StandIn words → ⊥) → call_seen call ≡ seen → IfStandIn seen P
+pub no_standin : (call : lent.ProgramCall) (seen : ProgramCall) (P : List (List ℕ) → Type 0) → ((words : _) → call ≡ lends.StandIn words → ⊥) → call_seen call ≡ seen → IfStandIn seen P
 no_standin (lends.StandIn words) seen P ne e = absurd (ne words refl)
 no_standin call seen P ne e = subst (λ s. IfStandIn s P) e tt
 
-pub no_configure : (call : lent.Call) (seen : Call) (P : ℕ → List (List ℕ) → Type 0) → ((window : ℕ) (words : _) → call ≡ lends.Configure window words → ⊥) → call_seen call ≡ seen → IfConfigure seen P
+pub no_configure : (call : lent.ProgramCall) (seen : ProgramCall) (P : ℕ → List (List ℕ) → Type 0) → ((window : ℕ) (words : _) → call ≡ lends.Configure window words → ⊥) → call_seen call ≡ seen → IfConfigure seen P
 no_configure (lends.Configure window words) seen P ne e = absurd (ne window words refl)
 no_configure call seen P ne e = subst (λ s. IfConfigure s P) e tt
 
-pub no_status : (call : lent.Call) (seen : Call) (P : List (List ℕ) → Type 0) → ((tags : _) → call ≡ lends.Status tags → ⊥) → call_seen call ≡ seen → IfStatus seen P
+pub no_status : (call : lent.ProgramCall) (seen : ProgramCall) (P : List (List ℕ) → Type 0) → ((tags : _) → call ≡ lends.Status tags → ⊥) → call_seen call ≡ seen → IfStatus seen P
 no_status (lends.Status tags) seen P ne e = absurd (ne tags refl)
 no_status call seen P ne e = subst (λ s. IfStatus s P) e tt
 
-pub no_recheck : (call : lent.Call) (seen : Call) (P : Type 0) → (call ≡ lends.Recheck → ⊥) → call_seen call ≡ seen → IfRecheck seen P
+pub no_recheck : (call : lent.ProgramCall) (seen : ProgramCall) (P : Type 0) → (call ≡ lends.Recheck → ⊥) → call_seen call ≡ seen → IfRecheck seen P
 no_recheck lends.Recheck seen P ne e = absurd (ne refl)
 no_recheck call seen P ne e = subst (λ s. IfRecheck s P) e tt
 
-pub failed_why : (n : ℕ) (P : Type 0) (seen : Call) → n ≡ 2 → IfWhy seen (λ words. (n ≤ 2) × (n ≢ 2 → P))
+pub failed_why : (n : ℕ) (P : Type 0) (seen : ProgramCall) → n ≡ 2 → IfWhy seen (λ words. (n ≤ 2) × (n ≢ 2 → P))
 failed_why n P (Why words) e = (omega (arith, e), λ ne. absurd (ne e))
 failed_why n P call e = tt
 
-pub failed_lint : (n : ℕ) (P : Type 0) (seen : Call) → n ≡ 2 → IfLint seen (λ words. (n ≤ 2) × (n ≢ 2 → P))
+pub failed_lint : (n : ℕ) (P : Type 0) (seen : ProgramCall) → n ≡ 2 → IfLint seen (λ words. (n ≤ 2) × (n ≢ 2 → P))
 failed_lint n P (Lint words) e = (omega (arith, e), λ ne. absurd (ne e))
 failed_lint n P call e = tt
 
-pub failed_help : (n : ℕ) (P : Type 0) (seen : Call) → n ≡ 2 → IfHelp seen (λ words. ((n ≡ 0) ⊎ (n ≡ 2)) × (1 < length words → n ≡ 2) × (n ≡ 0 → P))
+pub failed_help : (n : ℕ) (P : Type 0) (seen : ProgramCall) → n ≡ 2 → IfHelp seen (λ words. ((n ≡ 0) ⊎ (n ≡ 2)) × (1 < length words → n ≡ 2) × (n ≡ 0 → P))
 failed_help n P (Help words) e = (inr e, λ more. e, λ z. absurd (not_both n z e))
   where
     not_both : (n : ℕ) → n ≡ 0 → n ≡ 2 → ⊥
     not_both n z e = let c : 0 ≡ 2 = sym z ∙ e in cc
 failed_help n P call e = tt
 
-pub unanswered_why : (n : ℕ) (P : List (List ℕ) → Type 0) (seen : Call) → n ≡ 2 → IfWhy seen (λ words. n ≢ 2 → P words)
+pub unanswered_why : (n : ℕ) (P : List (List ℕ) → Type 0) (seen : ProgramCall) → n ≡ 2 → IfWhy seen (λ words. n ≢ 2 → P words)
 unanswered_why n P (Why words) e = λ ne. absurd (ne e)
 unanswered_why n P call e = tt
 
-pub failed_port : (n : ℕ) (P : Type 0) (seen : Call) → n ≡ 2 → IfPort seen (λ words. (n ≤ 2) × (n ≢ 2 → P))
+pub failed_port : (n : ℕ) (P : Type 0) (seen : ProgramCall) → n ≡ 2 → IfPort seen (λ words. (n ≤ 2) × (n ≢ 2 → P))
 failed_port n P (Port words) e = (omega (arith, e), λ ne. absurd (ne e))
 failed_port n P call e = tt
 
-pub unanswered_port : (n : ℕ) (P Q : List (List ℕ) → Type 0) (seen : Call) → n ≡ 2 → IfPort seen (λ words. (P words → n ≡ 2) × (n ≢ 2 → Q words))
+pub unanswered_port : (n : ℕ) (P Q : List (List ℕ) → Type 0) (seen : ProgramCall) → n ≡ 2 → IfPort seen (λ words. (P words → n ≡ 2) × (n ≢ 2 → Q words))
 unanswered_port n P Q (Port words) e = (λ wrong. e, λ ne. absurd (ne e))
 unanswered_port n P Q call e = tt
 
-pub unanswered_lint : (n : ℕ) (P Q : List (List ℕ) → Type 0) (seen : Call) → n ≡ 2 → IfLint seen (λ words. (P words → n ≡ 2) × (n ≢ 2 → Q words))
+pub unanswered_lint : (n : ℕ) (P Q : List (List ℕ) → Type 0) (seen : ProgramCall) → n ≡ 2 → IfLint seen (λ words. (P words → n ≡ 2) × (n ≢ 2 → Q words))
 unanswered_lint n P Q (Lint words) e = (λ unknown. e, λ ne. absurd (ne e))
 unanswered_lint n P Q call e = tt

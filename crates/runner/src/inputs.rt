@@ -2,13 +2,12 @@
 
 ghost use Rattle.std.specs.Prelude.{◌≡◌, ◌⊎◌, List, ℕ, [], ◌∷◌, IfSome};
 ghost use Rattle.std.specs.Io.KnownBytes.{Appends};
-ghost use Rattle.filtering.specs.Filtered.{IsFiltered};
-ghost use Rattle.invocation.specs.Errors.{AreTold};
+ghost use Rattle.cmd_filter.specs.Filtered.{IsFiltered};
+ghost use Rattle.cmd_call.specs.Errors.{AreTold};
 
-use explaining::Why;
-use faultlines::{explain_source, explain_usage};
-use filtering::{FilterFault, Filtered, filter_keeping, source_part, tell};
-use invocation::{FAULT, tell_text};
+use cmd_call::{FAULT, tell_text};
+use cmd_explain::{Why, explain_source, explain_usage};
+use cmd_filter::{FilterFault, Filtered, filter_keeping, source_part, tell};
 use std::alloc::Global;
 use std::io::{Read, Write};
 
@@ -57,7 +56,7 @@ fn tell_filter<E: Write>(
 }
 
 /// Writes what the source says on standard error, as far as it takes it.
-#[tactic(auto, using(invocation::proofs::Fronts::told_blank))]
+#[tactic(auto, using(cmd_call::proofs::Fronts::told_blank))]
 fn tell_said<E: Write>(said: &[u8], errors: &mut E)
     ensures silent { said.now ≡ [] → errors.new ≡ errors.old }
     ensures told { AreTold (E.contents errors.old) (E.contents errors.new) (said.now ∷ []) }

@@ -3,42 +3,41 @@
 ghost use Rattle.std.specs.Prelude.{◌≡◌, true, false, ◌∷◌, ◌≢◌, ◌⊎◌, ◌≤◌, ◌<◌, ℕ, List, [], length, None, IfSome};
 ghost use Rattle.std.specs.Io.KnownBytes.{Appends};
 ghost use Rattle.std.specs.List.{list_any};
-ghost use Rattle.commands.specs.MadeAgain.{IsMadeAgain};
-ghost use Rattle.configuring.specs.Configures.{IsConfigured, IsRechecked, MayRun};
+ghost use Rattle.cmd_status.specs.MadeAgain.{IsMadeAgain};
+ghost use Rattle.cmd_configure.specs.Configures.{IsConfigured, IsRechecked, MayRun};
 ghost use Rattle.crew_trait.specs.Events.{IsIdle};
-ghost use Rattle.diskfiles.specs.Held.{fresh};
-ghost use Rattle.filtering.specs.Filtered.{IsFiltered};
-ghost use Rattle.invocation.specs.Calls.{call_of, Unknown, Version, IfFilter, IfStandIn, IfConfigure, IfStatus, IfRecheck, IfWhy, IfHelp, IfLint, HasNoRun, HasNoInput, HasNoOutput};
-ghost use Rattle.invocation.specs.Errors.{AreTold};
-ghost use Rattle.lintcommand.specs.Status.{IsStatus, is_unknown};
-ghost use Rattle.portcommand.specs.Asked.{request_of};
-ghost use Rattle.portcommand.specs.Printed.{IsAnswer};
+ghost use Rattle.file_texts.specs.Held.{fresh};
+ghost use Rattle.cmd_filter.specs.Filtered.{IsFiltered};
+ghost use Rattle.cmd_call.specs.Calls.{call_of, Unknown, Version, IfFilter, IfStandIn, IfConfigure, IfStatus, IfRecheck, IfWhy, IfHelp, IfLint, HasNoRun, HasNoInput, HasNoOutput};
+ghost use Rattle.cmd_call.specs.Errors.{AreTold};
+ghost use Rattle.cmd_lint.specs.Status.{IsStatus, is_unknown};
+ghost use Rattle.cmd_port.specs.Asked.{request_of};
+ghost use Rattle.cmd_port.specs.Printed.{IsAnswer};
 ghost use Rattle.runner.specs.Ports.{IfPort};
 ghost use Rattle.runner.specs.Puts.{HasNoPuts};
-ghost use Rattle.standin.specs.Standin.{IsAnswered};
-ghost use Rattle.whycommand.specs.Why.{IsWhy};
+ghost use Rattle.cmd_standin.specs.Standin.{IsAnswered};
+ghost use Rattle.cmd_why.specs.Why.{IsWhy};
 
 use crate::inputs::run_filter;
-use causes::Causes;
-use commands::{run_standin, run_status};
-use configuring::{run_configure, run_recheck};
+use cmd_call::{FAULT, ProgramCall, Terminal, call_of, tell_usage};
+use cmd_configure::{run_configure, run_recheck};
+use cmd_explain::{asks_why, explain_usage};
+use cmd_help::{run_help, run_version};
+use cmd_lint::{may_colour, run_lint};
+use cmd_port::run_port;
+use cmd_status::{run_standin, run_status};
+use cmd_why::run_why;
+use crew_refusals::Causes;
+use crew_tally::{Children, Counted, Tally, put_summary};
 use crew_trait::Crew;
 use deftable::Bytes;
-use disk::{Disk, Host};
-use diskfiles::FileOutputs;
-use explaining::asks_why;
-use faultlines::explain_usage;
-use helptext::{run_help, run_version};
-use invocation::{Call, FAULT, Terminal, call_of, tell_usage};
-use lintcommand::{may_colour, run_lint};
-use portcommand::run_port;
-use shown::Shown;
+use file_disk::{Disk, Host};
+use file_texts::FileOutputs;
 use std::alloc::Global;
 use std::io::{self, Input, IsTerminal, Read, Write};
 use std::rt::Files;
 use std::time::Instant;
-use summary::{Children, Counted, Tally, put_summary};
-use whycommand::run_why;
+use text_controls::Shown;
 
 /// Reports that the words are no command, and says more of it if it is asked. Returns the exit status.
 fn tell_unknown<E: Write>(alloc: Global, is_asked: bool, words: &[Bytes], errors: &mut E) -> u8
@@ -78,11 +77,19 @@ fn explain<D: Disk, R: Read, W: Write, E: Write>(
     let output = &mut terminal.output;
     let errors = &mut terminal.errors;
     match call_of(words) {
-        Call::Help(words) => run_help(words, output, errors),
-        Call::Version => run_version(output, errors),
-        Call::Why(words) => run_why(alloc, disk, words, output, errors),
-        Call::Port(words) => run_port(alloc, disk, words, input, output, errors),
-        Call::Lint(words) => run_lint(alloc, disk, words, has_colours, input, output, errors),
+        ProgramCall::Help(words) => run_help(words, output, errors),
+        ProgramCall::Version => run_version(output, errors),
+        ProgramCall::Why(words) => run_why(alloc, disk, words, output, errors),
+        ProgramCall::Port(words) => run_port(alloc, disk, words, input, output, errors),
+        ProgramCall::Lint(words) => run_lint(
+            alloc,
+            disk,
+            words,
+            has_colours,
+            input,
+            output,
+            errors,
+        ),
         _ => tell_unknown(alloc, terminal.is_asked, words, errors),
     }
 }
@@ -168,20 +175,20 @@ pub fn run<F: Files, D: Disk, C: Crew + Causes, R: Read, W: Write, E: Write>(
 {
     let alloc = terminal.alloc;
     match call_of(words) {
-        Call::Filter => run_filter(
+        ProgramCall::Filter => run_filter(
             alloc,
             terminal.is_asked,
             &mut terminal.input,
             &mut terminal.output,
             &mut terminal.errors,
         ),
-        Call::StandIn(words) => {
+        ProgramCall::StandIn(words) => {
             let disk = terminal.outputs.disk();
             run_standin(alloc, files, disk, words, &mut terminal.errors)
         }
-        Call::Configure(window, args) => run_configure(terminal, window, args, crew),
-        Call::Status(tags) => run_status(terminal, tags),
-        Call::Recheck => run_recheck(terminal, crew),
+        ProgramCall::Configure(window, args) => run_configure(terminal, window, args, crew),
+        ProgramCall::Status(tags) => run_status(terminal, tags),
+        ProgramCall::Recheck => run_recheck(terminal, crew),
         _ => {
             let has_colours = may_colour(terminal.env, is_terminal);
             explain(terminal, words, has_colours)
@@ -193,7 +200,7 @@ pub fn run<F: Files, D: Disk, C: Crew + Causes, R: Read, W: Write, E: Write>(
 /// have colours.
 fn shows_output(words: &[Bytes]) -> bool {
     match call_of(words) {
-        Call::Lint(_) => false,
+        ProgramCall::Lint(_) => false,
         _ => true,
     }
 }
@@ -201,7 +208,7 @@ fn shows_output(words: &[Bytes]) -> bool {
 /// Returns whether the words ask for a run.
 fn asks_run(words: &[Bytes]) -> bool {
     match call_of(words) {
-        Call::Configure(_, _) | Call::Recheck => true,
+        ProgramCall::Configure(_, _) | ProgramCall::Recheck => true,
         _ => false,
     }
 }

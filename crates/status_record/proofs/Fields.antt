@@ -3,11 +3,11 @@ use Rattle.std.proofs.Common.{◌≡◌, ℕ, Bool, true, false, cond, ◌&&◌,
 use Rattle.std.specs.Prelude.{Option, Some, None, option_map, option_and_then}
 use Rattle.std.proofs.lemmas.Bool.{cond-true, and_from}
 use Rattle.deftable.specs.ShellName.{is_shell_name_of, IsShellName}
-use Rattle.outputlist.specs.declared.output.Output.{Output}
+use Rattle.output_list.specs.declared.output.Output.{Output}
 use Rattle.status_record.specs.Escape.{escaped, unescaped}
 use Rattle.status_record.specs.Line.{cut, entry_of, entry_in, entry_fields, output_in, output_of, output_fields}
-use Rattle.outputlist.specs.Output.{IsOutput}
-use Rattle.outputlist.specs.Path.{is_path}
+use Rattle.output_list.specs.Output.{IsOutput}
+use Rattle.output_list.specs.Path.{is_path}
 use Rattle.status_record.proofs.Escapes.{unescaped-escaped, escaped-unescaped}
 use Rattle.status_record.proofs.Texts.{first_of, second_of, cut_back, cut_only, shell_lacks_blank, path_lacks_blank, escaped_lacks_blank}
 

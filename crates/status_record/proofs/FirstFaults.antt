@@ -7,8 +7,8 @@ use Rattle.std.proofs.lemmas.List.{append-nil}
 use Rattle.std.proofs.lemmas.Bool.Decides.{Decides-eqb}
 use Rattle.std.proofs.lemmas.Slice.Eq.{bytes_eq-Decides}
 use Rattle.deftable.specs.ShellName.{IsShellName}
-use Rattle.outputlist.specs.declared.output.Output.{Output}
-use Rattle.outputlist.specs.Output.{output_names, IsOutput}
+use Rattle.output_list.specs.declared.output.Output.{Output}
+use Rattle.output_list.specs.Output.{output_names, IsOutput}
 use Rattle.std.proofs.lemmas.Bool.{and_from}
 use Rattle.status_record.specs.declared.fault.RecordFault.{RecordFault}
 use Rattle.status_record.specs.declared.fault.RecordFault.TheVariants.{BadMagic, BadLine, Truncated, UnknownVersion, DuplicateName, OutOfMemory}

@@ -3,8 +3,8 @@ use Rattle.std.proofs.Common.{◌≡◌, ℕ, ◌+◌, Bool, true, false, cond, 
 use Rattle.std.specs.Prelude.{codes, ⊤, ◌==◌, bytes_eq}
 use Rattle.std.proofs.lemmas.List.{append-nil}
 use Rattle.status_record.proofs.Names.{AreDistinct-[]}
-use Rattle.textcut.specs.Cuts.{parts}
-use Rattle.outputlist.specs.Output.{output_names}
+use Rattle.text_cut.specs.Cuts.{parts}
+use Rattle.output_list.specs.Output.{output_names}
 use Rattle.status_record.specs.declared.fault.RecordFault.{RecordFault}
 use Rattle.status_record.specs.declared.fault.RecordFault.TheVariants.{BadMagic, BadLine, Truncated, UnknownVersion, DuplicateName}
 use Rattle.status_record.specs.declared.record.Record.{Record}

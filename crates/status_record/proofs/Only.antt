@@ -9,14 +9,14 @@ use Rattle.deftable.specs.ShellName.{IsShellName}
 use Rattle.deftable.specs.NameList.{AreDistinct}
 use Rattle.deftable.specs.Table.{HasShellNames, HasDistinctNames}
 use Rattle.status_record.proofs.Names.{AreDistinct-[]}
-use Rattle.textcut.specs.Cuts.{parts}
+use Rattle.text_cut.specs.Cuts.{parts}
 use Rattle.status_record.specs.declared.fault.RecordFault.{RecordFault}
 use Rattle.status_record.specs.declared.fault.RecordFault.TheVariants.{BadMagic, BadLine, Truncated, UnknownVersion}
 use Rattle.status_record.specs.declared.record.Record.{Record}
 use Rattle.status_record.specs.declared.read.Version.{Version}
 use Rattle.status_record.specs.declared.read.Version.TheVariants.{First, Second}
-use Rattle.outputlist.specs.declared.output.Output.{Output}
-use Rattle.outputlist.specs.Output.{output_names, IsOutput}
+use Rattle.output_list.specs.declared.output.Output.{Output}
+use Rattle.output_list.specs.Output.{output_names, IsOutput}
 use Rattle.status_record.specs.Escape.{escaped, unescaped}
 use Rattle.status_record.specs.Line.{ended, after_prefix, entry_in, entry_fields, output_in, output_fields}
 use Rattle.status_record.specs.RecordText as forms

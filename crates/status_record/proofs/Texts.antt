@@ -8,11 +8,11 @@ use Rattle.std.proofs.lemmas.List.Quantifiers.{position-Some}
 use Rattle.std.proofs.lemmas.Bool.{cond-true, cond-false, and_from}
 use Rattle.std.proofs.lemmas.Bool.Decides.{Decides-eqb, nat_tests}
 use Rattle.deftable.specs.ShellName.{is_shell_name_of, starts_name, continues_name}
-use Rattle.textcut.specs.Cuts.{parts, parts_by}
-use Rattle.textcut.proofs.Laws.{parts-some}
+use Rattle.text_cut.specs.Cuts.{parts, parts_by}
+use Rattle.text_cut.proofs.Laws.{parts-some}
 use Rattle.status_record.specs.Escape.{escaped_byte, escaped}
 use Rattle.status_record.specs.Line.{ended, cut}
-use Rattle.outputlist.specs.Path.{is_path, is_path_byte}
+use Rattle.output_list.specs.Path.{is_path, is_path_byte}
 use Rattle.status_record.specs.Reading.{last_of, front_of}
 
 -- the byte doesn't occur in the text

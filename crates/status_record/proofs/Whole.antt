@@ -9,8 +9,8 @@ use Rattle.status_record.specs.declared.fault.RecordFault.TheVariants.{BadLine}
 use Rattle.status_record.specs.declared.record.Record.{Record}
 use Rattle.status_record.specs.declared.read.Version.{Version}
 use Rattle.status_record.specs.declared.read.Version.TheVariants.{First, Second}
-use Rattle.outputlist.specs.declared.output.Output.{Output}
-use Rattle.outputlist.specs.Output.{output_names, IsOutput}
+use Rattle.output_list.specs.declared.output.Output.{Output}
+use Rattle.output_list.specs.Output.{output_names, IsOutput}
 use Rattle.status_record.specs.Escape.{escaped, unescaped}
 use Rattle.status_record.specs.Line.{after_prefix, entry_in, entry_fields, output_in, output_fields, two_fields}
 use Rattle.status_record.specs.RecordText.{version_line, arg_lines, lines_of, body_lines, record_lines, record_text, IsRecord}

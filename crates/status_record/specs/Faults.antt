@@ -4,8 +4,8 @@ use Rattle.std.specs.Prelude.{◌≡◌, ◌≢◌, ℕ, ◌+◌, true, List, []
 use Rattle.std.specs.List.{AllByRecursion, list_all}
 use Rattle.std.specs.Char.{is_ascii_digit}
 use Rattle.deftable.specs.Table.{HasShellNames}
-use Rattle.outputlist.specs.Output.{IsOutput}
-use Rattle.textcut.specs.Cuts.{parts}
+use Rattle.output_list.specs.Output.{IsOutput}
+use Rattle.text_cut.specs.Cuts.{parts}
 use Rattle.status_record.specs.declared.fault.RecordFault.{RecordFault}
 use Rattle.status_record.specs.declared.fault.RecordFault.TheVariants.{BadMagic, BadLine, Truncated, UnknownVersion, DuplicateName}
 use Rattle.status_record.specs.declared.record.Record.{Record}

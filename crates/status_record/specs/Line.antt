@@ -2,9 +2,9 @@
 use Rattle.std.specs.Prelude.{ℕ, ◌+◌, ◌==◌, ◌&&◌, List, [], ◌∷◌, ◌++◌, take, drop, Option, Some, None, option_map, option_and_then, position, if◌then◌else◌}
 use Rattle.std.specs.List.{flat_map}
 use Rattle.deftable.specs.ShellName.{is_shell_name_of}
-use Rattle.outputlist.specs.declared.output.Output.{Output}
+use Rattle.output_list.specs.declared.output.Output.{Output}
 use Rattle.status_record.specs.Escape.{escaped, unescaped}
-use Rattle.outputlist.specs.Path.{is_path}
+use Rattle.output_list.specs.Path.{is_path}
 
 -- The lines, each followed by a newline. (own)
 abbrev pub ended : List (List ℕ) → List ℕ

@@ -6,14 +6,14 @@ use Rattle.std.specs.Str.{bytes_eq}
 use Rattle.fallible.specs.Reading.{◌>>=◌, GivesBy}
 use Rattle.deftable.specs.NameList.{has_name}
 use Rattle.deftable.specs.Table.{names_of}
-use Rattle.textcut.specs.Cuts.{parts}
+use Rattle.text_cut.specs.Cuts.{parts}
 use Rattle.status_record.specs.declared.fault.RecordFault.{RecordFault}
 use Rattle.status_record.specs.declared.fault.RecordFault.TheVariants.{BadMagic, BadLine, Truncated, UnknownVersion, DuplicateName, OutOfMemory}
 use Rattle.status_record.specs.declared.record.Record.{Record}
 use Rattle.status_record.specs.declared.read.Version.{Version}
 use Rattle.status_record.specs.declared.read.Version.TheVariants.{First, Second}
-use Rattle.outputlist.specs.declared.output.Output.{Output}
-use Rattle.outputlist.specs.Output.{output_names}
+use Rattle.output_list.specs.declared.output.Output.{Output}
+use Rattle.output_list.specs.Output.{output_names}
 use Rattle.status_record.specs.Escape.{unescaped}
 use Rattle.status_record.specs.Line.{after_prefix, entry_in, output_in}
 use Rattle.status_record.specs.RecordText.{record_lines, IsRecord}

@@ -1,7 +1,7 @@
 -- The record of a run: its text, and what it may hold.
 use Rattle.std.specs.Prelude.{◌≡◌, ℕ, List, [], ◌∷◌, ◌++◌, map, Option, Some, None, codes}
 use Rattle.deftable.specs.Table.{HasShellNames, HasDistinctNames}
-use Rattle.outputlist.specs.Output.{AreOutputs}
+use Rattle.output_list.specs.Output.{AreOutputs}
 use Rattle.status_record.specs.declared.record.Record.{Record}
 use Rattle.status_record.specs.Escape.{escaped}
 use Rattle.status_record.specs.Line.{ended, entry_fields, output_fields}

@@ -6,7 +6,7 @@ ghost use Rattle.status_record.specs.RecordText.{IsFirstText, IsSecondText, IsRe
 ghost use Rattle.status_record.specs.Reading.{record_in, front_of, IsTruncated};
 ghost use Rattle.status_record.specs.Faults.{IsRecordFault};
 ghost use Rattle.status_record.specs.declared.fault.RecordFault.{RecordFault as FaultValue};
-ghost use Rattle.textcut.specs.Cuts.{parts};
+ghost use Rattle.text_cut.specs.Cuts.{parts};
 ghost use Rattle.status_record.specs.declared.fault.RecordFault.TheVariants.{Truncated};
 ghost use Rattle.status_record.specs.declared.record.Record.{Record as RecordValue};
 

@@ -16,7 +16,7 @@
 //!
 //! In `specs`, read `RecordText` for the text and for what a record may hold, `Line` and `Escape` for its lines and their
 //! values, and `Faults` for the first fault of another text. `Reading` has both as functions. What outputs a record may hold is
-//! `AreOutputs` of `outputlist`. In `src`, read `record`, then `write` and `read`. `laws` has no code.
+//! `AreOutputs` of `output_list`. In `src`, read `record`, then `write` and `read`. `laws` has no code.
 #![tactic(auto)]
 
 mod escape;
@@ -28,7 +28,7 @@ mod record;
 mod write;
 
 pub use fault::RecordFault;
-pub use outputlist::{Output, OutputList, is_path};
+pub use output_list::{Output, OutputList, is_path};
 pub use read::read_record;
 pub use record::Record;
 pub use write::write_record;

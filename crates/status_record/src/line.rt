@@ -5,7 +5,7 @@ ghost use Rattle.status_record.specs.Line as specs;
 
 use crate::escape::unescaped;
 use deftable::{Bytes, is_shell_name};
-use outputlist::{Output, is_path};
+use output_list::{Output, is_path};
 use std::alloc::{AllocError, Global};
 
 /// Returns the text after the keyword, or `None` if the line doesn't begin with it.

@@ -6,7 +6,7 @@ ghost use Rattle.std.specs.Char.{is_ascii_digit};
 ghost use Rattle.status_record.specs.declared.fault.RecordFault.TheVariants.{OutOfMemory};
 ghost use Rattle.deftable.specs.NameList.{has_name};
 ghost use Rattle.deftable.specs.Table.{names_of};
-ghost use Rattle.outputlist.specs.Output.{output_names};
+ghost use Rattle.output_list.specs.Output.{output_names};
 ghost use Rattle.status_record.specs.Escape.{unescaped};
 ghost use Rattle.status_record.specs.Line.{entry_in, output_in};
 ghost use Rattle.status_record.specs.Faults.{IsRecordFault};
@@ -20,9 +20,9 @@ use crate::fault::RecordFault;
 use crate::line::{after_prefix, entry_in, output_in};
 use crate::record::Record;
 use deftable::{Bytes, Defs, Texts, Vars};
-use outputlist::OutputList;
+use output_list::OutputList;
 use std::alloc::{AllocError, Global};
-use textcut::parts;
+use text_cut::parts;
 
 /// The version of a record.
 #[derive(Clone, Copy)]

@@ -1,7 +1,7 @@
 //! The record of a run.
 
 use deftable::{Bytes, Defs, Texts};
-use outputlist::OutputList;
+use output_list::OutputList;
 
 /// What the outputs of a run are made from again, and the run is done again with (own): the source directory, the arguments,
 /// the output variables, the definitions, the files and the headers, each in order.

@@ -9,7 +9,7 @@ ghost use Rattle.status_record.specs.Reading.{record_in};
 use crate::escape::put_escaped;
 use crate::record::Record;
 use deftable::{Bytes, Defs, Texts};
-use outputlist::Output;
+use output_list::Output;
 use std::alloc::{AllocError, Global};
 
 /// Appends a line: a keyword and a value.

@@ -1,7 +1,7 @@
 use Rattle.std.proofs.Common.{sym, ap, ◌∙◌}
 use Rattle.std.specs.Prelude.{◌==◌}
-use Rattle.syntax.specs.declared.statement.Question.TheVariants.{ChecksEach}
-use Rattle.syntax.specs.Script.{cases_of}
+use Rattle.ac_tree.specs.declared.statement.Question.TheVariants.{ChecksEach}
+use Rattle.ac_tree.specs.Script.{cases_of}
 use Rattle.acparse.specs.Asked.{asked_by}
 use Rattle.acparse.proofs.Questions.{asked_some}
 use Rattle.acparse.proofs.asked.asked_each.Goals as goal

@@ -1,6 +1,6 @@
 use Rattle.std.proofs.Common.{◌≡◌, drop}
 use Rattle.acparse.specs.Asked.{has_yes}
-use Rattle.syntax.specs.Script.{cases_of}
+use Rattle.ac_tree.specs.Script.{cases_of}
 use Rattle.acparse.proofs.asked.has_yes.Given as goal
 
 abbrev pub invariant-loop-case : goal.invariant-loop-case

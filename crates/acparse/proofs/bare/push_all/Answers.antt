@@ -1,6 +1,6 @@
 use Rattle.std.proofs.Common.{sym}
-use Rattle.syntax.specs.Script.{script_of}
-use Rattle.syntax.proofs.ScriptLemmas.{joined_done}
+use Rattle.ac_tree.specs.Script.{script_of}
+use Rattle.ac_tree.proofs.ScriptLemmas.{joined_done}
 use Rattle.acparse.proofs.Texts.{assign_more}
 use Rattle.acparse.proofs.bare.push_all.Goals as goal
 

@@ -1,6 +1,6 @@
 use Rattle.std.proofs.Common.{◌≡◌}
 use Rattle.acparse.specs.Bare.{assigned}
-use Rattle.syntax.specs.Script.{joined, script_of}
+use Rattle.ac_tree.specs.Script.{joined, script_of}
 use Rattle.acparse.proofs.bare.push_all.Given as goal
 
 abbrev pub invariant-loop-assignment : goal.invariant-loop-assignment

@@ -1,8 +1,8 @@
 use Rattle.std.proofs.Common.{[], ◌∷◌, map, subst, ◌+◌, arith, ap, sym, ◌∙◌, Ok}
-use Rattle.syntax.specs.Lists.{after_cases}
-use Rattle.syntax.specs.Script.{Cases, script_of}
-use Rattle.acstatement.specs.Reading.{Gives}
-use Rattle.acmacros.specs.ListKind.{list_kind_of}
+use Rattle.ac_tree.specs.Lists.{after_cases}
+use Rattle.ac_tree.specs.Script.{Cases, script_of}
+use Rattle.ac_statement.specs.Reading.{Gives}
+use Rattle.ac_macros.specs.ListKind.{list_kind_of}
 use Rattle.std.proofs.lemmas.Result.{err_from_is_err_and}
 use Rattle.std.proofs.Math.ListN.{drop_of_length-le}
 use Rattle.m4quote.specs.Entry.{span, view, views}

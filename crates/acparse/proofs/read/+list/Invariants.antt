@@ -1,7 +1,7 @@
 use Rattle.std.proofs.Common.{◌≤◌, ◌-◌, ◌+◌, ◌*◌, length, drop, map}
 use Rattle.m4quote.specs.Entry.{span, views}
-use Rattle.syntax.specs.Script.{script_of, cases_of}
-use Rattle.acmacros.specs.ListKind.{list_kind_of}
+use Rattle.ac_tree.specs.Script.{script_of, cases_of}
+use Rattle.ac_macros.specs.ListKind.{list_kind_of}
 use Rattle.acparse.specs.Profile.{body_of}
 use Rattle.acparse.proofs.Steps.{Items, Choices}
 use Rattle.acparse.proofs.read.+list.Given as goal

@@ -1,7 +1,7 @@
 use Rattle.std.proofs.Common.{sym, ap, ◌∙◌}
 use Rattle.std.specs.Prelude.{option_to_list}
-use Rattle.syntax.specs.Script.{cases_of, followed}
-use Rattle.syntax.proofs.ScriptLemmas.{cases_push, followed_none}
+use Rattle.ac_tree.specs.Script.{cases_of, followed}
+use Rattle.ac_tree.proofs.ScriptLemmas.{cases_push, followed_none}
 use Rattle.acparse.proofs.read.with_last.Goals as goal
 
 pub returns-in-None : goal.returns-in-None

@@ -1,6 +1,6 @@
 use Rattle.std.proofs.Common.{subst}
-use Rattle.acstatement.specs.Reading.{Gives}
-use Rattle.syntax.specs.Script.{script_of}
+use Rattle.ac_statement.specs.Reading.{Gives}
+use Rattle.ac_tree.specs.Script.{script_of}
 use Rattle.acparse.proofs.ListLimits.{lists_fit, outputs_fit}
 use Rattle.acparse.proofs.Owning.{commands_held}
 use Rattle.acparse.proofs.TestNaming.{names_held}

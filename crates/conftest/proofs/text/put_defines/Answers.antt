@@ -1,4 +1,4 @@
-use Rattle.jobs.specs.Probe.{define_line}
+use Rattle.crew_jobs.specs.Probe.{define_line}
 use Rattle.conftest.proofs.Turns.{append_image}
 use Rattle.conftest.proofs.text.put_defines.Goals as goal
 

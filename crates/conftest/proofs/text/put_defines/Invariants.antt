@@ -1,6 +1,6 @@
 use Rattle.std.proofs.Common.{◌≡◌, ◌++◌, take}
 use Rattle.std.specs.List.{flat_map}
-use Rattle.jobs.specs.Probe.{define_line}
+use Rattle.crew_jobs.specs.Probe.{define_line}
 use Rattle.conftest.proofs.text.put_defines.Given as goal
 
 abbrev pub invariant-loop-i : goal.invariant-loop-i

@@ -1,5 +1,5 @@
 use Rattle.std.proofs.Common.{subst, sym}
-use Rattle.framing.specs.Needed.{script_in}
+use Rattle.engine_frame.specs.Needed.{script_in}
 use Rattle.plan.specs.Walk.{DoesWhat}
 use Rattle.proberun.proofs.WholeLemmas.{any_err}
 use Rattle.engine.specs.Configured.{ended}

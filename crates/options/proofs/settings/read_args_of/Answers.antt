@@ -4,7 +4,7 @@ use Rattle.options.proofs.Laws.{opening_is, is_opening, opening_fails, fails_ope
 use Rattle.options.proofs.Readings.{or_memory}
 use Rattle.options.proofs.Steps.{stepwise_is_opening}
 use Rattle.options.specs.Opening.{IsOpening, IsOpeningFault}
-use Rattle.commandline.specs.Reading.{Gives, Fails}
+use Rattle.options_line.specs.Reading.{Gives, Fails}
 use Rattle.options.proofs.settings.read_args_of.Goals as goal
 
 pub returns-clause-exact : goal.returns-clause-exact

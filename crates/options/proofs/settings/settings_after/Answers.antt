@@ -2,7 +2,7 @@ use Rattle.std.proofs.Common.{◌∙◌, ap, sym, Ok}
 use Rattle.std.proofs.lemmas.Result.{err_from_is_err_and}
 use Rattle.options.proofs.Readings.{fails_bind}
 use Rattle.options.specs.Stepwise.{settings_after, settings_with}
-use Rattle.commandline.specs.Reading.{◌>>=◌}
+use Rattle.options_line.specs.Reading.{◌>>=◌}
 use Rattle.options.proofs.settings.settings_after.Goals as goal
 
 pub returns-in_err-notes : goal.returns-in_err-notes

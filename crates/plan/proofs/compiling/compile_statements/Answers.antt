@@ -1,5 +1,5 @@
 use Rattle.std.proofs.Common.{◌≡◌, ◌≤◌, ◌*◌, ap, ◌∙◌, sym, subst, arith, length}
-use Rattle.syntax.specs.Script.{script_of}
+use Rattle.ac_tree.specs.Script.{script_of}
 use Rattle.plan.specs.Inside.{StaysInside, AskFew, asks_after}
 use Rattle.plan.specs.Code.{code_of}
 use Rattle.plan.specs.Weight.{weight}

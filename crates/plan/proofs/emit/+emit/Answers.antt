@@ -1,6 +1,6 @@
 use Rattle.std.proofs.Common.{◌≡◌, ◌++◌, OnOk, ap, ◌∙◌, sym, refl, subst}
 use Rattle.meaning.specs.Meaning.{rounds_of}
-use Rattle.syntax.specs.Script.{cases_of, script_of}
+use Rattle.ac_tree.specs.Script.{cases_of, script_of}
 use Rattle.plan.specs.Code.{check_code, code_each, code_of, code_of_cases}
 use Rattle.plan.proofs.Codes.{code_at, code_choice, code_check}
 use Rattle.plan.proofs.emit.+emit.Goals as goal

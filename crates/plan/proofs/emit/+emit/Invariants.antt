@@ -1,7 +1,7 @@
 use Rattle.std.proofs.Common.{◌≡◌, ◌++◌, drop}
 use Rattle.meaning.specs.Meaning.{rounds_asked}
-use Rattle.syntax.specs.declared.statement.Question.TheVariants.{ChecksEach}
-use Rattle.syntax.specs.Script.{script_of, cases_of}
+use Rattle.ac_tree.specs.declared.statement.Question.TheVariants.{ChecksEach}
+use Rattle.ac_tree.specs.Script.{script_of, cases_of}
 use Rattle.plan.specs.Code.{code_each, code_of, code_of_cases}
 use Rattle.plan.proofs.emit.+emit.Given as goal
 

@@ -1,5 +1,5 @@
 use Rattle.std.proofs.Common.{◌≡◌, ◌+◌, drop}
-use Rattle.syntax.specs.Script.{script_of, cases_of}
+use Rattle.ac_tree.specs.Script.{script_of, cases_of}
 use Rattle.plan.specs.Weight.{weight, weight_of_cases}
 use Rattle.plan.proofs.weight.+weigh.Given as goal
 

@@ -1,6 +1,6 @@
 use Rattle.std.proofs.Common.{subst, length, arith}
-use Rattle.machine.specs.declared.machine.Turn.TheVariants as turn
-use Rattle.machine.specs.Standing.{Turned}
+use Rattle.run_machine.specs.declared.machine.Turn.TheVariants as turn
+use Rattle.run_machine.specs.Standing.{Turned}
 use Rattle.proberun.specs.Serving.{Served}
 use Rattle.proberun.proofs.WholeLemmas.{begins, serves, ends, all_landed, at_end, no_failure_yet}
 use Rattle.proberun.proofs.running.run_groups.Goals as goal

@@ -1,7 +1,7 @@
 use Rattle.std.proofs.Common.{◌+◌, ◌^◌, ◌≤◌, length}
 use Rattle.meaning.specs.Play.{whole}
 use Rattle.plan.specs.Walk.{empty_mind, walk}
-use Rattle.machine.specs.Standing.{run_left, asks_left, Fits}
+use Rattle.run_machine.specs.Standing.{run_left, asks_left, Fits}
 use Rattle.run_test.specs.Waits.{given}
 use Rattle.proberun.specs.Serving.{AllFree}
 use Rattle.proberun.specs.Progress.{Progress, Moving}

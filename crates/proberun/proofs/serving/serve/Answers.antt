@@ -1,6 +1,6 @@
 use Rattle.std.proofs.Common.{◌≡◌, ◌+◌, ◌∙◌, ap, sym, subst, refl, ⊎_elim, arith}
 use Rattle.std.specs.Prelude.{slice_get}
-use Rattle.machine.specs.Standing.{Standing}
+use Rattle.run_machine.specs.Standing.{Standing}
 use Rattle.proberun.specs.Serving.{Serving, Served}
 use Rattle.proberun.proofs.GroupLemmas.{serving_begins, serving_ends}
 use Rattle.proberun.proofs.ServingLemmas.{next_job, all_attempted, room_to_end}

@@ -1,7 +1,7 @@
 use Rattle.std.proofs.Common.{length, sym, ◌∙◌}
 use Rattle.std.proofs.lemmas.Bool.{eqb-true}
 use Rattle.std.proofs.lemmas.List.{nil_from_length}
-use Rattle.invocation.proofs.Fronts.{told_blank}
+use Rattle.cmd_call.proofs.Fronts.{told_blank}
 use Rattle.runner.proofs.inputs.tell_said.Goals as goal
 
 pub returns-then-is_empty-clause-told : goal.returns-then-is_empty-clause-told

@@ -1,0 +1,6 @@
+pub mod Lists
+pub mod OutputLemmas
+pub mod FeatureLemmas
+pub mod EntryLists
+pub mod PartsLaws
+pub mod PartsLoop

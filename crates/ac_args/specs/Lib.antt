@@ -1,0 +1,12 @@
+pub mod Arguments
+pub mod Path
+pub mod Outputs
+pub mod Shell
+pub mod Numbers
+pub mod Feature
+pub mod Help
+pub mod Programs
+pub mod Libraries
+pub mod Commas
+pub mod EntryForms
+pub mod Entries

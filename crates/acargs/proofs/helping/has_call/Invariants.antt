@@ -1,7 +1,0 @@
-use Rattle.std.proofs.Common.{◌≡◌, drop}
-use Rattle.m4quote.specs.Entry.{views}
-use Rattle.acargs.specs.Help.{has_call}
-use Rattle.acargs.proofs.helping.has_call.Given as goal
-
-abbrev pub invariant-loop-item : goal.invariant-loop-item
-invariant-loop-item l = has_call l.name (views (drop l.item-index l.items)) ≡ has_call l.name (views l.items)

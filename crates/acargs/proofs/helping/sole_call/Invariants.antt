@@ -1,7 +1,0 @@
-use Rattle.std.proofs.Common.{◌≡◌, drop}
-use Rattle.m4quote.specs.Entry.{views}
-use Rattle.acargs.specs.Help.{sole_call}
-use Rattle.acargs.proofs.helping.sole_call.Given as goal
-
-abbrev pub invariant-loop-i : goal.invariant-loop-i
-invariant-loop-i l = sole_call l.name (views (drop l.i l.items)) ≡ sole_call l.name (views l.items)

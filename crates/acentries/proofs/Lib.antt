@@ -1,3 +1,0 @@
-pub mod Lists
-pub mod PartsLaws
-pub mod PartsLoop

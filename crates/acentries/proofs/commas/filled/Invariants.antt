@@ -1,6 +1,0 @@
-use Rattle.std.proofs.Common.{◌≡◌, ◌++◌, drop, map}
-use Rattle.acentries.specs.Commas.{filled}
-use Rattle.acentries.proofs.commas.filled.Given as goal
-
-abbrev pub invariant-loop-part : goal.invariant-loop-part
-invariant-loop-part l = map (λ e. e.now) l.entries.items ++ filled (map (λ p. p.now) (drop l.part-index l.parts)) ≡ filled (map (λ p. p.now) l.parts)

@@ -1,5 +1,0 @@
-use Rattle.acentries.proofs.PartsLaws.{parts_sound, parts_complete}
-use Rattle.acentries.proofs.facts.comma_laws.Goals as goal
-
-pub returns : goal.returns
-returns c = record { parts = λ text parts. (parts_sound text parts, parts_complete text parts) }

@@ -1,6 +1,0 @@
-use Rattle.m4quote.specs.Entry.{views}
-use Rattle.acstatement.proofs.InsideLemmas.{placed}
-use Rattle.acstatement.proofs.inside.inside.Goals as goal
-
-pub only_run-requires : goal.only_run-requires
-only_run-requires c = λ s e. placed c.args.arg.at _ c.args.arg.text.now (views c.in_ok-items.items.items) s c.args.arg.placed c.in_ok-items.ensures.parts (rw c.deref.ensures.value at e)

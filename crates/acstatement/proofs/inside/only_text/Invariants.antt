@@ -1,7 +1,0 @@
-use Rattle.std.proofs.Common.{◌≡◌, drop}
-use Rattle.m4quote.specs.Entry.{views}
-use Rattle.acstatement.specs.Inside.{only_text}
-use Rattle.acstatement.proofs.inside.only_text.Given as goal
-
-abbrev pub invariant-loop-i : goal.invariant-loop-i
-invariant-loop-i l = only_text (views (drop l.i l.items)) ≡ only_text (views l.items)

@@ -1,3 +1,0 @@
-pub mod Committing
-pub mod Turns
-pub mod Beginnings

@@ -1,6 +1,0 @@
-use Rattle.std.proofs.Common.{◌≡◌, drop}
-use Rattle.batching.specs.Waiting.{is_named}
-use Rattle.batching.proofs.asked.is_named.Given as goal
-
-abbrev pub invariant-loop-entry : goal.invariant-loop-entry
-invariant-loop-entry l = is_named l.name (drop l.entry-index l.entries) ≡ is_named l.name l.entries

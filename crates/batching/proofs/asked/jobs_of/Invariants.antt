@@ -1,7 +1,0 @@
-use Rattle.std.proofs.Common.{◌≡◌, ◌+◌, ◌++◌, drop}
-use Rattle.batching.specs.Waiting.{jobs_of}
-use Rattle.batching.proofs.asked.jobs_of.Given as goal
-
-abbrev pub invariant-loop-i : goal.invariant-loop-i
-invariant-loop-i l =
-    l.jobs.items ++ jobs_of l.listed l.includes (l.i + 1) (drop l.i l.entries) l.store ≡ jobs_of l.listed l.includes 1 l.entries l.store

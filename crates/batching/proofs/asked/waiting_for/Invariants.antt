@@ -1,7 +1,0 @@
-use Rattle.std.proofs.Common.{◌≡◌, ◌++◌, [], drop}
-use Rattle.batching.specs.Waiting.{names_before, waiting_for}
-use Rattle.batching.proofs.asked.waiting_for.Given as goal
-
-abbrev pub invariant-loop-i : goal.invariant-loop-i
-invariant-loop-i l =
-    l.all.items ++ waiting_for l.listed (names_before l.all.items) (drop l.i l.entries) l.store ≡ waiting_for l.listed [] l.entries l.store

@@ -1,7 +1,0 @@
-use Rattle.std.proofs.Common.{◌≡◌, drop}
-use Rattle.batching.specs.Waiting.{any_asks, front_end}
-use Rattle.batching.proofs.beginning.end_front.Given as goal
-
-abbrev pub invariant-loop-i : goal.invariant-loop-i
-invariant-loop-i l =
-    (any_asks (drop l.i l.entries) ≡ any_asks l.entries) × (front_end (drop l.i l.entries) l.store ≡ front_end l.entries l.fn.store)

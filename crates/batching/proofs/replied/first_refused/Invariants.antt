@@ -1,8 +1,0 @@
-use Rattle.std.proofs.Common.{◌≡◌, ◌+◌, drop}
-use Rattle.std.specs.Prelude.{option_map}
-use Rattle.meaning.specs.Play.{first_refused}
-use Rattle.run_test.specs.Waits.{given}
-use Rattle.batching.proofs.replied.first_refused.Given as goal
-
-abbrev pub invariant-loop-i : goal.invariant-loop-i
-invariant-loop-i l = option_map (λ k. l.i + k) (first_refused (given (drop l.i l.replies))) ≡ first_refused (given l.replies)

@@ -1,7 +1,0 @@
-use Rattle.std.proofs.Common.{◌≡◌, length, take}
-use Rattle.casematch.specs.Fronts.{shares}
-use Rattle.casematch.proofs.Shared.{Front}
-use Rattle.casematch.proofs.fronts.shared_fronts.Given as goal
-
-abbrev pub invariant-loop-at : goal.invariant-loop-at
-invariant-loop-at l = (length l.lens.items ≡ l.at) × (l.lens.items ≡ take l.at (shares l.text l.text)) × Front l.text l.stretch

@@ -1,6 +1,0 @@
-use Rattle.std.proofs.Common.{◌≡◌, ◌+◌, drop}
-use Rattle.casematch.specs.Fronts.{shared}
-use Rattle.casematch.proofs.fronts.shared_len.Given as goal
-
-abbrev pub invariant-loop-i : goal.invariant-loop-i
-invariant-loop-i l = l.i + shared (drop l.i l.whole) (drop l.i l.text) ≡ shared l.whole l.text

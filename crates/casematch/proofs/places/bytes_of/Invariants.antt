@@ -1,6 +1,0 @@
-use Rattle.std.proofs.Common.{◌≡◌, map, take}
-use Rattle.casematch.specs.Parts.{byte_of}
-use Rattle.casematch.proofs.places.bytes_of.Given as goal
-
-abbrev pub invariant-loop-piece : goal.invariant-loop-piece
-invariant-loop-piece l = l.bytes.items ≡ map byte_of (take l.piece-index l.pieces)

@@ -1,0 +1,13 @@
+use Rattle.std.proofs.Common.{take, ◌≤◌, OnOk}
+use Rattle.std.specs.Io.KnownBytes.{Appends}
+use Rattle.cfglog.specs.Texts.{messages_of}
+use Rattle.deftable.specs.declared.note.Stream.TheVariants as streams
+use Rattle.cmd_call.specs.Errors.{AreTold, errors_of}
+use Rattle.cmd_call.proofs.printing.print_all.Given as goal
+
+abbrev pub invariant-notes : goal.invariant-notes
+invariant-notes g l = record {
+  before : l.start ≤ l.i;
+  written : OnOk l.done (Appends (g.W.Write.contents l.fn.output) (g.W.Write.contents l.output) (messages_of streams.Out l.fn.quiet (take l.start l.fn.notes)));
+  told : AreTold (g.E.Write.contents l.fn.errors) (g.E.Write.contents l.errors) (errors_of (take l.i l.fn.notes));
+}

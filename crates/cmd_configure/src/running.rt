@@ -1,0 +1,245 @@
+//! The command that runs a configure.ac.
+
+ghost use Rattle.std.specs.Prelude.{◌≡◌, false, ◌≢◌, ℕ, List, Ok, option_copied, unwrap_or};
+ghost use Rattle.std.specs.Io.KnownBytes.{Appends};
+ghost use Rattle.acparse.specs.Profile.{source_of};
+ghost use Rattle.cmd_configure.specs.Configures.{IsConfigured, IsRun, ReadsSource};
+ghost use Rattle.crew_trait.specs.Events.{IsIdle};
+ghost use Rattle.file_texts.specs.Held.{fresh};
+ghost use Rattle.engine.specs.Judged.{IsRead};
+ghost use Rattle.engine_frame.specs.Needed.{script_in};
+ghost use Rattle.cmd_call.specs.Errors.{AreTold};
+ghost use Rattle.cmd_call.specs.Supplies.{AreGiven};
+ghost use Rattle.output_list.specs.Output.{AreOutputs};
+ghost use Rattle.proberun.specs.Ran.{IsWindow, MayRun};
+ghost use Rattle.ac_tree.specs.Lists.{lists_of};
+ghost use Rattle.ac_tree.specs.Script.{script_of};
+
+use ac_tree::Source;
+use acparse::parse;
+use cmd_call::{Supplies, Terminal, keep_inputs, read_supplies, tell_memory};
+use cmd_explain::{Given, Why};
+use cmd_status::{tell_result, tell_run, tell_shown, tell_unread};
+use crew_refusals::Causes;
+use crew_trait::Crew;
+use deftable::Bytes;
+use engine::{Fault, Judged, Needs, go, judge};
+use file_disk::Disk;
+use file_texts::{path_in, read_limited};
+use options::srcdir_of;
+use std::io::{Read, Write};
+
+/// Returns the text of the cache, if there is one.
+fn cache_of(supplies: &Supplies) -> Option<&[u8]>
+    ensures { option_copied result ≡ supplies.now.cache }
+{
+    match &supplies.cache {
+        Some(text) => Some(text.as_slice()),
+        None => None,
+    }
+}
+
+/// Returns what a run is given, as its faults are explained by it.
+fn given_of<'a>(needs: &'a Needs<'_>, cache: Option<&'a [u8]>) -> Given<'a>
+    ensures { result.settings.now ≡ needs.now.settings }
+{
+    Given {
+        source: needs.source(),
+        settings: needs.settings(),
+        cache: cache.unwrap_or(b""),
+    }
+}
+
+/// Runs a source that was judged, with what was read for it, and returns the exit status.
+#[tactic(auto, using(file_texts::proofs::Unused::fresh_unused))]
+fn run_supplied<D: Disk, C: Crew + Causes, R: Read, W: Write, E: Write>(
+    terminal: &mut Terminal<'_, D, R, W, E>,
+    window: usize,
+    why: &Why<'_>,
+    needs: &Needs<'_>,
+    supplies: &Supplies,
+    crew: &mut C,
+) -> u8
+    requires window { IsWindow window }
+    requires may_run { MayRun (C.account crew.old) }
+    requires source { IsRead (script_in needs.now) }
+    requires given { AreGiven (D.known terminal.old.outputs.disk) (script_in needs.now) needs.now.settings.cache_name needs.now.settings.srcdir needs.now.settings.no_create
+        supplies.now.cache supplies.now.templates.items }
+    requires fresh { terminal.old.outputs ≡ fresh terminal.old.outputs.disk }
+    ensures idle { IsIdle (C.account crew.new).events }
+    ensures run { result ≢ 2 → (out : List ℕ) × (said : List (List ℕ))
+        × IsRun window needs.now.arguments (script_in needs.now) needs.now.settings (C.account crew.old) (C.account crew.new)
+        (D.known terminal.old.outputs.disk) (D.known terminal.new.outputs.disk) out said result
+        × Appends (W.contents terminal.old.output) (W.contents terminal.new.output) out
+        × (terminal.old.is_asked ≡ false → AreTold (E.contents terminal.old.errors) (E.contents terminal.new.errors) said) }
+    ensures input { terminal.new.input ≡ terminal.old.input }
+{
+    let alloc = terminal.alloc;
+    let templates = supplies.templates.as_slice();
+    let outputs = &mut terminal.outputs;
+    let srcdir = needs.settings().srcdir.as_slice();
+    let Ok(()) = keep_inputs(alloc, outputs, srcdir, templates) else {
+        return tell_memory(&mut terminal.errors);
+    };
+    let cache = cache_of(supplies);
+    let answer = go(alloc, needs, cache, templates, crew, outputs, window);
+    let given = given_of(needs, cache);
+    tell_result(terminal, why, &given, answer, crew)
+}
+
+/// Reads what a source that was judged needs, runs it, and returns the exit status.
+fn run_needs<D: Disk, C: Crew + Causes, R: Read, W: Write, E: Write>(
+    terminal: &mut Terminal<'_, D, R, W, E>,
+    window: usize,
+    why: &Why<'_>,
+    needs: &Needs<'_>,
+    crew: &mut C,
+) -> u8
+    requires window { IsWindow window }
+    requires may_run { MayRun (C.account crew.old) }
+    requires source { IsRead (script_in needs.now) }
+    requires fresh { terminal.old.outputs ≡ fresh terminal.old.outputs.disk }
+    ensures idle { IsIdle (C.account crew.new).events }
+    ensures run { result ≢ 2 → (out : List ℕ) × (said : List (List ℕ))
+        × IsRun window needs.now.arguments (script_in needs.now) needs.now.settings (C.account crew.old) (C.account crew.new)
+        (D.known terminal.old.outputs.disk) (D.known terminal.new.outputs.disk) out said result
+        × Appends (W.contents terminal.old.output) (W.contents terminal.new.output) out
+        × (terminal.old.is_asked ≡ false → AreTold (E.contents terminal.old.errors) (E.contents terminal.new.errors) said) }
+    ensures input { terminal.new.input ≡ terminal.old.input }
+{
+    let disk = terminal.outputs.disk();
+    match read_supplies(terminal.alloc, disk, needs.source(), needs.settings()) {
+        Ok(supplies) => run_supplied(terminal, window, why, needs, &supplies, crew),
+        Err(_) => tell_memory(&mut terminal.errors),
+    }
+}
+
+/// Judges a source, runs it or shows a text, and returns the exit status.
+fn run_source<D: Disk, C: Crew + Causes, R: Read, W: Write, E: Write>(
+    terminal: &mut Terminal<'_, D, R, W, E>,
+    window: usize,
+    why: &Why<'_>,
+    source: &Source,
+    crew: &mut C,
+) -> u8
+    requires window { IsWindow window }
+    requires may_run { MayRun (C.account crew.old) }
+    requires found { ReadsSource (D.known terminal.old.outputs.disk) why.now.args.now why.now.text.now }
+    requires source { source_of why.now.text.now ≡ Ok (script_of source.now) }
+    requires outputs { AreOutputs (lists_of (script_of source.now)).files (lists_of (script_of source.now)).headers }
+    requires fresh { terminal.old.outputs ≡ fresh terminal.old.outputs.disk }
+    ensures idle { IsIdle (C.account crew.new).events }
+    ensures run { result ≢ 2 → (out : List ℕ) × (said : List (List ℕ))
+        × IsConfigured window why.now.args.now terminal.old.env.now (C.account crew.old) (C.account crew.new)
+        (D.known terminal.old.outputs.disk) (D.known terminal.new.outputs.disk) out said result
+        × Appends (W.contents terminal.old.output) (W.contents terminal.new.output) out
+        × (terminal.old.is_asked ≡ false → AreTold (E.contents terminal.old.errors) (E.contents terminal.new.errors) said) }
+    ensures input { terminal.new.input ≡ terminal.old.input }
+{
+    match judge(terminal.alloc, source, why.args, terminal.env) {
+        Ok(Judged::Shows(report)) => tell_shown(terminal, &report),
+        Ok(Judged::Runs(needs)) => run_needs(terminal, window, why, &needs, crew),
+        Err(fault) => {
+            let disk = terminal.outputs.disk();
+            tell_run(
+                terminal.alloc,
+                disk,
+                why,
+                None,
+                &mut terminal.errors,
+                &fault,
+            )
+        }
+    }
+}
+
+/// Reads a source, runs it, and returns the exit status.
+fn run_text<D: Disk, C: Crew + Causes, R: Read, W: Write, E: Write>(
+    terminal: &mut Terminal<'_, D, R, W, E>,
+    window: usize,
+    why: &Why<'_>,
+    crew: &mut C,
+) -> u8
+    requires window { IsWindow window }
+    requires may_run { MayRun (C.account crew.old) }
+    requires found { ReadsSource (D.known terminal.old.outputs.disk) why.now.args.now why.now.text.now }
+    requires fresh { terminal.old.outputs ≡ fresh terminal.old.outputs.disk }
+    ensures idle { IsIdle (C.account crew.new).events }
+    ensures run { result ≢ 2 → (out : List ℕ) × (said : List (List ℕ))
+        × IsConfigured window why.now.args.now terminal.old.env.now (C.account crew.old) (C.account crew.new)
+        (D.known terminal.old.outputs.disk) (D.known terminal.new.outputs.disk) out said result
+        × Appends (W.contents terminal.old.output) (W.contents terminal.new.output) out
+        × (terminal.old.is_asked ≡ false → AreTold (E.contents terminal.old.errors) (E.contents terminal.new.errors) said) }
+    ensures input { terminal.new.input ≡ terminal.old.input }
+{
+    match parse(terminal.alloc, why.text) {
+        Ok(source) => run_source(terminal, window, why, &source, crew),
+        Err(fault) => {
+            let fault = Fault::from(fault);
+            let disk = terminal.outputs.disk();
+            tell_run(
+                terminal.alloc,
+                disk,
+                why,
+                None,
+                &mut terminal.errors,
+                &fault,
+            )
+        }
+    }
+}
+
+/// Returns what the faults of a run with these arguments are explained by.
+fn why_of<'a>(is_asked: bool, path: &'a [u8], text: &'a [u8], args: &'a [Bytes]) -> Why<'a>
+    ensures text { result.text.now ≡ text.now }
+    ensures args { result.args.now ≡ args.now }
+{
+    Why {
+        is_asked,
+        srcdir: srcdir_of(args),
+        path,
+        text,
+        args,
+    }
+}
+
+/// Runs the configure.ac that the arguments name, with at most `window` children at once, and returns the exit status.
+///
+/// The source is `configure.ac` in the directory that `--srcdir` names, or else in the current one. What the run hands over is
+/// written in the current directory, and then its log. If a text is shown, nothing is written. If anything is wrong, the status is 2,
+/// and standard error has a line for it (own); outputs may have been written before that. If it is asked, further lines may say why.
+pub fn run_configure<D: Disk, C: Crew + Causes, R: Read, W: Write, E: Write>(
+    terminal: &mut Terminal<'_, D, R, W, E>,
+    window: usize,
+    args: &[Bytes],
+    crew: &mut C,
+) -> u8
+    requires window { IsWindow window }
+    requires may_run { MayRun (C.account crew.old) }
+    requires fresh { terminal.old.outputs ≡ fresh terminal.old.outputs.disk }
+    ensures idle { IsIdle (C.account crew.new).events }
+    ensures run { result ≢ 2 → (out : List ℕ) × (said : List (List ℕ))
+        × IsConfigured window args.now terminal.old.env.now (C.account crew.old) (C.account crew.new)
+        (D.known terminal.old.outputs.disk) (D.known terminal.new.outputs.disk) out said result
+        × Appends (W.contents terminal.old.output) (W.contents terminal.new.output) out
+        × (terminal.old.is_asked ≡ false → AreTold (E.contents terminal.old.errors) (E.contents terminal.new.errors) said) }
+    ensures input { terminal.new.input ≡ terminal.old.input }
+{
+    let alloc = terminal.alloc;
+    let is_asked = terminal.is_asked;
+    let Ok(path) = path_in(alloc, srcdir_of(args), b"configure.ac") else {
+        return tell_memory(&mut terminal.errors);
+    };
+    let path = path.as_slice();
+    match read_limited(alloc, terminal.outputs.disk(), path) {
+        Ok(Some(text)) => {
+            let why = why_of(is_asked, path, text.as_slice(), args);
+            run_text(terminal, window, &why, crew)
+        }
+        Ok(None) => {
+            let disk = terminal.outputs.disk();
+            tell_unread(alloc, disk, is_asked, path, &mut terminal.errors)
+        }
+        Err(_) => tell_memory(&mut terminal.errors),
+    }
+}

@@ -1,0 +1,68 @@
+//! Why outputs are not made again.
+
+ghost use Rattle.std.specs.Prelude.{◌≡◌, false};
+
+use crate::page::{numbered, put_words};
+use crate::{Why, explain_template, explain_words};
+use engine_frame::RemakeFault;
+use file_disk::Disk;
+use lint_table::Words;
+use lint_words::{record_words, tag_words};
+use output_list::Output;
+use status_record::Record;
+use std::alloc::{AllocError, Global};
+use std::io::Write;
+
+/// Appends the names of outputs.
+fn push_names<'a>(outputs: &'a [Output], names: &mut Vec<&'a [u8]>) -> Result<(), AllocError> {
+    for output in outputs {
+        names.push(output.name.as_slice())?;
+    }
+    Ok(())
+}
+
+/// Returns that a name is that of no output of a record.
+fn of_record_tag(alloc: Global, record: &Record, name: &[u8]) -> Result<Words, AllocError> {
+    let mut names = Vec::new(alloc);
+    push_names(record.files.as_slice(), &mut names)?;
+    push_names(record.headers.as_slice(), &mut names)?;
+    tag_words(alloc, name, names.as_slice())
+}
+
+/// Says that a name is that of no output of a record.
+fn explain_tag<E: Write>(alloc: Global, recorded: Option<&Record>, name: &[u8], errors: &mut E) {
+    if let Some(recorded) = recorded {
+        put_words(alloc, of_record_tag(alloc, recorded, name), errors);
+    }
+}
+
+/// Says more of why outputs are not made again, after its line, if it is asked. `recorded` is the record, if it was read. If a put was
+/// refused, `cause` says why.
+pub fn explain_remake<D: Disk, E: Write>(
+    alloc: Global,
+    disk: &D,
+    why: &Why<'_>,
+    recorded: Option<&Record>,
+    cause: &[u8],
+    errors: &mut E,
+    fault: &RemakeFault,
+)
+    ensures silent { why.now.is_asked ≡ false → errors.new ≡ errors.old }
+{
+    if why.is_asked {
+        match fault {
+            RemakeFault::Record(fault) => {
+                put_words(alloc, record_words(alloc, *fault, why.text), errors)
+            }
+            RemakeFault::UnknownTag(number) => {
+                let name = numbered(why.args, *number);
+                explain_tag(alloc, recorded, name, errors)
+            }
+            RemakeFault::NoTemplate(name) => {
+                explain_template(alloc, disk, why, name.as_slice(), errors)
+            }
+            RemakeFault::PutRefused(_number) => explain_words(alloc, true, cause, errors),
+            _ => {}
+        }
+    }
+}

@@ -1,0 +1,56 @@
+//! The faults of a run.
+
+ghost use Rattle.std.specs.Prelude.{◌≡◌, false};
+
+use crate::page::{put_words, slices};
+use crate::precious::{Given, of_precious};
+use crate::source::explain_source;
+use crate::{Why, explain_template};
+use engine_frame::Fault;
+use file_disk::Disk;
+use lint_table::Words;
+use lint_words::{cache_words, option_words};
+use options_line::OptionFault;
+use std::alloc::{AllocError, Global};
+use std::io::Write;
+
+/// Returns what is wrong with an argument.
+fn of_option(alloc: Global, why: &Why<'_>, fault: OptionFault) -> Result<Words, AllocError> {
+    let args = slices(alloc, why.args)?;
+    option_words(alloc, fault, args.as_slice())
+}
+
+/// Says what is wrong with the cache or with a precious variable, after the line of the fault.
+fn explain_given<E: Write>(alloc: Global, given: &Given<'_>, errors: &mut E, fault: &Fault) {
+    match fault {
+        Fault::Cache(fault) => put_words(alloc, cache_words(alloc, *fault, given.cache), errors),
+        Fault::Precious(fault) => put_words(alloc, of_precious(alloc, given, *fault), errors),
+        _ => {}
+    }
+}
+
+/// Says what is wrong with what a run is given, after the line of the fault, if it is asked. If the source was judged before the
+/// fault was found, `given` is what the run was given then.
+pub fn explain_fault<D: Disk, E: Write>(
+    alloc: Global,
+    disk: &D,
+    why: &Why<'_>,
+    given: Option<&Given<'_>>,
+    errors: &mut E,
+    fault: &Fault,
+)
+    ensures silent { why.now.is_asked ≡ false → errors.new ≡ errors.old }
+{
+    if why.is_asked {
+        match fault {
+            Fault::Option(fault) => put_words(alloc, of_option(alloc, why, *fault), errors),
+            Fault::Cache(_) | Fault::Precious(_) => {
+                if let Some(given) = given {
+                    explain_given(alloc, given, errors, fault);
+                }
+            }
+            Fault::NoTemplate(name) => explain_template(alloc, disk, why, name.as_slice(), errors),
+            _ => explain_source(alloc, why, errors, fault),
+        }
+    }
+}

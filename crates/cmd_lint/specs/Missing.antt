@@ -1,0 +1,45 @@
+-- The errors of templates that can't be read. All of this is own.
+use Rattle.std.specs.Prelude.{◌≡◌, ℕ, Bool, true, false, not, List, [], ◌∷◌, All, Option, Some, None, Ok, Err, bytes_eq}
+use Rattle.std.specs.List.{Contains, list_any}
+use Rattle.acparse.specs.Profile.{source_of}
+use Rattle.ac_statement.specs.declared.fault.ParseFault.{ParseFault}
+use Rattle.file_disk.specs.Known.{Known}
+use Rattle.lint_findings.specs.declared.finding.Finding.{Finding}
+use Rattle.cmd_lint.specs.Status.{IsThere, IsMissing, outputs_of}
+use Rattle.output_list.specs.declared.output.Output.{Output}
+use Rattle.ac_tree.specs.Script.{Script}
+
+-- The template of an output is not among those that were read.
+abbrev pub is_lost : List (List ℕ × List ℕ) → Output → Bool
+is_lost templates output = not (list_any (λ template. bytes_eq template.0 output.template) templates)
+
+-- What errors became: they are the same if no template is lost, and some otherwise.
+abbrev pub AreAdded : Bool → List Finding → List Finding → Type 0
+AreAdded false old new = new ≡ old
+AreAdded true old new = new ≡ [] → ⊥
+
+-- Whether there are errors.
+abbrev pub HasSome : List Finding → Bool → Type 0
+HasSome [] has = has ≡ false
+HasSome (error ∷ more) has = has ≡ true
+
+-- The template of one of these outputs can't be read, or each can.
+abbrev pub Lacks : Option Known → List ℕ → List Output → Bool → Type 0
+Lacks files directory outputs true = (output : Output) × Contains outputs output × IsMissing files directory output
+Lacks files directory outputs false = All (IsThere files directory) outputs
+
+-- What errors became after those of the templates of outputs.
+pub record AreChecked (files : Option Known) (directory : List ℕ) (outputs : List Output) (old new : List Finding) : Type 0 where
+  pub lacks : Bool
+  pub is : Lacks files directory outputs lacks
+  pub added : AreAdded lacks old new
+
+-- What errors became after those of the templates of a source, if it has statements.
+abbrev pub AreCheckedOf : Option Known → List ℕ → Option Script → List Finding → List Finding → Type 0
+AreCheckedOf files directory None old new = new ≡ old
+AreCheckedOf files directory (Some script) old new = AreChecked files directory (outputs_of script) old new
+
+-- These are the statements of a source, or it is refused.
+abbrev pub IsParsed : List ℕ → Option Script → Type 0
+IsParsed text (Some script) = source_of text ≡ Ok script
+IsParsed text None = (fault : ParseFault) × (source_of text ≡ Err fault)

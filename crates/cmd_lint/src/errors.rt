@@ -1,0 +1,128 @@
+//! What is found in a source: its errors, the templates that are not there, and the warnings.
+
+ghost use Rattle.std.specs.Prelude.{option_map, Some, IfOk};
+ghost use Rattle.cmd_lint.specs.Missing as specs;
+ghost use Rattle.cmd_lint.specs.Status.{HasError};
+ghost use Rattle.ac_tree.specs.Script.{script_of};
+
+use crate::reading::Linted;
+use crate::sheets::{Sheets, sheets_of};
+use crate::templates::read_all;
+use crate::warnings::add_warnings;
+use ac_calls::{CallAt, calls_of};
+use ac_tree::Source;
+use acparse::{ParseFault, parse};
+use file_disk::Disk;
+use lint_all::all_errors;
+use lint_findings::{Finding, put_in_order};
+use lint_warnings::warn_of_calls;
+use std::alloc::{AllocError, Global};
+
+/// What is found in a source and its templates, in order of place, and the templates.
+#[derive(Drop)]
+pub(crate) struct Found {
+    pub(crate) findings: Vec<Finding>,
+    pub(crate) sheets: Sheets,
+    /// Whether one of them is an error.
+    pub(crate) has_error: bool,
+}
+
+/// Returns the statements of a source, unless it is refused.
+fn parsed(alloc: Global, text: &[u8]) -> Result<Option<Source>, AllocError>
+    ensures { IfOk result (λ o. specs.IsParsed text.now (option_map script_of o)) }
+{
+    match parse(alloc, text) {
+        Ok(source) => Ok(Some(source)),
+        Err(ParseFault::OutOfMemory) => Err(AllocError),
+        Err(_) => Ok(None),
+    }
+}
+
+/// Reads the templates of a source that has statements, and appends an error for each output whose template can't be read.
+fn templates_of<D: Disk>(
+    alloc: Global,
+    disk: &D,
+    linted: &Linted,
+    source: &Source,
+    found: &mut Vec<Finding>,
+) -> Result<Sheets, AllocError>
+    ensures { IfOk result (λ _. specs.AreCheckedOf (D.known disk.now) linted.now.directory (Some (script_of source.now)) found.old.items found.new.items) }
+{
+    let templates = read_all(alloc, disk, linted, source, found)?;
+    sheets_of(alloc, linted.directory.as_slice(), source, templates)
+}
+
+/// Reads the templates of a source, if it has statements, and appends an error for each output whose template can't be read.
+fn sheets_for<D: Disk>(
+    alloc: Global,
+    disk: &D,
+    linted: &Linted,
+    source: &Option<Source>,
+    found: &mut Vec<Finding>,
+) -> Result<Sheets, AllocError>
+    ensures { IfOk result (λ _. specs.AreCheckedOf (D.known disk.now) linted.now.directory (option_map script_of source.now) found.old.items found.new.items) }
+{
+    match source {
+        Some(source) => templates_of(alloc, disk, linted, source, found),
+        None => Ok(Sheets::none(alloc)),
+    }
+}
+
+/// Returns whether there are errors.
+#[tactic(auto, using(crate::proofs::Lost::has_some))]
+fn has_some(errors: &[Finding]) -> bool
+    ensures { specs.HasSome errors.now result }
+{
+    !errors.is_empty()
+}
+
+/// Appends the warnings about a source and its templates: if it is refused, those about its calls alone.
+fn add_all_warnings(
+    alloc: Global,
+    text: &[u8],
+    calls: &[CallAt],
+    source: &Option<Source>,
+    sheets: &Sheets,
+    found: &mut Vec<Finding>,
+) -> Result<(), AllocError> {
+    warn_of_calls(alloc, text, calls, found)?;
+    match source {
+        Some(source) => add_warnings(alloc, text, calls, source, sheets, found),
+        None => Ok(()),
+    }
+}
+
+/// Appends the warnings about a source and its templates, and puts what was found in order of place.
+fn finish(
+    alloc: Global,
+    text: &[u8],
+    source: &Option<Source>,
+    sheets: &Sheets,
+    found: &mut Vec<Finding>,
+) -> Result<(), AllocError> {
+    let calls = calls_of(alloc, text)?;
+    add_all_warnings(alloc, text, calls.as_slice(), source, sheets, found)?;
+    put_in_order(found)
+}
+
+/// Returns what is found in a source, in order of place: its errors, the templates that are not there, and the warnings. If the source
+/// is refused, the warnings are those about its calls alone.
+pub(crate) fn found_in<D: Disk>(
+    alloc: Global,
+    disk: &D,
+    linted: &Linted,
+) -> Result<Found, AllocError>
+    ensures { IfOk result (λ f. HasError (D.known disk.now) linted.now.directory linted.now.text f.has_error) }
+{
+    let text = linted.text.as_slice();
+    let mut findings = all_errors(alloc, text)?;
+    let source = parsed(alloc, text)?;
+    let sheets = sheets_for(alloc, disk, linted, &source, &mut findings)?;
+    let has_error = has_some(findings.as_slice());
+    finish(alloc, text, &source, &sheets, &mut findings)?;
+    Ok(Found {
+        findings,
+        sheets,
+        has_error,
+    })
+}

@@ -1,0 +1,121 @@
+//! The templates of a source, as they are read for warnings.
+
+use ac_tree::Source;
+use deftable::Bytes;
+use file_texts::path_in;
+use output_list::Output;
+use std::alloc::{AllocError, Global};
+
+/// A file with findings: what it is called, and its text.
+#[derive(Drop)]
+pub(crate) struct Sheet {
+    pub(crate) name: Bytes,
+    pub(crate) text: Bytes,
+}
+
+/// The templates that are there. Findings count them from 1: those of files, each once, and then those of headers.
+#[derive(Drop)]
+pub(crate) struct Sheets {
+    read: Vec<Sheet>,
+    files: Vec<usize>,
+    headers: Vec<usize>,
+}
+
+impl Sheets {
+    /// Returns no templates.
+    pub(crate) fn none(alloc: Global) -> Sheets {
+        Sheets {
+            read: Vec::new(alloc),
+            files: Vec::new(alloc),
+            headers: Vec::new(alloc),
+        }
+    }
+
+    /// Returns the place of the template of this number, counted from 1.
+    fn place(&self, number: usize) -> Option<&usize> {
+        let index = number.checked_sub(1)?;
+        match index.checked_sub(self.files.len()) {
+            Some(rest) => self.headers.get(rest),
+            None => self.files.get(index),
+        }
+    }
+
+    /// Returns the template of this number, counted from 1.
+    pub(crate) fn get(&self, number: usize) -> Option<&Sheet> {
+        let place = self.place(number)?;
+        self.read.get(*place)
+    }
+
+    /// Returns the number of the templates of files.
+    pub(crate) fn files(&self) -> usize {
+        self.files.len()
+    }
+
+    /// Returns the number of all templates.
+    pub(crate) fn count(&self) -> usize {
+        self.files.len().saturating_add(self.headers.len())
+    }
+}
+
+/// Appends the place of the template of an output among those that were read, unless it isn't there, or was appended before.
+fn add_place(
+    templates: &[(Bytes, Bytes)],
+    output: &Output,
+    places: &mut Vec<usize>,
+) -> Result<(), AllocError> {
+    let name = output.template.as_slice();
+    let place = templates
+        .iter()
+        .position(|template| template.0.as_slice() == name);
+    let Some(place) = place else {
+        return Ok(());
+    };
+    if !places.iter().any(|other| *other == place) {
+        places.push(place)?;
+    }
+    Ok(())
+}
+
+/// Returns the places of the templates of outputs among those that were read.
+fn places_of(
+    alloc: Global,
+    templates: &[(Bytes, Bytes)],
+    outputs: &[Output],
+) -> Result<Vec<usize>, AllocError> {
+    let mut places = Vec::new(alloc);
+    for output in outputs {
+        add_place(templates, output, &mut places)?;
+    }
+    Ok(places)
+}
+
+/// Returns templates as files with findings.
+fn sheets_in(
+    alloc: Global,
+    directory: &[u8],
+    templates: Vec<(Bytes, Bytes)>,
+) -> Result<Vec<Sheet>, AllocError> {
+    let mut sheets = Vec::new(alloc);
+    for (name, text) in templates {
+        let name = path_in(alloc, directory, name.as_slice())?;
+        sheets.push(Sheet { name, text })?;
+    }
+    Ok(sheets)
+}
+
+/// Returns the templates of a source that were read.
+pub(crate) fn sheets_of(
+    alloc: Global,
+    directory: &[u8],
+    source: &Source,
+    templates: Vec<(Bytes, Bytes)>,
+) -> Result<Sheets, AllocError> {
+    let files = places_of(alloc, templates.as_slice(), source.files().as_slice())?;
+    let headers = places_of(alloc, templates.as_slice(), source.headers().as_slice())?;
+    let read = sheets_in(alloc, directory, templates)?;
+    Ok(Sheets {
+        read,
+        files,
+        headers,
+    })
+}

@@ -1,0 +1,81 @@
+//! What the words after `lint` are.
+
+ghost use Rattle.std.specs.Prelude.{◌≡◌, false};
+ghost use Rattle.std.specs.List.{list_any};
+ghost use Rattle.cmd_call.specs.Calls as calls;
+ghost use Rattle.cmd_lint.specs.Status as specs;
+
+use deftable::Bytes;
+
+/// The option for JSON.
+const JSON: &[u8] = b"--json";
+
+/// Returns whether the word names standard input.
+pub(crate) fn is_input(word: &[u8]) -> bool
+    ensures { result ≡ calls.is_input word.now }
+{
+    word == b"-".as_slice()
+}
+
+/// Returns whether a word of a list names standard input.
+fn is_input_word(word: &Bytes) -> bool
+    ensures { result ≡ calls.is_input word.now }
+{
+    is_input(word.as_slice())
+}
+
+/// Returns whether one of the words names standard input.
+pub fn has_input(words: &[Bytes]) -> bool
+    ensures { result ≡ list_any calls.is_input words.now }
+{
+    words.iter().any(is_input_word)
+}
+
+/// Returns whether the word is an option, and no name of a file.
+pub fn is_option(word: &[u8]) -> bool
+    ensures { result ≡ calls.is_option word.now }
+{
+    word.starts_with(b"-") && word != b"-".as_slice()
+}
+
+/// Returns whether the word is the option for JSON.
+fn is_json(word: &Bytes) -> bool
+    ensures { result ≡ specs.is_json word.now }
+{
+    word.as_slice() == JSON
+}
+
+/// Returns whether one of the words is the option for JSON.
+pub(crate) fn asks_json(words: &[Bytes]) -> bool
+    ensures { result ≡ list_any specs.is_json words.now }
+{
+    words.iter().any(is_json)
+}
+
+/// Returns whether the word is an option that isn't known.
+fn is_unknown(word: &Bytes) -> bool
+    ensures { result ≡ specs.is_unknown word.now }
+{
+    is_option(word.as_slice()) && !is_json(word)
+}
+
+/// Returns whether one of the words is an option that isn't known.
+pub(crate) fn has_unknown(words: &[Bytes]) -> bool
+    ensures { result ≡ list_any specs.is_unknown words.now }
+{
+    words.iter().any(is_unknown)
+}
+
+/// Returns whether the word names a source.
+pub(crate) fn is_name(word: &Bytes) -> bool
+    ensures { result ≡ specs.is_name word.now }
+{
+    !is_option(word.as_slice())
+}
+
+/// Returns whether one of the words names a source.
+pub(crate) fn has_name(words: &[Bytes]) -> bool
+    ensures { result ≡ list_any specs.is_name words.now }
+{
+    words.iter().any(is_name)
+}

@@ -1,0 +1,96 @@
+-- What is printed, and its status.
+use Rattle.std.proofs.Common.{◌≡◌, ◌≢◌, ◌⊎◌, inl, inr, ℕ, List, [], ◌∷◌, Option, Some, None, Bool, true, false, ◌&&◌, ◌||◌, ap, subst, sym, refl, ◌∙◌, true≢false}
+use Rattle.std.specs.Prelude.{if◌then◌else◌}
+use Rattle.std.specs.List.{list_any}
+use Rattle.file_disk.specs.Known.{Known}
+use Rattle.cmd_call.specs.Calls.{is_input, is_option}
+use Rattle.cmd_lint.specs.Status.{IsNamed}
+use Rattle.std.specs.Io.KnownBytes.{Appends}
+use Rattle.port_calls.specs.declared.idioms.Idioms.{Idioms}
+use Rattle.cmd_port.specs.Ported.{IsPorted}
+use Rattle.port_calls.specs.declared.idioms.Idioms.TheVariants.{Exact, All}
+use Rattle.cmd_port.specs.Asked.{Request, here, is_switch, named, request_of}
+use Rattle.cmd_port.specs.Printed.{IsPrinted, IsAnswer, status_of}
+
+pub put_lent : (slice text : List ℕ) (result : ℕ) (a b : Option (List ℕ)) → slice ≡ text → (result ≢ 2 → Appends a b slice) → result ≢ 2 → Appends a b text
+put_lent slice text result a b lent put ne = subst (λ t. Appends a b t) lent (put ne)
+
+pub status_lent : (status wanted result : ℕ) → status ≡ wanted → (result ≢ 2 → result ≡ status) → result ≢ 2 → result ≡ wanted
+status_lent status wanted result is same ne = same ne ∙ is
+
+pub answered : (idioms : Idioms) (text slice out : List ℕ) (has : Bool) (result : ℕ) (a b : Option (List ℕ)) → slice ≡ text → IsPorted idioms slice has out
+    → (result ≢ 2 → result ≡ status_of has) → (result ≢ 2 → Appends a b out)
+    → result ≢ 2 → (o : List ℕ) × IsPrinted idioms text o result × Appends a b o
+answered idioms text slice out has result a b lent ported same put ne =
+    (out, record { has_comments = has; ported = subst (λ t. IsPorted idioms t has out) lent ported; status_is = same ne }, put ne)
+
+pub read : (files : Option Known) (idioms : Idioms) (is_stream : Bool) (name text directory slice : List ℕ) (result : ℕ) (a b : Option (List ℕ)) → IsNamed files is_stream name text directory
+    → (result ≢ 2 → (o : List ℕ) × IsPrinted idioms text o result × Appends a b o)
+    → result ≢ 2 → (o : List ℕ) × ((t : List ℕ) × (d : List ℕ) × IsNamed files is_stream name t d × IsPrinted idioms t o result) × Appends a b o
+read files idioms is_stream name text directory slice result a b named gives ne = let g = gives ne in (g.0, (text, directory, named, g.1), g.2)
+
+-- ---- the words
+
+-- The words with a name have that name among them.
+from_here : (idioms : Idioms) (request : Request) → Some (here idioms) ≡ Some request → is_input request.source ≡ true → ⊥
+from_here idioms request is input =
+    let same : here idioms ≡ request = cc in
+    let no_input : is_input request.source ≡ false = ap (λ r. is_input r.source) (sym same) in
+    true≢false (sym input ∙ no_input)
+
+from_named : (idioms : Idioms) (word : List ℕ) (request : Request) (b : Bool) → (if b then None else Some (record { idioms = idioms; source = word })) ≡ Some request → request.source ≡ word
+from_named idioms word request true is = absurd cc
+from_named idioms word request false is =
+    let given : Request = record { idioms = idioms; source = word } in
+    let same : given ≡ request = cc in
+    ap (λ r. r.source) (sym same)
+
+from_one : (word : List ℕ) (request : Request) (b : Bool) → (if b then Some (here All) else named Exact word) ≡ Some request → is_input request.source ≡ true → request.source ≡ word
+from_one word request true is input = absurd (from_here All request is input)
+from_one word request false is input = from_named Exact word request (is_option word) is
+
+from_second : (first second : List ℕ) (request : Request) (b : Bool) → (if b then named All first else None) ≡ Some request → request.source ≡ first
+from_second first second request true is = from_named All first request (is_option first) is
+from_second first second request false is = absurd cc
+
+from_two : (first second : List ℕ) (request : Request) (b : Bool)
+    → (if b then named All second else (if is_switch second then named All first else None)) ≡ Some request → (request.source ≡ second) ⊎ (request.source ≡ first)
+from_two first second request true is = inl (from_named All second request (is_option second) is)
+from_two first second request false is = inr (from_second first second request (is_switch second) is)
+
+among_one : (word source : List ℕ) → source ≡ word → is_input source ≡ true → list_any is_input (word ∷ []) ≡ true
+among_one word source same input = ap (λ b. b || false) (ap is_input (sym same) ∙ input)
+
+or_true : (b : Bool) → (b || true) ≡ true
+or_true true = refl
+or_true false = refl
+
+among_two : (first second source : List ℕ) → (source ≡ second) ⊎ (source ≡ first) → is_input source ≡ true → list_any is_input (first ∷ second ∷ []) ≡ true
+among_two first second source (inr same) input = ap (λ b. b || list_any is_input (second ∷ [])) (ap is_input (sym same) ∙ input)
+among_two first second source (inl same) input = ap (λ b. is_input first || b) (among_one second source same input) ∙ or_true (is_input first)
+
+named_among : (words : List (List ℕ)) (request : Request) → request_of words ≡ Some request → is_input request.source ≡ true → list_any is_input words ≡ true
+named_among [] request is input = absurd (from_here Exact request is input)
+named_among (word ∷ []) request is input = among_one word request.source (from_one word request (is_switch word) is input) input
+named_among (first ∷ second ∷ []) request is input = among_two first second request.source (from_two first second request (is_switch first) is) input
+named_among (first ∷ second ∷ third ∷ more) request is input = absurd cc
+
+stream_is : (reads : Bool) (source : List ℕ) (b : Bool) → is_input source ≡ b → (is_input source ≡ true → reads ≡ true) → (reads && is_input source) ≡ is_input source
+stream_is true source b is all = refl
+stream_is false source false is all = sym is
+stream_is false source true is all = absurd (true≢false (sym (all is)))
+
+pub by_words : (files : Option Known) (words : List (List ℕ)) (asked : Option Request) (request : Request) (reads : Bool) (result : ℕ) (a b : Option (List ℕ)) → asked ≡ request_of words → asked ≡ Some request
+    → reads ≡ list_any is_input words
+    → (result ≢ 2 → (o : List ℕ) × ((t : List ℕ) × (d : List ℕ) × IsNamed files (reads && is_input request.source) request.source t d × IsPrinted request.idioms t o result) × Appends a b o)
+    → result ≢ 2 → (o : List ℕ) × IsAnswer files (request_of words) o result × Appends a b o
+by_words files words asked request reads result a b is some all gives ne =
+    let g = gives ne in
+    let found : Some request ≡ request_of words = sym some ∙ is in
+    let stream : (reads && is_input request.source) ≡ is_input request.source =
+    stream_is reads request.source (is_input request.source) refl (λ input. all ∙ named_among words request (sym found) input) in
+    let answer : IsAnswer files (Some request) g.0 result = (g.1.0, g.1.1, subst (λ s. IsNamed files s request.source g.1.0 g.1.1) stream g.1.2, g.1.3) in
+    (g.0, subst (λ w. IsAnswer files w g.0 result) found answer, g.2)
+
+pub not_wrong : (words : Option Request) (request : Request) (result : ℕ) → Some request ≡ words → words ≡ None → result ≡ 2
+not_wrong words request result is none = absurd (let z : Some request ≡ None = is ∙ none in cc)

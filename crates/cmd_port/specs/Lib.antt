@@ -1,0 +1,3 @@
+pub mod Ported
+pub mod Asked
+pub mod Printed

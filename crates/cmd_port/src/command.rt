@@ -1,0 +1,169 @@
+//! The command.
+
+ghost use Rattle.std.specs.Prelude.{◌≡◌, ◌≢◌, ◌≤◌, ◌&&◌, false, ℕ, List, option_map, None};
+ghost use Rattle.std.specs.List.{list_any};
+ghost use Rattle.std.specs.Io.KnownBytes.{Appends};
+ghost use Rattle.cmd_call.specs.Calls as calls;
+ghost use Rattle.cmd_lint.specs.Status.{IsNamed};
+ghost use Rattle.cmd_port.specs.Asked as wanted;
+ghost use Rattle.cmd_port.specs.Printed as specs;
+
+use crate::asking::request_of;
+use crate::{Ported, port};
+use cmd_call::{FAULT, tell_file, tell_memory, tell_usage};
+use cmd_lint::{Linted, has_input, read_named};
+use deftable::Bytes;
+use file_disk::Disk;
+use lint_errors::errors_of;
+use lint_excerpts::excerpt_of;
+use port_calls::Idioms;
+use std::alloc::{AllocError, Global};
+use std::io::{Read, Write};
+
+/// Returns what is said of the errors of a source.
+fn page_of(alloc: Global, linted: &Linted) -> Result<Vec<u8>, AllocError> {
+    let mut page = Vec::new(alloc);
+    let text = linted.text.as_slice();
+    for finding in &errors_of(alloc, text)? {
+        let shown = excerpt_of(alloc, finding, linted.name.as_slice(), text, false)?;
+        page.extend_from_slice(shown.as_slice())?;
+    }
+    Ok(page)
+}
+
+/// Reports that the quotes of a source have an error, and returns the exit status.
+fn tell_quotes<E: Write>(alloc: Global, linted: &Linted, errors: &mut E) -> u8
+    ensures { result ≡ 2 }
+{
+    match page_of(alloc, linted) {
+        Ok(page) => {
+            let _ = errors.write_all(page.as_slice());
+            FAULT
+        }
+        Err(_) => tell_memory(errors),
+    }
+}
+
+/// Returns the exit status after a source that was rewritten.
+fn status_of(ported: &Ported) -> u8
+    ensures status { result ≡ specs.status_of ported.now.has_comments }
+    ensures bound { result ≤ 1 }
+{
+    if ported.has_comments { 1 } else { 0 }
+}
+
+/// Writes a text, and returns the exit status: that which is given, unless the text can't be written.
+fn put_text<W: Write, E: Write>(text: &[u8], status: u8, output: &mut W, errors: &mut E) -> u8
+    requires { status ≤ 1 }
+    ensures bound { result ≤ 2 }
+    ensures status { result ≢ 2 → result ≡ status }
+    ensures silent { result ≢ 2 → errors.new ≡ errors.old }
+    ensures put { result ≢ 2 → Appends (W.contents output.old) (W.contents output.new) text.now }
+{
+    match output.write_all(text) {
+        Ok(()) => status,
+        Err(_) => tell_file(errors, b"standard output"),
+    }
+}
+
+/// Writes a source that was rewritten, and returns the exit status.
+#[tactic(auto, using(crate::proofs::Written::put_lent, crate::proofs::Written::status_lent))]
+fn put_ported<W: Write, E: Write>(ported: &Ported, output: &mut W, errors: &mut E) -> u8
+    ensures bound { result ≤ 2 }
+    ensures status { result ≢ 2 → result ≡ specs.status_of ported.now.has_comments }
+    ensures silent { result ≢ 2 → errors.new ≡ errors.old }
+    ensures put { result ≢ 2 → Appends (W.contents output.old) (W.contents output.new) ported.now.text }
+{
+    put_text(ported.text.as_slice(), status_of(ported), output, errors)
+}
+
+/// Prints a source with its calls rewritten, and returns the exit status.
+#[tactic(auto, using(crate::proofs::Written::answered))]
+fn port_source<W: Write, E: Write>(
+    alloc: Global,
+    idioms: Idioms,
+    linted: &Linted,
+    output: &mut W,
+    errors: &mut E,
+) -> u8
+    ensures bound { result ≤ 2 }
+    ensures silent { result ≢ 2 → errors.new ≡ errors.old }
+    ensures ported { result ≢ 2 → (out : List ℕ) × specs.IsPrinted idioms linted.now.text out result × Appends (W.contents output.old) (W.contents output.new) out }
+{
+    match port(alloc, idioms, linted.text.as_slice()) {
+        Ok(Some(ported)) => put_ported(&ported, output, errors),
+        Ok(None) => tell_quotes(alloc, linted, errors),
+        Err(_) => tell_memory(errors),
+    }
+}
+
+/// Prints the source of this name with its calls rewritten, and returns the exit status.
+#[tactic(auto, using(crate::proofs::Written::read))]
+fn port_named<D: Disk, R: Read, W: Write, E: Write>(
+    alloc: Global,
+    disk: &D,
+    reads: bool,
+    idioms: Idioms,
+    name: &[u8],
+    input: &mut R,
+    output: &mut W,
+    errors: &mut E,
+) -> u8
+    ensures input { reads ≡ false → input.new ≡ input.old }
+    ensures bound { result ≤ 2 }
+    ensures silent { result ≢ 2 → errors.new ≡ errors.old }
+    ensures ported { result ≢ 2 → (out : List ℕ) × ((text : List ℕ) × (directory : List ℕ)
+        × IsNamed (D.known disk.now) (reads && calls.is_input name.now) name.now text directory × specs.IsPrinted idioms text out result)
+        × Appends (W.contents output.old) (W.contents output.new) out }
+{
+    match read_named(alloc, disk, reads, input, name) {
+        Ok(Some(linted)) => port_source(alloc, idioms, &linted, output, errors),
+        Ok(None) => tell_file(errors, name),
+        Err(_) => tell_memory(errors),
+    }
+}
+
+/// Prints the source that the words name, with its calls rewritten, and returns the exit status.
+///
+/// The words are `--idioms` or not, and at most one name: `-` for standard input, or the path of a source or of a directory with a
+/// `configure.ac`. Without a name, `configure.ac` is read. Without `--idioms`, exact idioms alone are written. Nothing is run, and no
+/// file is written.
+///
+/// The status is 0 if nothing is left to do; 1 if the text has comments about what is left; and 2 if the source can't be read, if its
+/// quotes have an error, if the text can't be written, or if the words are wrong. Then standard error says so (own).
+#[tactic(auto, using(crate::proofs::Written::by_words, crate::proofs::Written::not_wrong))]
+pub fn run_port<D: Disk, R: Read, W: Write, E: Write>(
+    alloc: Global,
+    disk: &D,
+    words: &[Bytes],
+    input: &mut R,
+    output: &mut W,
+    errors: &mut E,
+) -> u8
+    // Standard input is read only if `-` is one of the words.
+    ensures input { list_any calls.is_input words.now ≡ false → input.new ≡ input.old }
+    // The status is one of these three.
+    ensures status { result ≤ 2 }
+    // Standard error has something only if the status is 2.
+    ensures silent { result ≢ 2 → errors.new ≡ errors.old }
+    // It is 2 if the words are wrong.
+    ensures usage { wanted.request_of words.now ≡ None → result ≡ 2 }
+    // Unless it is 2, the source that the words name is written as it was rewritten. It is 1 if that has comments about what is left,
+    // and 0 otherwise.
+    ensures ported { result ≢ 2 → (out : List ℕ) × specs.IsAnswer (D.known disk.now) (wanted.request_of words.now) out result × Appends (W.contents output.old) (W.contents output.new) out }
+{
+    let reads = has_input(words);
+    match request_of(words) {
+        Some(request) => port_named(
+            alloc,
+            disk,
+            reads,
+            request.idioms,
+            request.source,
+            input,
+            output,
+            errors,
+        ),
+        None => tell_usage(errors),
+    }
+}

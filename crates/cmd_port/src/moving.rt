@@ -1,0 +1,38 @@
+//! Calls and statements of a shell are rewritten by turns, until nothing is left that can be rewritten.
+
+ghost use Rattle.std.specs.Prelude.{IfOk, IfSome};
+ghost use Rattle.cmd_port.specs.Ported as specs;
+
+use port_calls::{Idioms, replaced};
+use port_shell::formed;
+use std::alloc::{AllocError, Global};
+
+/// How often there is a turn at most. A call may be rewritten once it is in a call that a statement became.
+const TURNS: usize = 70;
+
+/// Returns the text with its calls rewritten, and then its statements of a shell, or `None` if nothing can be rewritten.
+fn turned(alloc: Global, idioms: Idioms, text: &[u8]) -> Result<Option<Vec<u8>>, AllocError>
+    ensures { IfOk result (λ o. IfSome o (λ v. specs.IsTurn idioms text.now v.items)) }
+{
+    let mid = replaced(alloc, idioms, text)?;
+    let out = formed(alloc, mid.as_slice())?;
+    if out.as_slice() == text {
+        Ok(None)
+    } else {
+        Ok(Some(out))
+    }
+}
+
+/// Returns the text with its calls and its statements of a shell rewritten.
+pub(crate) fn moved(alloc: Global, idioms: Idioms, text: &[u8]) -> Result<Vec<u8>, AllocError>
+    ensures { IfOk result (λ v. specs.IsMoved idioms text.now v.items) }
+{
+    let mut out = Vec::from_slice(alloc, text)?;
+    for _ in 0..TURNS {
+        match turned(alloc, idioms, out.as_slice())? {
+            Some(next) => out = next,
+            None => break,
+        }
+    }
+    Ok(out)
+}

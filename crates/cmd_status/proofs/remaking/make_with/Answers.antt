@@ -1,0 +1,21 @@
+use Rattle.std.proofs.Common.{ap, refl, sym, subst, ◌++◌}
+use Rattle.std.specs.Prelude.{codes, ◌∷◌}
+use Rattle.cmd_call.specs.Guarded.{AreGuarded, inputs_of}
+use Rattle.file_texts.proofs.Unused.{fresh_unused, more_unused}
+use Rattle.cmd_status.proofs.Remakes.{made_again}
+use Rattle.cmd_status.proofs.remaking.make_with.Goals as goal
+
+pub returns-then-is_whole-clause-status : goal.returns-then-is_whole-clause-status
+returns-then-is_whole-clause-status g c = λ other.
+    let d = c.args.terminal.now.outputs.disk in
+    let now = c.keep_all.new.outputs in
+    let guarded : AreGuarded (g.D.Disk.known now.disk) now.guards (codes "config.status" ∷ inputs_of c.args.recorded.now.srcdir c.args.templates.now) =
+    subst (λ s. AreGuarded (g.D.Disk.known now.disk) now.guards (codes "config.status" ∷ inputs_of s c.args.templates.now)) c.as_slice-srcdir.ensures c.in-Ok.ensures.guarded in
+    let whole = c.tell_answer-is_whole.ensures.made c.if-is_whole.true in (
+      refl,
+      c.lines-lines.result.now,
+      made_again g.D.Disk.known d c.keep_all.new.outputs c.remake_record-answer.new.outputs c.args.recorded.now _ c.args.why.now.args.now _ _ whole.0 c.lines-lines.result.now
+          (more_unused _ _ (fresh_unused _ _ c.requires.fresh) c.keep_all.ensures.more) c.requires.found c.requires.given c.remake_record-answer.ensures.remade whole.1 c.lines-lines.ensures.value c.lines-lines.ensures.lines
+          c.lines-lines.ensures.unguarded c.lines-lines.ensures.apart (ap (λ l. l.guards) c.remake_record-answer.ensures.lasting) (ap (λ l. l.files) c.remake_record-answer.ensures.lasting) (ap (λ o. o.disk) c.keep_all.ensures.more.1) guarded,
+      c.print_made-is_printed.ensures.prints c.if-is_printed.true,
+    )

@@ -1,0 +1,105 @@
+//! The lines of the faults of a run, of outputs that are not made again, and of files that can't be read or written.
+
+ghost use Rattle.std.specs.Prelude.{◌≡◌, Ok, IsTrue};
+
+use cmd_call::{FAULT, tell_file, tell_named, tell_precious};
+use cmd_explain::{Given, Why, explain_error, explain_fault, explain_file, explain_remake};
+use engine_frame::{Fault, RemakeFault};
+use file_disk::Disk;
+use status_record::Record;
+use std::alloc::Global;
+use std::io::{self, Write};
+
+/// Reports a fault of a run, and returns the exit status. Of a precious variable, the line has the number and not the name.
+fn tell_fault<E: Write>(errors: &mut E, fault: &Fault) -> u8
+    ensures { result ≡ 2 }
+{
+    match fault {
+        Fault::NoTemplate(name) => tell_named(errors, fault, name.as_slice()),
+        _ => tell_named(errors, fault, b""),
+    }
+}
+
+/// Reports the line of a fault of a run.
+fn tell_line<E: Write>(given: Option<&Given<'_>>, errors: &mut E, fault: &Fault) -> u8
+    ensures { result ≡ 2 }
+{
+    match (fault, given) {
+        (Fault::Precious(inner), Some(given)) => tell_precious(errors, given.source, *inner),
+        _ => tell_fault(errors, fault),
+    }
+}
+
+/// Reports what is wrong with what a run is given, and says more of it if it is asked. Returns the exit status. If the source was judged
+/// before the fault was found, `given` is what the run was given then.
+pub fn tell_run<D: Disk, E: Write>(
+    alloc: Global,
+    disk: &D,
+    why: &Why<'_>,
+    given: Option<&Given<'_>>,
+    errors: &mut E,
+    fault: &Fault,
+) -> u8
+    ensures { result ≡ 2 }
+{
+    let _ = tell_line(given, errors, fault);
+    explain_fault(alloc, disk, why, given, errors, fault);
+    FAULT
+}
+
+/// Reports why outputs are not made again, or a run is not done again, and returns the exit status. Says more of it if it is asked.
+/// `recorded` is the record, if it was read. If a put was refused, `cause` says why, and it is empty if that is not known.
+pub fn tell_remake<D: Disk, E: Write>(
+    alloc: Global,
+    disk: &D,
+    why: &Why<'_>,
+    recorded: Option<&Record>,
+    cause: &[u8],
+    errors: &mut E,
+    fault: &RemakeFault,
+) -> u8
+    ensures { result ≡ 2 }
+{
+    let _ = match fault {
+        RemakeFault::NoTemplate(name) => tell_named(errors, fault, name.as_slice()),
+        _ => tell_named(errors, fault, b""),
+    };
+    explain_remake(alloc, disk, why, recorded, cause, errors, fault);
+    FAULT
+}
+
+/// Reports that the file at this path can't be read, and says why if it is asked. Returns the exit status.
+pub fn tell_unread<D: Disk, E: Write>(
+    alloc: Global,
+    disk: &D,
+    is_asked: bool,
+    path: &[u8],
+    errors: &mut E,
+) -> u8
+    ensures { result ≡ 2 }
+{
+    let _ = tell_file(errors, path);
+    explain_file(alloc, disk, is_asked, path, path, errors);
+    FAULT
+}
+
+/// Reports that the file of this name can't be written, if it can't be, and says why if it is asked. Returns whether it was.
+pub(crate) fn tell_written<E: Write>(
+    alloc: Global,
+    is_asked: bool,
+    name: &[u8],
+    done: io::Result<()>,
+    errors: &mut E,
+) -> bool
+    ensures done { IsTrue result → done ≡ Ok tt }
+    ensures silent { IsTrue result → errors.new ≡ errors.old }
+{
+    match done {
+        Ok(()) => true,
+        Err(e) => {
+            let _ = tell_file(errors, name);
+            explain_error(alloc, is_asked, name, &e, errors);
+            false
+        }
+    }
+}

@@ -1,0 +1,207 @@
+//! What a run leaves for its user: its messages, the lines on its outputs, its log, and its exit status.
+
+ghost use Rattle.std.specs.Prelude.{◌≡◌, ◌≢◌, [], None, Ok, IsTrue, false};
+ghost use Rattle.std.specs.Io.KnownBytes.{Appends};
+ghost use Rattle.cfglog.specs.Texts.{log_of};
+ghost use Rattle.cmd_status.specs.Left.{Logs};
+ghost use Rattle.cmd_status.specs.Printed.{printed};
+ghost use Rattle.engine_frame.specs.declared.report.Report.{Report};
+ghost use Rattle.engine_frame.specs.Told as words;
+ghost use Rattle.cmd_call.specs.Errors.{AreTold, errors_of};
+ghost use Rattle.cmd_call.specs.Logged.{HasLogged, IsHeld};
+
+use crate::errors::{tell_run, tell_written};
+use crate::remaking::OUTPUT;
+use cmd_call::{FAULT, LOG, Terminal, print_all, tell_put, write_log};
+use cmd_explain::{Given, Why, explain_compilers, explain_cut, explain_words};
+use crew_refusals::Causes;
+use engine_frame::{Fault, Outcome, Report, status_of};
+use file_disk::Disk;
+use file_texts::FileOutputs;
+use options::Settings;
+use std::alloc::Global;
+use std::io::{Read, Write};
+
+/// Returns the name of the cache, or an empty text if none is named.
+fn cache_name(settings: &Settings) -> &[u8] {
+    match &settings.cache_name {
+        Some(name) => name.as_slice(),
+        None => b"",
+    }
+}
+
+/// Says why a run was cut, if it was, and if it is asked.
+fn explain_short<C: Causes, E: Write>(
+    alloc: Global,
+    is_asked: bool,
+    report: &Report,
+    cache: &[u8],
+    crew: &C,
+    errors: &mut E,
+)
+    ensures silent { is_asked ≡ false → errors.new ≡ errors.old }
+{
+    if let Outcome::CutShort(number) = report.outcome {
+        explain_cut(
+            alloc,
+            is_asked,
+            number,
+            crew,
+            report.log.as_slice(),
+            cache,
+            errors,
+        );
+    }
+}
+
+/// Prints the messages of a run and the lines of its outputs, and says why it was cut, if it is asked. Returns whether standard output
+/// took them.
+fn print_report<D: Disk, C: Causes, R: Read, W: Write, E: Write>(
+    terminal: &mut Terminal<'_, D, R, W, E>,
+    settings: &Settings,
+    report: &Report,
+    crew: &C,
+) -> bool
+    ensures run { IsTrue result → Appends (W.contents terminal.old.output) (W.contents terminal.new.output) (printed settings.now.quiet report.now.messages terminal.old.outputs.lines) }
+    ensures told { terminal.old.is_asked ≡ false → IsTrue result → AreTold (E.contents terminal.old.errors) (E.contents terminal.new.errors) (errors_of report.now.messages) }
+    ensures held { IsHeld D.known terminal.old.outputs }
+    ensures outputs { terminal.new.outputs ≡ terminal.old.outputs }
+    ensures input { terminal.new.input ≡ terminal.old.input }
+{
+    let alloc = terminal.alloc;
+    let is_asked = terminal.is_asked;
+    let errors = &mut terminal.errors;
+    let lines = terminal.outputs.lines();
+    let messages = report.messages.as_slice();
+    let quiet = settings.quiet;
+    let output = &mut terminal.output;
+    let done = print_all(alloc, messages, lines, quiet, output, errors);
+    explain_short(alloc, is_asked, report, cache_name(settings), crew, errors);
+    explain_compilers(alloc, is_asked, report.log.as_slice(), errors);
+    tell_written(alloc, is_asked, OUTPUT, done, errors)
+}
+
+/// Reports the put that was refused, if one was, and says why if it is asked. Returns whether none was.
+fn tell_refused<E: Write>(
+    alloc: Global,
+    is_asked: bool,
+    refused: Option<u64>,
+    cause: &[u8],
+    errors: &mut E,
+) -> bool
+    ensures refused { IsTrue result → refused ≡ None }
+    ensures silent { IsTrue result → errors.new ≡ errors.old }
+{
+    match refused {
+        Some(number) => {
+            let _ = tell_put(errors, number);
+            explain_words(alloc, is_asked, cause, errors);
+            false
+        }
+        None => true,
+    }
+}
+
+/// Writes the log of a run. Returns whether that succeeded.
+fn log_report<D: Disk, E: Write>(
+    alloc: Global,
+    outputs: &mut FileOutputs<D>,
+    is_asked: bool,
+    report: &Report,
+    errors: &mut E,
+) -> bool
+    ensures log { IsTrue result → HasLogged D.known outputs.old outputs.new (log_of report.now.log) }
+    ensures silent { IsTrue result → errors.new ≡ errors.old }
+{
+    let done = write_log(alloc, outputs, report.log.as_slice());
+    tell_written(alloc, is_asked, LOG.as_bytes(), done, errors)
+}
+
+/// Prints and writes what a run leaves for its user, and returns the exit status.
+fn tell_report<D: Disk, C: Causes, R: Read, W: Write, E: Write>(
+    terminal: &mut Terminal<'_, D, R, W, E>,
+    settings: &Settings,
+    report: &Report,
+    refused: Option<u64>,
+    crew: &C,
+) -> u8
+    ensures run { result ≢ 2 → (refused ≡ None) × (result ≡ words.status_of report.now.outcome)
+        × Appends (W.contents terminal.old.output) (W.contents terminal.new.output) (printed settings.now.quiet report.now.messages terminal.old.outputs.lines)
+        × Logs D.known terminal.old.outputs terminal.new.outputs report.now
+        × (terminal.old.is_asked ≡ false → AreTold (E.contents terminal.old.errors) (E.contents terminal.new.errors) (errors_of report.now.messages)) }
+    ensures input { terminal.new.input ≡ terminal.old.input }
+{
+    let alloc = terminal.alloc;
+    let is_asked = terminal.is_asked;
+    let is_printed = print_report(terminal, settings, report, crew);
+    let outputs = &mut terminal.outputs;
+    let errors = &mut terminal.errors;
+    let is_whole = tell_refused(alloc, is_asked, refused, outputs.cause(), errors);
+    let is_logged = log_report(alloc, outputs, is_asked, report, errors);
+    if is_printed && is_whole && is_logged {
+        status_of(report.outcome)
+    } else {
+        FAULT
+    }
+}
+
+/// Prints and writes what follows from the result of a run, and returns the exit status. `given` is what the run was given.
+///
+/// A report leaves its messages, the lines on its outputs and its log, also if a put was refused,
+/// which is told then. Any other fault is told alone. The status is 2 if there is a fault, if the
+/// log can't be written, or if standard output doesn't take all of it. If it is asked, it also says
+/// why: of a cut run by what the crew knows, and of a refused put by what the outputs know.
+pub fn tell_result<D: Disk, C: Causes, R: Read, W: Write, E: Write>(
+    terminal: &mut Terminal<'_, D, R, W, E>,
+    why: &Why<'_>,
+    given: &Given<'_>,
+    answer: Result<Report, Fault>,
+    crew: &C,
+) -> u8
+    ensures run { result ≢ 2 → (report : Report) × (answer ≡ Ok report) × (result ≡ words.status_of report.outcome)
+        × Appends (W.contents terminal.old.output) (W.contents terminal.new.output) (printed given.now.settings.now.quiet report.messages terminal.old.outputs.lines)
+        × Logs D.known terminal.old.outputs terminal.new.outputs report
+        × (terminal.old.is_asked ≡ false → AreTold (E.contents terminal.old.errors) (E.contents terminal.new.errors) (errors_of report.messages)) }
+    ensures input { terminal.new.input ≡ terminal.old.input }
+{
+    match answer {
+        Ok(report) => tell_report(terminal, given.settings, &report, None, crew),
+        Err(Fault::PutRefused(number, report)) => {
+            tell_report(terminal, given.settings, &report, Some(number), crew)
+        }
+        Err(fault) => {
+            let disk = terminal.outputs.disk();
+            tell_run(
+                terminal.alloc,
+                disk,
+                why,
+                Some(given),
+                &mut terminal.errors,
+                &fault,
+            )
+        }
+    }
+}
+
+/// Prints the text of a report that shows one, and returns the exit status, which is 0 if standard output takes it.
+pub fn tell_shown<D: Disk, R: Read, W: Write, E: Write>(
+    terminal: &mut Terminal<'_, D, R, W, E>,
+    report: &Report,
+) -> u8
+    ensures run { result ≢ 2 → (result ≡ 0)
+        × Appends (W.contents terminal.old.output) (W.contents terminal.new.output) (printed false report.now.messages [])
+        × AreTold (E.contents terminal.old.errors) (E.contents terminal.new.errors) (errors_of report.now.messages) }
+    ensures outputs { terminal.new.outputs ≡ terminal.old.outputs }
+    ensures input { terminal.new.input ≡ terminal.old.input }
+{
+    let alloc = terminal.alloc;
+    let is_asked = terminal.is_asked;
+    let errors = &mut terminal.errors;
+    let messages = report.messages.as_slice();
+    let done = print_all(alloc, messages, b"", false, &mut terminal.output, errors);
+    if tell_written(alloc, is_asked, OUTPUT, done, errors) {
+        0
+    } else {
+        FAULT
+    }
+}

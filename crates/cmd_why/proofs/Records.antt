@@ -1,0 +1,11 @@
+-- What is read of a text that is no record.
+use Rattle.std.proofs.Common.{◌≡◌, ℕ, List, None, Result, Ok, Err, refl, sym}
+use Rattle.status_record.specs.declared.fault.RecordFault.{RecordFault}
+use Rattle.status_record.specs.declared.fault.RecordFault.TheVariants.{OutOfMemory}
+use Rattle.status_record.specs.declared.record.Record.{Record}
+use Rattle.status_record.specs.Reading.{Gives}
+use Rattle.cmd_why.specs.Quoting.{arguments_in}
+
+pub no_arguments : (fault : RecordFault) (read : Result Record RecordFault) → (fault ≡ OutOfMemory → ⊥) → Gives (λ r. r) (Err fault) read → None ≡ arguments_in read
+no_arguments OutOfMemory read not_memory gives = absurd (not_memory refl)
+no_arguments fault read not_memory gives = rw gives refl

@@ -1,5 +1,0 @@
-use Rattle.commandline.proofs.Keepings.{settings_kept}
-use Rattle.commandline.proofs.laws.kept_settings.Goals as goal
-
-pub returns : goal.returns
-returns c = λ i j arguments settings h. settings_kept h j

@@ -1,0 +1,116 @@
+//! The launcher, which connects children to the system.
+
+ghost use Rattle.std.specs.Prelude.{◌≡◌, ℕ, [], ◌∷◌, None, Option, List, OnOk, OnErr, option_map};
+ghost use Rattle.std.specs.Process.{command_args, command_program};
+ghost use Rattle.file_disk.specs.Clearing.{DoesAll};
+ghost use Rattle.crew_launch.specs.Fresh.{DoesFront, after, clearing_stale, replacing, spoiling};
+ghost use Rattle.crew_launch.specs.Launch.{Adds, SystemCall, Failed, Spawned, Wrote};
+
+use crate::fresh::write_fresh;
+use file_disk::{Disk, clear};
+use std::io;
+use std::marker::Model;
+use std::process::{Child, Command, OpenProcess, Processes, Stdio};
+
+/// Writes files and starts commands. The meaning of a launcher is what it did (own).
+pub trait Launcher {
+    /// A child that was started.
+    type Process: OpenProcess + Drop;
+
+    // The files written and the commands started so far, in order, if they are known.
+    ghost calls: { Self → Option (List SystemCall) } = { λ _. None };
+
+    // The name of a file that is removed before anything else is done, if that wasn't tried yet.
+    ghost stale: { Self → Option (List ℕ) } = { λ _. None };
+
+    /// Creates the file, or replaces it.
+    ///
+    /// # Errors
+    ///
+    /// Fails if the system refuses that, and then the file may be there without its whole text.
+    fn write(&mut self, name: &str, text: &[u8]) -> io::Result<()>
+        ensures done { OnOk result (Adds (calls self.old) (calls self.new) (Wrote name.now text.now ∷ [])) }
+        ensures refused { OnErr result (Adds (calls self.old) (calls self.new) []) }
+        ensures once { stale self.new ≡ None };
+
+    /// Starts the command with empty standard input. Its standard output is dropped, and its standard error can be read.
+    ///
+    /// # Errors
+    ///
+    /// Fails if the system refuses that.
+    fn spawn(&mut self, command: &mut Command) -> io::Result<Child<Self::Process>>
+        ensures done { OnOk result (Adds (calls self.old) (calls self.new)
+            (Spawned (command_program command.old ∷ command_args command.old) ∷ [])) }
+        ensures refused { OnErr result (Adds (calls self.old) (calls self.new) (Failed ∷ [])) }
+        ensures once { stale self.new ≡ None };
+}
+
+/// The launcher over a disk that can start programs.
+#[derive(Drop)]
+pub struct DiskLauncher<D: Disk + Processes> {
+    system: D,
+    stale: Option<&'static str>,
+}
+
+impl<D: Disk + Processes> Model for DiskLauncher<D> {
+    ghost use Rattle.std.specs.Prelude.{option_map};
+    ghost use Rattle.crew_launch.specs.Fresh.{Hosted};
+
+    ghost Value = { Hosted D };
+
+    ghost view = { λ h. record { disk = h.system; stale = option_map (λ name. name.now) h.stale } };
+}
+
+impl<D: Disk + Processes> DiskLauncher<D> {
+    /// Returns a launcher. Before it first writes a file or starts a command, it removes the file that is stale, if there is one.
+    pub fn new(system: D, stale: Option<&'static str>) -> DiskLauncher<D>
+        ensures { result ≡ record { disk = system; stale = option_map (λ name. name.now) stale.entry } }
+    {
+        DiskLauncher { system, stale }
+    }
+
+    /// Removes the file that is stale, once.
+    fn clear(&mut self) -> io::Result<()>
+        ensures cleared { OnOk result (DoesAll (D.known self.old.disk) (D.known self.new.disk) (clearing_stale self.old.stale)) }
+        ensures refused { OnErr result (DoesAll (D.known self.old.disk) (D.known self.new.disk) (λ _. [])) }
+        ensures once { self.new.stale ≡ None }
+    {
+        match self.stale.take() {
+            Some(name) => clear(&mut self.system, name),
+            None => Ok(()),
+        }
+    }
+}
+
+impl<D: Disk + Processes> Launcher for DiskLauncher<D> {
+    type Process = D::Started;
+
+    ghost stale = { λ h. h.stale };
+
+    // The file is new, as `write_fresh` says.
+    fn write(&mut self, name: &str, text: &[u8]) -> io::Result<()>
+        ensures written { OnOk result (DoesAll (D.known self.old.disk) (D.known self.new.disk)
+            (after (clearing_stale self.old.stale) (replacing name.now text.now))) }
+        ensures spoilt { OnErr result (DoesFront (D.known self.old.disk) (D.known self.new.disk)
+            (after (clearing_stale self.old.stale) (spoiling name.now))) }
+        ensures once { self.new.stale ≡ None }
+    {
+        match self.clear() {
+            Ok(()) => write_fresh(&mut self.system, name, text),
+            Err(e) => Err(e),
+        }
+    }
+
+    fn spawn(&mut self, command: &mut Command) -> io::Result<Child<D::Started>>
+        ensures started { OnOk result (DoesAll (D.known self.old.disk) (D.known self.new.disk) (clearing_stale self.old.stale)) }
+        ensures failed { OnErr result (DoesFront (D.known self.old.disk) (D.known self.new.disk) (clearing_stale self.old.stale)) }
+        ensures once { self.new.stale ≡ None }
+    {
+        self.clear()?;
+        command
+            .stdin(Stdio::null())
+            .stdout(Stdio::null())
+            .stderr(Stdio::piped());
+        command.spawn(&self.system)
+    }
+}

@@ -1,8 +1,0 @@
-use Rattle.diskfiles.proofs.Placed.{placed_both}
-use Rattle.diskfiles.proofs.Writings.{ok_then}
-use Rattle.diskfiles.proofs.receiver.add_both.Goals as goal
-
-pub returns-clause-placed : goal.returns-clause-placed
-returns-clause-placed g c =
-    ok_then c.add_place-2.result c.add_place-2.ensures.added
-    (λ s. placed_both _ _ _ _ _ c.args.name.now c.args.file.now c.in_ok-add_place.ensures.added s)

@@ -1,8 +1,0 @@
-use Rattle.diskfiles.proofs.Placed.{unstepped}
-use Rattle.diskfiles.proofs.receiver.keep_written.Goals as goal
-
-pub returns-then-is_err-clause-undone : goal.returns-then-is_err-clause-undone
-returns-then-is_err-clause-undone g c = unstepped _ _ _ _
-
-pub returns-then-is_err-2-clause-undone : goal.returns-then-is_err-2-clause-undone
-returns-then-is_err-2-clause-undone g c = unstepped _ _ _ _

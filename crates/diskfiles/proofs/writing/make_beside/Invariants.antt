@@ -1,7 +1,0 @@
--- Nothing was made so far.
-use Rattle.std.proofs.Common.{[]}
-use Rattle.disk.specs.Known.{Adds}
-use Rattle.diskfiles.proofs.writing.make_beside.Given as goal
-
-abbrev pub invariant-loop-number : goal.invariant-loop-number
-invariant-loop-number g l = Adds (g.D.Disk.known l.initial.disk) (g.D.Disk.known l.disk) []

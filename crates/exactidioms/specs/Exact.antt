@@ -1,9 +1,0 @@
--- What a call is replaced by.
-use Rattle.std.specs.Prelude.{ℕ, List, []}
-use Rattle.exactidioms.specs.declared.exact.Exact.{Exact}
-use Rattle.exactidioms.specs.declared.exact.Exact.TheVariants.{Idiom, Nothing}
-
--- The text of an idiom, or of nothing. (own)
-abbrev pub text_of : Exact → List ℕ
-text_of (Idiom text) = text.now
-text_of Nothing = []

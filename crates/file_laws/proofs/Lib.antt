@@ -1,0 +1,5 @@
+mod Flats
+mod Places
+mod Reruns
+mod Lookups
+mod Agains

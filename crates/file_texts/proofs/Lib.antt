@@ -1,0 +1,12 @@
+mod Coherence
+mod Guarded
+mod Kept
+mod Leading
+mod Placed
+mod Puts
+mod Readings
+mod Reread
+mod Slashes
+pub mod Unused
+mod Writings
+pub mod Markers

@@ -1,0 +1,12 @@
+pub mod Coherent
+pub mod Done
+pub mod Held
+pub mod Keeping
+pub mod Lines
+pub mod Links
+pub mod Names
+pub mod Places
+pub mod Reading
+pub mod Sayings
+pub mod Steps
+pub mod Parted

@@ -1,0 +1,192 @@
+//! Writing whole texts.
+
+ghost use Rattle.std.specs.Prelude.{◌≡◌, ◌⊎◌, ℕ, [], ◌∷◌, IfOk, IfSome, OnOk, OnErr, None, string_bytes};
+ghost use Rattle.file_disk.specs.Known.{Adds, Does, Made, Filled, Failed, Renamed, Removed, kind_under};
+ghost use Rattle.file_disk.specs.declared.found.Found.TheVariants as found;
+ghost use Rattle.file_texts.specs.Names.{IsFileName, temporary};
+ghost use Rattle.file_texts.specs.Steps as meant;
+ghost use Rattle.file_texts.specs.Steps.{writing, IsMode, IsWritten, IsUndone, IsReplaced, IsBegun};
+
+use crate::names::{file_name, no_name, temporary};
+use file_disk::{Disk, Found, clear, create_filled, not_regular};
+use std::alloc::Global;
+use std::io::{self, ErrorKind};
+
+/// How many names are tried for a new file.
+const MOST_NAMES: u32 = 1000;
+
+/// A file that was just made, with its name.
+#[derive(Drop)]
+struct NewFile<T: Drop> {
+    file: T,
+    name: String,
+}
+
+/// Makes a new file in the directory of a file, under the first name `acrun-N.tmp` that is not
+/// there, N from 1 on.
+fn make_beside<D: Disk>(alloc: Global, disk: &mut D, name: &str) -> io::Result<NewFile<D::File>>
+    ensures made { IfOk result (λ made. (n : ℕ) × (string_bytes made.name ≡ temporary name.now n)
+        × IfSome (D.known disk.old) (λ k. kind_under k (temporary name.now n) ≡ found.Nothing)
+        × Adds (D.known disk.old) (D.known disk.new) (Made (temporary name.now n) ∷ [])) }
+    ensures refused { OnErr result (Adds (D.known disk.old) (D.known disk.new) []) }
+{
+    for number in 1..=MOST_NAMES {
+        let other = temporary(alloc, name, number)?;
+        match disk.create(other.as_str()) {
+            Ok(file) => return Ok(NewFile { file, name: other }),
+            Err(e) if e.kind() == ErrorKind::AlreadyExists => {}
+            Err(e) => return Err(e),
+        }
+    }
+    Err(io::Error::new(
+        ErrorKind::AlreadyExists,
+        "1,000 names for a new file are taken",
+    ))
+}
+
+/// Writes a text to a new file, closes it, and gives it another name. If that fails, removes it.
+fn finish<D: Disk>(
+    disk: &mut D,
+    other: &str,
+    file: D::File,
+    mode: Option<u32>,
+    text: &[u8],
+    name: &str,
+) -> io::Result<()>
+    ensures done { OnOk result (Adds (D.known disk.old) (D.known disk.new)
+        (Filled other.now mode text.now ∷ Renamed other.now name.now ∷ [])) }
+    ensures failed { OnErr result
+        (Adds (D.known disk.old) (D.known disk.new) (Failed other.now ∷ Removed other.now ∷ [])
+        ⊎ Adds (D.known disk.old) (D.known disk.new) (Filled other.now mode text.now ∷ Removed other.now ∷ [])) }
+{
+    match disk.fill(other, file, mode, text) {
+        Ok(()) => match disk.rename(other, name) {
+            Ok(()) => Ok(()),
+            Err(e) => {
+                disk.remove(other);
+                Err(e)
+            }
+        },
+        Err(e) => {
+            disk.remove(other);
+            Err(e)
+        }
+    }
+}
+
+/// Puts a new file with this text in the place of a file, of a link, or of none. If that fails,
+/// what was there is as it was.
+fn replace<D: Disk>(
+    alloc: Global,
+    disk: &mut D,
+    name: &str,
+    mode: Option<u32>,
+    text: &[u8],
+) -> io::Result<()>
+    ensures written { OnOk result
+        ((n : ℕ) × IfSome (D.known disk.old) (λ k. kind_under k (temporary name.now n) ≡ found.Nothing)
+        × Adds (D.known disk.old) (D.known disk.new) (writing name.now mode text.now n)) }
+    ensures undone { OnErr result
+        (Does (D.known disk.old) (D.known disk.new) (λ _ deeds. IsUndone name.now deeds)) }
+{
+    match make_beside(alloc, disk, name) {
+        Ok(new) => {
+            let NewFile { file, name: other } = new;
+            finish(disk, other.as_str(), file, mode, text, name)
+        }
+        Err(e) => Err(e),
+    }
+}
+
+/// The permission bits that a file keeps.
+#[derive(Clone, Copy)]
+pub enum Keeps {
+    /// All but those that would give its owner's rights to others.
+    Permissions,
+    /// These, without those to execute it.
+    NoExecution,
+}
+
+/// Returns the bits that may be kept.
+fn bits_of(keeps: Keeps) -> u32
+    ensures { result ≡ meant.bits_of keeps }
+{
+    match keeps {
+        Keeps::Permissions => 0o777,
+        Keeps::NoExecution => 0o666,
+    }
+}
+
+/// Returns the permission bits that a new file gets, or an error if what is under its name is not
+/// replaced.
+fn mode_of(found: Found, keeps: Keeps) -> io::Result<Option<u32>>
+    ensures { IfOk result (IsMode keeps found) }
+{
+    match found {
+        Found::File(mode) => Ok(Some(mode & bits_of(keeps))),
+        Found::Link => Ok(None),
+        Found::Nothing => Ok(None),
+        _ => Err(not_regular(found)),
+    }
+}
+
+/// Writes a text to a file (own).
+///
+/// The text is written to a new file in the same directory, under the first name `acrun-N.tmp` that
+/// is not there, and that file is renamed. So the name has what it had or the whole text, at each
+/// moment, unless the power fails. A regular file keeps its permissions, but for the set-user-ID,
+/// set-group-ID and sticky bits, and those to execute it if `keeps` says so. If `name` names a
+/// symbolic link or nothing, the new file has the permissions that the system gives. A link is
+/// replaced, and what it names is not touched.
+///
+/// # Errors
+///
+/// Fails if memory runs out, no file can have this name, `name` names a directory, a pipe, a socket
+/// or a device, 1,000 names are taken, or the system refuses one of these steps. Then what is under
+/// the name is as it was, and the new file is gone.
+pub fn write_text<D: Disk>(
+    alloc: Global,
+    disk: &mut D,
+    name: &[u8],
+    keeps: Keeps,
+    text: &[u8],
+) -> io::Result<()>
+    ensures name { IfOk result (λ _. IsFileName name.now) }
+    ensures written { OnOk result
+        (Does (D.known disk.old) (D.known disk.new)
+        (λ k deeds. IsWritten k keeps name.now text.now deeds)) }
+    ensures undone { OnErr result
+        (Does (D.known disk.old) (D.known disk.new) (λ _ deeds. IsUndone name.now deeds)) }
+{
+    let Some(path) = file_name(name) else {
+        return Err(no_name());
+    };
+    let found = disk.look(path)?;
+    let mode = mode_of(found, keeps)?;
+    replace(alloc, disk, path, mode, text)
+}
+
+/// Writes a text to a new file of this name. A regular file or a link of this name is removed
+/// first. So nothing is written through a link, and a pipe or a device is not opened. A new file is
+/// also faster: ext4 writes one that was truncated to the disk when it is closed.
+///
+/// # Errors
+///
+/// Fails if no file can have this name, or the system refuses a step. Then what was under the name
+/// may be gone, and the new file may have a part of the text.
+pub(crate) fn write_new<D: Disk>(disk: &mut D, name: &[u8], text: &[u8]) -> io::Result<()>
+    ensures name { IfOk result (λ _. IsFileName name.now) }
+    ensures replaced { OnOk result
+        (Does (D.known disk.old) (D.known disk.new)
+        (λ k deeds. IsReplaced k name.now text.now deeds)) }
+    ensures begun { OnErr result
+        (Does (D.known disk.old) (D.known disk.new) (λ k deeds. IsBegun k name.now deeds)) }
+{
+    match file_name(name) {
+        Some(path) => {
+            clear(disk, path)?;
+            create_filled(disk, path, text)
+        }
+        None => Err(no_name()),
+    }
+}

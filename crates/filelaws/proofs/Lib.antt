@@ -1,3 +1,0 @@
-mod Flats
-mod Places
-mod Reruns

@@ -1,6 +1,0 @@
-use Rattle.std.proofs.Common.{◌≡◌, ◌++◌, take}
-use Rattle.framing.specs.Told.{entries_of}
-use Rattle.framing.proofs.notes.add_pieces.Given as goal
-
-abbrev pub invariant-loop-note : goal.invariant-loop-note
-invariant-loop-note l = l.log ≡ l.fn.log ++ entries_of (take l.note-index l.notes)

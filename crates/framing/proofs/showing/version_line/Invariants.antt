@@ -1,7 +1,0 @@
-use Rattle.std.proofs.Common.{◌≡◌, drop}
-use Rattle.syntax.specs.Script.{script_of}
-use Rattle.framing.specs.Shown.{version_line}
-use Rattle.framing.proofs.showing.version_line.Given as goal
-
-abbrev pub invariant-statements : goal.invariant-statements
-invariant-statements l = version_line (script_of (drop l.i l.statements)) ≡ version_line (script_of l.fn.statements)

@@ -1,8 +1,0 @@
-use Rattle.std.proofs.Common.{List, ◌++◌, take}
-use Rattle.outputlist.specs.declared.output.Output.{Output}
-use Rattle.invocation.specs.Supplies.{AreTemplates}
-use Rattle.invocation.proofs.supplies.add_templates.Given as goal
-
-abbrev pub invariant-outputs : goal.invariant-outputs
-invariant-outputs g l = (before : List Output) → AreTemplates (g.D.Disk.known l.disk) l.srcdir before l.fn.templates.items
-    → AreTemplates (g.D.Disk.known l.disk) l.srcdir (before ++ take l.output-index l.outputs) l.templates.items

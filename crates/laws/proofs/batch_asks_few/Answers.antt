@@ -1,5 +1,0 @@
-use Rattle.laws.proofs.BatchLemmas.{batch_asks_few}
-use Rattle.laws.proofs.batch_asks_few.Goals as goal
-
-pub returns : goal.returns
-returns c = record { within = batch_asks_few }

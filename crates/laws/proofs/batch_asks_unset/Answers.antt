@@ -1,5 +1,0 @@
-use Rattle.laws.proofs.BatchLemmas.{batch_asks_unset}
-use Rattle.laws.proofs.batch_asks_unset.Goals as goal
-
-pub returns : goal.returns
-returns c = record { unset = batch_asks_unset }

@@ -1,5 +1,0 @@
-use Rattle.laws.proofs.BatchLemmas.{batch_commits}
-use Rattle.laws.proofs.batch_commits.Goals as goal
-
-pub returns : goal.returns
-returns c = record { commits = batch_commits }

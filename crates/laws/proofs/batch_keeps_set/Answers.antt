@@ -1,5 +1,0 @@
-use Rattle.laws.proofs.BatchLemmas.{batch_keeps_set}
-use Rattle.laws.proofs.batch_keeps_set.Goals as goal
-
-pub returns : goal.returns
-returns c = record { set = batch_keeps_set }

@@ -1,5 +1,0 @@
-use Rattle.laws.proofs.BatchLemmas.{batch_stops}
-use Rattle.laws.proofs.batch_stops.Goals as goal
-
-pub returns : goal.returns
-returns c = record { stops = batch_stops }

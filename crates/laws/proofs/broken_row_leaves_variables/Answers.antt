@@ -1,5 +1,0 @@
-use Rattle.laws.proofs.CommandLemmas.{broken_row_leaves_variables}
-use Rattle.laws.proofs.broken_row_leaves_variables.Goals as goal
-
-pub returns : goal.returns
-returns c = record { unchanged = broken_row_leaves_variables }

@@ -1,5 +1,0 @@
-use Rattle.laws.proofs.Logged.{children_are_logged}
-use Rattle.laws.proofs.children_are_logged.Goals as goal
-
-pub returns : goal.returns
-returns c = record { logged = children_are_logged }

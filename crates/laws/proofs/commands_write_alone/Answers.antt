@@ -1,5 +1,0 @@
-use Rattle.laws.proofs.CommandLemmas.{commands_write_alone}
-use Rattle.laws.proofs.commands_write_alone.Goals as goal
-
-pub returns : goal.returns
-returns c = record { alone = commands_write_alone }

@@ -1,5 +1,0 @@
-use Rattle.laws.proofs.Linking.{libs_are_checked, libs_are_searched}
-use Rattle.laws.proofs.libs_gets_libraries.Goals as goal
-
-pub returns : goal.returns
-returns c = record { checked = libs_are_checked; searched = libs_are_searched }

@@ -1,5 +1,0 @@
-use Rattle.laws.proofs.CachedTests.{set_row_asks_nothing}
-use Rattle.laws.proofs.set_row_asks_nothing.Goals as goal
-
-pub returns : goal.returns
-returns c = record { nothing = set_row_asks_nothing }

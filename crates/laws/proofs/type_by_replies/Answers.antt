@@ -1,5 +1,0 @@
-use Rattle.laws.proofs.Types as lemmas
-use Rattle.laws.proofs.type_by_replies.Goals as goal
-
-pub returns : goal.returns
-returns c = record { replies = lemmas.type_by_replies }

@@ -1,0 +1,110 @@
+//! Errors of several readings in one list.
+
+ghost use Rattle.std.specs.Prelude.{length, All, IfOk, OnOk};
+ghost use Rattle.lint_all.specs.Found as specs;
+
+use lint_findings::Finding;
+use lint_text::{first_line, first_word, from};
+use std::alloc::{AllocError, Global};
+use std::collections::BTreeSet;
+
+/// What is said of errors: the place and the code of each.
+type Seen = BTreeSet<Vec<u8>>;
+
+/// The words of the shell that go on with a construct or end it.
+const CONTINUING: [&[u8]; 6] = [b"then", b"else", b"fi", b"do", b"done", b"esac"];
+
+/// The mark that a file of another system may begin with.
+const MARK: &[u8] = b"\xEF\xBB\xBF";
+
+/// Returns whether an error is of text that is no statement.
+fn is_of_text(error: &Finding) -> bool {
+    error.code.as_slice() == b"parse-3".as_slice()
+}
+
+/// Returns whether a word goes on with a construct of the shell or ends it, or is a pattern of `case`.
+fn continues(word: &[u8]) -> bool {
+    let is_pattern = word.ends_with(b")") && !word.contains(&b'(');
+    is_pattern || CONTINUING.iter().any(|other| *other == word)
+}
+
+/// Returns whether an error is of text that another error is about too: that of the construct which the text goes on with or ends, or
+/// that something is before AC_INIT.
+fn is_continuing(text: &[u8], error: &Finding) -> bool {
+    let rest = from(text, error.start);
+    is_of_text(error) && (rest.starts_with(MARK) || continues(first_word(rest)))
+}
+
+/// Returns the place and the code of an error. In a file with the line ends of another system each line has the same error.
+fn key_of(alloc: Global, text: &[u8], error: &Finding) -> Result<Vec<u8>, AllocError> {
+    if is_of_text(error) && first_line(from(text, error.start)).ends_with(b"\r") {
+        return Vec::from_slice(alloc, b"\r");
+    }
+    let mut key = Vec::from_slice(alloc, &error.start.to_le_bytes())?;
+    key.extend_from_slice(error.code.as_slice())?;
+    Ok(key)
+}
+
+/// Adds what an error says. Returns whether it is new.
+fn is_new(
+    alloc: Global,
+    text: &[u8],
+    error: &Finding,
+    seen: &mut Seen,
+) -> Result<bool, AllocError> {
+    let key = key_of(alloc, text, error)?;
+    let is_new = seen.insert(key)?;
+    Ok(is_new)
+}
+
+/// Returns what errors say.
+fn seen_in(alloc: Global, text: &[u8], errors: &[Finding]) -> Result<Seen, AllocError> {
+    let mut seen = BTreeSet::new(alloc);
+    for error in errors {
+        let _ = is_new(alloc, text, error, &mut seen)?;
+    }
+    Ok(seen)
+}
+
+/// Appends an error, if its place and code are new, and if it isn't of text that goes on with a construct of the shell.
+fn push_new(
+    alloc: Global,
+    text: &[u8],
+    error: Finding,
+    seen: &mut Seen,
+    out: &mut Vec<Finding>,
+) -> Result<(), AllocError>
+    requires { specs.IsErrorOf (length text.now) error }
+    ensures among { OnOk result (specs.KeepsAmong out.old.items out.new.items) }
+    ensures errors { OnOk result (specs.KeepsErrors (length text.now) out.old.items out.new.items) }
+{
+    if !is_continuing(text, &error) && is_new(alloc, text, &error, seen)? {
+        out.push(error)?;
+    }
+    Ok(())
+}
+
+/// Returns errors with others after them, but for those whose place and code an earlier one has, and those of text that goes on with
+/// a construct of the shell.
+pub(crate) fn joined(
+    alloc: Global,
+    text: &[u8],
+    errors: Vec<Finding>,
+    others: Vec<Finding>,
+) -> Result<Vec<Finding>, AllocError>
+    requires first { All (specs.IsErrorOf (length text.now)) errors.items }
+    requires more { All (specs.IsErrorOf (length text.now)) others.items }
+    ensures among { IfOk result (λ v. specs.AreAmong errors.items v.items) }
+    ensures errors { IfOk result (λ v. All (specs.IsErrorOf (length text.now)) v.items) }
+{
+    let mut seen = seen_in(alloc, text, errors.as_slice())?;
+    let mut out = errors;
+    let mut rest = others;
+    for _ in 0..rest.len() {
+        let Some(error) = rest.pop() else {
+            return Ok(out);
+        };
+        push_new(alloc, text, error, &mut seen, &mut out)?;
+    }
+    Ok(out)
+}

@@ -1,0 +1,181 @@
+//! Blanks in place of a statement, so that the errors after it are found.
+
+use crate::scan::Scan;
+use ac_calls::{CallAt, Extent};
+use lint_text::{after_blanks, from, part};
+
+/// Writes a space for each byte between two offsets, but for newlines. Returns whether that changed anything.
+pub(crate) fn blank(text: &mut [u8], start: usize, end: usize) -> bool {
+    let end = end.min(text.len());
+    let mut has_changed = false;
+    for i in start..end {
+        let byte = text[i];
+        if byte != b'\n' && byte != b' ' {
+            text[i] = b' ';
+            has_changed = true;
+        }
+    }
+    has_changed
+}
+
+/// Returns whether the place is within the argument.
+fn holds(arg: &Extent, place: usize) -> bool {
+    arg.start <= place && place < arg.end
+}
+
+/// Returns whether a call other than the one that has the argument begins in it.
+fn has_call(calls: &[CallAt], arg: &Extent) -> bool {
+    calls.iter().any(|call| holds(arg, call.start))
+}
+
+/// Returns the innermost call that has the place.
+pub(crate) fn innermost(calls: &[CallAt], place: usize) -> Option<&CallAt> {
+    calls
+        .iter()
+        .rev()
+        .find(|call| call.start <= place && place < call.end)
+}
+
+/// Returns the offset after the text that is between the brackets of an argument, or after the argument.
+fn inner_end(text: &[u8], arg: &Extent) -> usize {
+    let written = part(text, arg.start, arg.end);
+    if written.first() != Some(&b'[') {
+        return arg.end;
+    }
+    match written.iter().rposition(|byte| *byte == b']') {
+        Some(at) => arg.start.saturating_add(at),
+        None => arg.end,
+    }
+}
+
+/// Returns the offset of the text that is between the brackets of an argument, or of the argument.
+pub(crate) fn inner_start(text: &[u8], arg: &Extent) -> usize {
+    if part(text, arg.start, arg.end).first() == Some(&b'[') {
+        arg.start.saturating_add(1)
+    } else {
+        arg.start
+    }
+}
+
+/// Returns the offset after a call: after its line if it has no arguments, and a parenthesis is after blanks.
+fn end_of(text: &[u8], call: &CallAt) -> usize {
+    let rest = from(text, call.end);
+    if !call.args.is_empty() || !after_blanks(rest).starts_with(b"(") {
+        return call.end;
+    }
+    call.end.saturating_add(line_len(rest))
+}
+
+/// Blanks a call, but not the statements in it. Returns whether that changed anything.
+pub(crate) fn blank_call(text: &mut [u8], calls: &[CallAt], call: &CallAt) -> bool {
+    let mut at = call.start;
+    let mut has_changed = false;
+    for arg in &call.args {
+        if has_call(calls, arg) {
+            let start = inner_start(text, arg);
+            let end = inner_end(text, arg);
+            has_changed |= blank(text, at, start);
+            at = end.max(at);
+        }
+    }
+    let end = end_of(text, call);
+    has_changed | blank(text, at, end)
+}
+
+/// Returns where the text between calls that has the place ends: at the next call, at the end of the argument, or at the end.
+fn bare_end(text: &[u8], calls: &[CallAt], place: usize) -> usize {
+    let mut end = text.len();
+    for call in calls {
+        if place < call.start {
+            end = end.min(call.start);
+        }
+        for arg in &call.args {
+            if holds(arg, place) {
+                end = end.min(inner_end(text, arg));
+            }
+        }
+    }
+    end
+}
+
+/// Returns where the text between calls that has the place begins: after the last call, or at the start of the argument.
+fn bare_start(text: &[u8], calls: &[CallAt], place: usize) -> usize {
+    let mut start = 0;
+    for call in calls {
+        if call.end <= place {
+            start = start.max(call.end);
+        }
+        for arg in &call.args {
+            if holds(arg, place) {
+                start = start.max(inner_start(text, arg).min(place));
+            }
+        }
+    }
+    start
+}
+
+/// Returns what is open at the end of text between calls, where a statement of the shell begins.
+fn scan_after(text: &[u8]) -> Scan {
+    let mut scan = Scan::new();
+    for i in 0..text.len() {
+        scan.read(text[i], &text[i..]);
+    }
+    scan.begin_statement();
+    scan
+}
+
+/// Returns the length of the shell statement that a text begins with, up to the newline after it, a comment, or the end. If a quote
+/// isn't closed, returns the length of the first line.
+fn statement_len(before: Scan, text: &[u8]) -> usize {
+    let mut scan = before;
+    for i in 0..text.len() {
+        if scan.ends_before(text[i], &text[i..]) {
+            return i;
+        }
+        scan.read(text[i], &text[i..]);
+    }
+    if scan.is_in_quote() {
+        line_len(text)
+    } else {
+        text.len()
+    }
+}
+
+/// Returns the length of the first line.
+fn line_len(text: &[u8]) -> usize {
+    text.iter().take_while(|byte| **byte != b'\n').count()
+}
+
+/// Writes a space at an offset, if there is one.
+fn put_blank(text: &mut [u8], at: usize) {
+    if at < text.len() {
+        text[at] = b' ';
+    }
+}
+
+/// Writes a space for each byte of a statement between two offsets, but for newlines, brackets that quote, and lines from `dnl` on.
+/// Returns whether that changed anything.
+fn blank_statement(before: Scan, text: &mut [u8], start: usize, end: usize) -> bool {
+    let mut scan = before;
+    let mut has_changed = false;
+    for i in start..end.min(text.len()) {
+        let rest = from(text, i);
+        let Some(byte) = rest.first().copied() else {
+            return has_changed;
+        };
+        scan.read(byte, rest);
+        if byte != b'\n' && byte != b' ' && !scan.keeps(byte) {
+            put_blank(text, i);
+            has_changed = true;
+        }
+    }
+    has_changed
+}
+
+/// Blanks the statement between calls that begins at the place. Returns whether that changed anything.
+pub(crate) fn blank_bare(text: &mut [u8], calls: &[CallAt], place: usize) -> bool {
+    let end = bare_end(text, calls, place);
+    let before = scan_after(part(text, bare_start(text, calls, place), place));
+    let len = statement_len(before, part(text, place, end));
+    blank_statement(before, text, place, place.saturating_add(len.max(1)))
+}

@@ -1,0 +1,63 @@
+-- A source has no error exactly if it is accepted.
+use Rattle.std.proofs.Common.{◌≡◌, ◌↔◌, ℕ, ◌<◌, ◌≤◌, Bool, true, false, cond, List, [], ◌∷◌, length, map, Result, Ok, Err, refl, sym, ap, subst, ◌∙◌, arith}
+use Rattle.std.specs.Prelude.{IfOk, nat_lt}
+use Rattle.std.proofs.lemmas.Bool.{ltb-true, ltb-false}
+use Rattle.std.proofs.lemmas.List.{length-map}
+use Rattle.std.proofs.lemmas.List.Sorted.{length_permutation}
+use Rattle.acparse.specs.Profile.{source_of}
+use Rattle.ac_statement.specs.declared.fault.ParseFault.{ParseFault}
+use Rattle.lint_findings.specs.declared.finding.Finding.{Finding}
+use Rattle.plan.specs.Weight.{heaviest, weight}
+use Rattle.ac_calls.specs.Calls.{calls_in}
+use Rattle.ac_tree.specs.Script.{Script}
+use Rattle.lint_errors.specs.Errors.{Shown, finding_view, error_at, errors_read, AreRefused, AreErrors, IsAccepted}
+
+map_none : (list : List Finding) → map finding_view list ≡ [] → list ≡ []
+map_none [] h = refl
+map_none (f ∷ list) h = let n = ap length h in absurd (omega (arith, n))
+
+some_shown : (list : List Finding) (first : Shown) (more : List Shown) → map finding_view list ≡ first ∷ more → 0 < length list
+some_shown [] first more h = let n = ap length h in absurd (omega (arith, n))
+some_shown (f ∷ list) first more h = omega arith
+
+none_some : (list : List Finding) → list ≡ [] → 0 < length list → ⊥
+none_some list none some = let n = ap length none in omega (arith, n, some)
+
+read_cases : (t : Bool) (s : Script) (list : List Finding) → nat_lt heaviest (weight s) ≡ t → map finding_view list ≡ cond t (error_at 0 ∷ []) [] → (list ≡ []) ↔ (weight s ≤ heaviest)
+read_cases true s list e h =
+    let long = ltb-true heaviest (weight s) e in (
+      λ none. absurd (none_some list none (some_shown list (error_at 0) [] h)),
+      λ le. absurd (omega (arith, long, le)),
+    )
+read_cases false s list e h = (λ none. ltb-false heaviest (weight s) e, λ le. map_none list h)
+
+ok_same : (r : Result Script ParseFault) (a b : Script) → r ≡ Ok a → r ≡ Ok b → a ≡ b
+ok_same r a b h g = cc
+
+not_both : (r : Result Script ParseFault) (a : Script) (f : ParseFault) → r ≡ Ok a → r ≡ Err f → ⊥
+not_both r a f h g = cc
+
+refused_some : (text : List ℕ) (f : ParseFault) (list : List Finding) → AreRefused text f (calls_in text) list → 0 < length list
+refused_some text f list r =
+    let some = some_shown r.found _ _ r.exact in
+    let same = length_permutation r.found list r.same in
+    omega (arith, some, same)
+
+by_reading : (text : List ℕ) (list : List Finding) (o : Result Script ParseFault) → source_of text ≡ o → AreErrors text o list → (list ≡ []) ↔ IsAccepted text
+by_reading text list (Ok s) e errors =
+    let cases = read_cases (nat_lt heaviest (weight s)) s list refl errors in (
+      λ none. record { script = s; read = e; fits = cases.0 none },
+      λ a. cases.1 (subst (λ x. weight x ≤ heaviest) (ok_same (source_of text) a.script s a.read e) a.fits),
+    )
+by_reading text list (Err f) e errors = (
+  λ none. absurd (none_some list none (refused_some text f list errors)),
+  λ a. absurd (not_both (source_of text) a.script f a.read e),
+)
+
+pub none_if_accepted : (text : List ℕ) (list : List Finding) → AreErrors text (source_of text) list → (list ≡ []) ↔ IsAccepted text
+none_if_accepted text list errors = by_reading text list (source_of text) refl errors
+
+-- what is said of a list is said of what a call returned
+pub along : {T E : Type 0} (P Q : T → Type 0) → ((x : T) → P x → Q x) → (r : Result T E) → IfOk r P → IfOk r Q
+along P Q f (Ok x) p = f x p
+along P Q f (Err e) p = tt

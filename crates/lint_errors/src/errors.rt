@@ -1,0 +1,152 @@
+//! The errors of a source.
+
+ghost use Rattle.std.specs.Prelude.{◌≡◌, ◌<◌, ◌∷◌, [], ◌↔◌, ℕ, nat_lt, length, map, All, IfOk};
+ghost use Rattle.std.specs.List.Sorted.{IsSorted};
+ghost use Rattle.acparse.specs.Profile.{source_of};
+ghost use Rattle.lint_findings.specs.Order.{place_cmp};
+ghost use Rattle.plan.specs.Weight.{heaviest, weight};
+ghost use Rattle.ac_calls.specs.Calls.{calls_in, macro_call_of};
+ghost use Rattle.ac_tree.specs.Script.{script_of};
+ghost use Rattle.lint_errors.specs.Errors as specs;
+
+use crate::fault::place_of_fault;
+use crate::foreign::{fault_finding, push_calls};
+use ac_calls::{CallAt, calls_of};
+use ac_statement::ParseFault;
+use ac_tree::Source;
+use acparse::parse;
+use lint_findings::{Finding, put_in_order};
+use lint_macros::Index;
+use lint_words::too_long_finding;
+use plan::{PlanFault, compile};
+use std::alloc::{AllocError, Global};
+
+/// Returns whether a source weighs too much for a plan.
+fn is_too_long(alloc: Global, source: &Source) -> Result<bool, AllocError>
+    ensures { IfOk result (λ b. b ≡ nat_lt heaviest (weight (script_of source.now))) }
+{
+    match compile(alloc, source) {
+        Ok(_) => Ok(false),
+        Err(PlanFault::TooLong) => Ok(true),
+        Err(PlanFault::OutOfMemory) => Err(AllocError),
+    }
+}
+
+/// Returns a list of one error: that the source is too long.
+fn too_long(alloc: Global) -> Result<Vec<Finding>, AllocError>
+    ensures shown { IfOk result (λ v. map specs.finding_view v.items ≡ specs.error_at 0 ∷ []) }
+    ensures ends { (len : ℕ) → IfOk result (λ v. All (specs.EndsIn len) v.items) }
+{
+    let finding = too_long_finding(alloc)?;
+    let mut out = Vec::new(alloc);
+    out.push(finding)?;
+    Ok(out)
+}
+
+/// Returns the errors of a source that was read.
+fn errors_read(alloc: Global, source: &Source) -> Result<Vec<Finding>, AllocError>
+    ensures shown { IfOk result (λ v. map specs.finding_view v.items ≡ specs.errors_read (script_of source.now)) }
+    ensures ends { (len : ℕ) → IfOk result (λ v. All (specs.EndsIn len) v.items) }
+{
+    if is_too_long(alloc, source)? {
+        too_long(alloc)
+    } else {
+        Ok(Vec::new(alloc))
+    }
+}
+
+/// Returns the error of a fault at this place, and those of the other calls that have to go.
+fn found(
+    alloc: Global,
+    index: &Index,
+    text: &[u8],
+    fault: ParseFault,
+    at: usize,
+    calls: &[CallAt],
+) -> Result<Vec<Finding>, AllocError>
+    ensures shown { IfOk result (λ v. map specs.finding_view v.items ≡ specs.errors_refused fault at (map macro_call_of calls.now)) }
+    ensures ends { IfOk result (λ v. All (specs.EndsIn (length text.now)) v.items) }
+{
+    let first = fault_finding(alloc, index, text, fault, at, calls)?;
+    let mut out = Vec::new(alloc);
+    out.push(first)?;
+    push_calls(alloc, index, text, fault, calls, &mut out)?;
+    Ok(out)
+}
+
+/// Returns the same in order of their places.
+fn ordered(
+    alloc: Global,
+    index: &Index,
+    text: &[u8],
+    fault: ParseFault,
+    calls: &[CallAt],
+) -> Result<Vec<Finding>, AllocError>
+    ensures refused { IfOk result (λ v. specs.AreRefused text.now fault (map macro_call_of calls.now) v.items) }
+    ensures ends { IfOk result (λ v. All (specs.EndsIn (length text.now)) v.items) }
+{
+    let at = place_of_fault(alloc, text, fault, calls)?;
+    let mut out = found(alloc, index, text, fault, at, calls)?;
+    put_in_order(&mut out)?;
+    Ok(out)
+}
+
+/// Returns the errors of a source that is refused with this fault.
+fn errors_refused(
+    alloc: Global,
+    index: &Index,
+    text: &[u8],
+    fault: ParseFault,
+) -> Result<Vec<Finding>, AllocError>
+    ensures refused { IfOk result (λ v. specs.AreRefused text.now fault (calls_in text.now) v.items) }
+    ensures ends { IfOk result (λ v. All (specs.EndsIn (length text.now)) v.items) }
+{
+    let calls = calls_of(alloc, text)?;
+    ordered(alloc, index, text, fault, &calls)
+}
+
+/// Returns the errors of a source, in order of their places, as [`errors_of`] does. The table of macros is made once for many sources.
+///
+/// # Errors
+///
+/// Fails only if memory runs out.
+pub fn errors_by(alloc: Global, index: &Index, text: &[u8]) -> Result<Vec<Finding>, AllocError>
+    // The errors are exactly these.
+    ensures exact { IfOk result (λ v. specs.AreErrors text.now (source_of text.now) v.items) }
+    // Each ends in the text.
+    ensures ends { IfOk result (λ v. All (specs.EndsIn (length text.now)) v.items) }
+{
+    match parse(alloc, text) {
+        Ok(source) => errors_read(alloc, &source),
+        Err(ParseFault::OutOfMemory) => Err(AllocError),
+        Err(fault) => errors_refused(alloc, index, text, fault),
+    }
+}
+
+/// Returns the errors of a source, for which the table of macros is made.
+fn find_errors(alloc: Global, text: &[u8]) -> Result<Vec<Finding>, AllocError>
+    ensures exact { IfOk result (λ v. specs.AreErrors text.now (source_of text.now) v.items) }
+    ensures ends { IfOk result (λ v. All (specs.EndsIn (length text.now)) v.items) }
+{
+    let index = Index::new(alloc)?;
+    errors_by(alloc, &index, text)
+}
+
+/// Returns the errors of a source, in order of their places.
+///
+/// If the source is refused, they are the reader's fault and the calls that have to go, each once. Otherwise there is at most one:
+/// that it weighs too much for a plan. The calls are those of `ac_calls`, so none is looked for if the source's quotes have an
+/// error.
+///
+/// The place of a fault is its offset: 0 if it has none, and the end of the source if AC_OUTPUT is missing. In text between calls
+/// it is the start of the statement at fault, which is not before the fault's offset.
+pub fn errors_of(alloc: Global, text: &[u8]) -> Result<Vec<Finding>, AllocError>
+    // The errors are exactly these.
+    ensures exact { IfOk result (λ v. specs.AreErrors text.now (source_of text.now) v.items) }
+    // Each ends in the text.
+    ensures ends { IfOk result (λ v. All (specs.EndsIn (length text.now)) v.items) }
+    // There is none exactly if the source is read and has a plan.
+    ensures no_error { IfOk result (λ v. (v.items ≡ []) ↔ specs.IsAccepted text.now) }
+{
+    find_errors(alloc, text)
+}

@@ -1,0 +1,67 @@
+//! A finding as JSON.
+
+use crate::draft::Draft;
+use crate::excerpt::word_of;
+use deftable::Bytes;
+use lint_findings::Finding;
+use lint_text::position_of;
+use serde_json::Value;
+use std::alloc::{AllocError, Global};
+
+/// Returns a text as JSON has it. Bytes that aren't UTF-8 become U+FFFD.
+fn quoted(alloc: Global, text: &[u8]) -> Result<String, AllocError> {
+    let text = String::from_utf8_lossy(alloc, text)?;
+    Value::String(text).to_string(alloc)
+}
+
+/// Writes a member whose value is a text, with a comma after it.
+fn put_text(alloc: Global, draft: &mut Draft, key: &[u8], text: &[u8], end: &[u8]) {
+    draft.put(b"\"");
+    draft.put(key);
+    draft.put(b"\":");
+    match quoted(alloc, text) {
+        Ok(text) => draft.put(text.as_bytes()),
+        Err(_) => draft.cut(),
+    }
+    draft.put(end);
+}
+
+/// Writes a member whose value is a number, with a comma after it.
+fn put_number(draft: &mut Draft, key: &[u8], number: usize) {
+    draft.put(b"\"");
+    draft.put(key);
+    draft.put(b"\":");
+    draft.put_number(number);
+    draft.put(b",");
+}
+
+/// Returns a finding as one line with an object: `file`, `line`, `column`, `end_line`, `end_column`, `severity`, `code`, `message` and
+/// `help`. Lines and columns count from 1, columns count bytes, and the end is after the last byte. The text is that of the file, and
+/// `name` is what the file is called.
+///
+/// # Errors
+///
+/// Fails only if memory runs out.
+pub fn json_of(
+    alloc: Global,
+    finding: &Finding,
+    name: &[u8],
+    text: &[u8],
+) -> Result<Bytes, AllocError> {
+    let start = position_of(text, finding.start);
+    let end = position_of(text, finding.end);
+    let mut draft = Draft::new(alloc);
+    draft.put(b"{");
+    put_text(alloc, &mut draft, b"file", name, b",");
+    put_number(&mut draft, b"line", start.line);
+    put_number(&mut draft, b"column", start.column);
+    put_number(&mut draft, b"end_line", end.line);
+    put_number(&mut draft, b"end_column", end.column);
+    let severity = word_of(finding.severity);
+    put_text(alloc, &mut draft, b"severity", severity, b",");
+    put_text(alloc, &mut draft, b"code", finding.code.as_slice(), b",");
+    let message = finding.message.as_slice();
+    put_text(alloc, &mut draft, b"message", message, b",");
+    put_text(alloc, &mut draft, b"help", finding.help.as_slice(), b"}\n");
+    draft.finish()
+}

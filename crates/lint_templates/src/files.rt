@@ -1,0 +1,179 @@
+//! Warnings about the templates of files.
+
+ghost use Rattle.std.specs.Prelude.{OnOk};
+ghost use Rattle.lint_findings.specs.Within.{KeepsWithin};
+
+use crate::advice::variable_advice;
+use crate::given::Given;
+use crate::messages::{Form, warn_at, warn_of_name};
+use bstr::ByteSlice;
+use deftable::{SubstList, is_shell_name};
+use lint_findings::{Finding, Span};
+use lint_table::keys;
+use std::alloc::{AllocError, Global};
+
+/// The variables whose usual values name `datarootdir`.
+#[rattlefmt::skip]
+const BELOW_DATAROOTDIR: [&[u8]; 9] = [
+    b"@mandir@", b"@datadir@", b"@localedir@", b"@docdir@", b"@infodir@", b"@htmldir@", b"@dvidir@", b"@pdfdir@", b"@psdir@",
+];
+
+/// Warns of the name between two `@`, the first time that it occurs.
+fn warn_once(
+    alloc: Global,
+    given: &Given,
+    seen: &mut SubstList,
+    text: &[u8],
+    span: Span,
+    name: &[u8],
+    out: &mut Vec<Finding>,
+) -> Result<(), AllocError>
+    ensures within { OnOk result (KeepsWithin span.file text.now out.old.items out.new.items) }
+{
+    if !is_shell_name(name) || given.variables.has(name) || seen.has(name) {
+        return Ok(());
+    }
+    seen.add(name)?;
+    let advice = variable_advice(name);
+    let form = Form::Variable;
+    warn_of_name(alloc, out, text, span, form, name, advice, &given.variables)
+}
+
+/// Warns of each name between two `@` that is no output variable, once.
+fn warn_of_names(
+    alloc: Global,
+    given: &Given,
+    file: usize,
+    text: &[u8],
+    out: &mut Vec<Finding>,
+) -> Result<(), AllocError>
+    ensures within { OnOk result (KeepsWithin file text.now out.old.items out.new.items) }
+{
+    let mut seen = SubstList::new(alloc);
+    let mut at = 0usize;
+    for piece in text.split(|byte| *byte == b'@') {
+        let end = at.saturating_add(piece.len());
+        // A piece with an `@` at both ends may be a name.
+        if at > 0 && end < text.len() {
+            let span = Span {
+                file,
+                start: at - 1,
+                end: end.saturating_add(1),
+            };
+            warn_once(alloc, given, &mut seen, text, span, piece, out)?;
+        }
+        at = end.saturating_add(1);
+    }
+    Ok(())
+}
+
+/// Returns the offset of the first of these texts that occurs, in their order, with its length.
+fn first_of(text: &[u8], texts: &[&[u8]]) -> Option<(usize, usize)> {
+    for sought in texts {
+        if let Some(at) = text.find(*sought) {
+            return Some((at, sought.len()));
+        }
+    }
+    None
+}
+
+/// Returns the offset of a directory below `datarootdir` with its length, if nothing sets that.
+fn directory_in(text: &[u8]) -> Option<(usize, usize)> {
+    if text.contains_str(b"datarootdir") {
+        return None;
+    }
+    first_of(text, &BELOW_DATAROOTDIR)
+}
+
+/// Returns the end of a text whose last line has no newline.
+fn open_end(text: &[u8]) -> Option<(usize, usize)> {
+    if text.is_empty() || text.ends_with(b"\n") {
+        return None;
+    }
+    Some((text.len(), 0))
+}
+
+/// Returns the offset of the first line that begins a rule for `distclean`.
+fn distclean_at(text: &[u8]) -> Option<usize> {
+    let mut at = 0usize;
+    for line in text.split(|byte| *byte == b'\n') {
+        if line.starts_with(b"distclean:") || line.starts_with(b"distclean ") {
+            return Some(at);
+        }
+        at = at.saturating_add(line.len()).saturating_add(1);
+    }
+    None
+}
+
+/// Returns the length of the rule that a text begins with: its first line, and the lines after it that continue one, that begin with a
+/// tab, or that are empty.
+fn rule_length(text: &[u8]) -> usize {
+    let mut at = 0usize;
+    let mut is_joined = true;
+    for line in text.split(|byte| *byte == b'\n') {
+        if !is_joined && !line.is_empty() && !line.starts_with(b"\t") {
+            return at;
+        }
+        is_joined = line.ends_with(b"\\");
+        at = at.saturating_add(line.len()).saturating_add(1);
+    }
+    text.len()
+}
+
+/// Returns the rule for `distclean` with its offset, if there is one.
+fn distclean_in(text: &[u8]) -> Option<(usize, &[u8])> {
+    let at = distclean_at(text)?;
+    let rest = text.get(at..)?;
+    Some((at, rest.get(..rule_length(rest))?))
+}
+
+/// Returns where a rule for `distclean` names `config.status`, if it has no `conftest`.
+fn cleaned_in(text: &[u8]) -> Option<(usize, usize)> {
+    let (at, rule) = distclean_in(text)?;
+    if rule.contains_str(b"conftest") {
+        return None;
+    }
+    let (start, length) = first_of(rule, &[b"config.status"])?;
+    Some((at.saturating_add(start), length))
+}
+
+/// Adds the warnings about the template of a file: names between two `@` that no statement sets, a directory below `datarootdir`
+/// without that, a rule that runs `config.status`, a `distclean` that removes `config.status` and no conftest, and a last line without a
+/// newline (own).
+///
+/// # Errors
+///
+/// Fails only if memory runs out.
+pub fn warn_of_file(
+    alloc: Global,
+    given: &Given,
+    file: usize,
+    text: &[u8],
+    out: &mut Vec<Finding>,
+) -> Result<(), AllocError>
+    // If the findings of this file were in its text, they still are.
+    ensures within { OnOk result (KeepsWithin file text.now out.old.items out.new.items) }
+{
+    warn_of_names(alloc, given, file, text, out)?;
+    warn_at(
+        alloc,
+        out,
+        text,
+        file,
+        directory_in(text),
+        keys::NO_DATAROOTDIR,
+    )?;
+    let script = first_of(text, &[b"./config.status"]);
+    warn_at(alloc, out, text, file, script, keys::CONFIG_STATUS_SCRIPT)?;
+    let cleaned = cleaned_in(text);
+    warn_at(alloc, out, text, file, cleaned, keys::CONFTESTS_LEFT)?;
+    warn_at(
+        alloc,
+        out,
+        text,
+        file,
+        open_end(text),
+        keys::NO_NEWLINE_AT_END,
+    )?;
+    Ok(())
+}

@@ -1,0 +1,194 @@
+//! What a source gives its templates.
+
+use ac_tree::definitions::{library_definition, sought_definition};
+use ac_tree::{Case, Effect, Question, Sought, Source, Stmt, Subject};
+use deftable::{Bytes, SubstList, is_shell_name};
+use options_line::{Directory, directories};
+use output_list::OutputList;
+use std::alloc::{AllocError, Global};
+
+/// The names that a source gives its templates. Statements in cases that a run does not take count too.
+#[derive(Drop)]
+pub struct Given {
+    /// The output variables, those of each file among them.
+    pub variables: SubstList,
+    /// The definitions that a run may make.
+    pub defined: SubstList,
+}
+
+/// The output variables that each file has, and those that AC_INIT has.
+#[rattlefmt::skip]
+const OF_EACH: [&[u8]; 12] = [
+    b"configure_input", b"srcdir", b"top_srcdir", b"builddir", b"top_builddir", b"LIBS",
+    b"PACKAGE_NAME", b"PACKAGE_TARNAME", b"PACKAGE_VERSION", b"PACKAGE_STRING", b"PACKAGE_BUGREPORT", b"PACKAGE_URL",
+];
+
+/// Adds a name, if it is a shell name.
+pub(crate) fn add_name(list: &mut SubstList, name: &[u8]) -> Result<(), AllocError> {
+    if is_shell_name(name) {
+        return list.add(name);
+    }
+    Ok(())
+}
+
+/// Adds names.
+fn add_all(list: &mut SubstList, names: &[&[u8]]) -> Result<(), AllocError> {
+    for name in names {
+        add_name(list, *name)?;
+    }
+    Ok(())
+}
+
+/// Adds the variables of directories.
+fn add_directories(list: &mut SubstList, directories: &[Directory]) -> Result<(), AllocError> {
+    for directory in directories {
+        add_name(list, directory.variable())?;
+    }
+    Ok(())
+}
+
+/// Adds the variables that the source names.
+fn add_named(list: &mut SubstList, names: &[Bytes]) -> Result<(), AllocError> {
+    for name in names {
+        add_name(list, name.as_slice())?;
+    }
+    Ok(())
+}
+
+/// Adds DEFS, if the source makes a header.
+fn add_defs(list: &mut SubstList, headers: &OutputList) -> Result<(), AllocError> {
+    if headers.is_empty() {
+        return Ok(());
+    }
+    add_name(list, b"DEFS")
+}
+
+/// Returns the output variables of a source.
+fn variables_of(alloc: Global, source: &Source) -> Result<SubstList, AllocError> {
+    let mut list = SubstList::new(alloc);
+    add_all(&mut list, &OF_EACH)?;
+    add_directories(&mut list, directories())?;
+    add_named(&mut list, source.substituted().names())?;
+    add_defs(&mut list, source.headers())?;
+    Ok(list)
+}
+
+/// Adds the definitions of entries.
+fn add_entries(
+    alloc: Global,
+    list: &mut SubstList,
+    sought: Sought,
+    entries: &[Bytes],
+) -> Result<(), AllocError> {
+    for entry in entries {
+        let name = sought_definition(alloc, sought, entry.as_slice())?;
+        add_name(list, name.as_slice())?;
+    }
+    Ok(())
+}
+
+/// Adds what an effect may define.
+fn add_effect(alloc: Global, list: &mut SubstList, effect: &Effect) -> Result<(), AllocError> {
+    match effect {
+        Effect::Define { name, .. } | Effect::DefineText { name, .. } => {
+            add_name(list, name.as_slice())
+        }
+        Effect::Batch {
+            listed,
+            entries,
+            ..
+        } => { add_entries(alloc, list, Sought::Entry(*listed), entries.as_slice()) }
+        _ => Ok(()),
+    }
+}
+
+/// Adds what a library defines that has a function.
+fn add_library(alloc: Global, list: &mut SubstList, library: &[u8]) -> Result<(), AllocError> {
+    let name = library_definition(alloc, library)?;
+    add_name(list, name.as_slice())
+}
+
+/// Adds what a question may define.
+fn add_question(
+    alloc: Global,
+    list: &mut SubstList,
+    question: &Question,
+) -> Result<(), AllocError> {
+    match question {
+        Question::ChecksEach {
+            sought,
+            entries,
+            ..
+        } => add_entries(alloc, list, *sought, entries.as_slice()),
+        Question::Library {
+            library,
+            adds: true,
+            ..
+        } => add_library(alloc, list, library.as_slice()),
+        _ => Ok(()),
+    }
+}
+
+/// Adds what the subject of a choice may define.
+fn add_subject(alloc: Global, list: &mut SubstList, subject: &Subject) -> Result<(), AllocError> {
+    match subject {
+        Subject::Asked(question) => add_question(alloc, list, question),
+        _ => Ok(()),
+    }
+}
+
+/// Adds what a statement may define.
+#[cycle(list)]
+fn add_statement(alloc: Global, list: &mut SubstList, statement: &Stmt) -> Result<(), AllocError> {
+    match statement {
+        Stmt::Do { effect, .. } => add_effect(alloc, list, effect),
+        Stmt::Choose { subject, cases, .. } => {
+            add_subject(alloc, list, subject)?;
+            add_cases(alloc, list, cases.as_slice())
+        }
+        Stmt::CacheCheck { commands, .. } => add_statements(alloc, list, commands.as_slice()),
+    }
+}
+
+/// Adds what the statements of cases may define.
+#[cycle(list)]
+fn add_cases(alloc: Global, list: &mut SubstList, cases: &[Case]) -> Result<(), AllocError> {
+    for case in cases {
+        add_statements(alloc, list, case.body.as_slice())?;
+    }
+    Ok(())
+}
+
+/// Adds what statements may define.
+#[cycle(list)]
+fn add_statements(
+    alloc: Global,
+    list: &mut SubstList,
+    statements: &[Stmt],
+) -> Result<(), AllocError> {
+    for statement in statements {
+        add_statement(alloc, list, statement)?;
+    }
+    Ok(())
+}
+
+/// Returns the definitions that a run of a source may make.
+fn defined_by(alloc: Global, source: &Source) -> Result<SubstList, AllocError> {
+    let mut list = SubstList::new(alloc);
+    add_all(&mut list, &OF_EACH[6..])?;
+    add_statements(alloc, &mut list, source.statements())?;
+    Ok(list)
+}
+
+impl Given {
+    /// Returns what a source gives its templates.
+    ///
+    /// # Errors
+    ///
+    /// Fails only if memory runs out.
+    pub fn of(alloc: Global, source: &Source) -> Result<Given, AllocError> {
+        let variables = variables_of(alloc, source)?;
+        let defined = defined_by(alloc, source)?;
+        Ok(Given { variables, defined })
+    }
+}

@@ -1,0 +1,111 @@
+//! Writes the messages of warnings.
+
+ghost use Rattle.std.specs.Prelude.{OnOk};
+ghost use Rattle.lint_findings.specs.Within.{KeepsWithin};
+
+use deftable::{Bytes, SubstList};
+use lint_findings::{Finding, Span};
+use lint_table::{Key, Page, WordPart, keys, warn_by_key};
+use lint_words::near_name;
+use std::alloc::{AllocError, Global};
+
+/// What has no value.
+#[derive(Clone, Copy)]
+pub(crate) enum Form {
+    /// A name between two `@`.
+    Variable,
+    /// A name that a header's template undefines.
+    Definition,
+}
+
+/// Returns what is said of a name that has no value.
+fn key_of(form: Form) -> Key {
+    match form {
+        Form::Variable => keys::UNSET_VARIABLE,
+        Form::Definition => keys::NEVER_DEFINED,
+    }
+}
+
+/// Returns the question whether a near name was meant.
+fn near_key(form: Form) -> Key {
+    match form {
+        Form::Variable => keys::NEAR_VARIABLE,
+        Form::Definition => keys::NEAR_DEFINITION,
+    }
+}
+
+/// Returns the names as slices.
+fn slices<'a>(alloc: Global, names: &'a [Bytes]) -> Result<Vec<&'a [u8]>, AllocError> {
+    let mut all = Vec::with_capacity(alloc, names.len())?;
+    for name in names {
+        all.push(name.as_slice())?;
+    }
+    Ok(all)
+}
+
+/// How many findings may have been made before no near name is sought any more.
+const SOUGHT: usize = 200;
+
+/// Writes the question whether a near name was meant, if one is near. After this many findings none is sought.
+fn put_near(
+    alloc: Global,
+    page: &mut Page,
+    found: usize,
+    form: Form,
+    name: &[u8],
+    names: &SubstList,
+) -> Result<(), AllocError> {
+    if found > SOUGHT || name.len() > 80 {
+        return Ok(());
+    }
+    let all = slices(alloc, names.names())?;
+    if let Some(near) = near_name(alloc, name, all.as_slice())? {
+        page.put(near_key(form), &[WordPart::AsItIs(near)]);
+    }
+    Ok(())
+}
+
+/// Warns of a name that has no value, with this advice, or with the nearest of some names if there is no advice.
+pub(crate) fn warn_of_name(
+    alloc: Global,
+    out: &mut Vec<Finding>,
+    text: &[u8],
+    span: Span,
+    form: Form,
+    name: &[u8],
+    advice: Option<Key>,
+    names: &SubstList,
+) -> Result<(), AllocError>
+    ensures within { OnOk result (KeepsWithin span.file text.now out.old.items out.new.items) }
+{
+    let key = key_of(form);
+    let mut page = Page::new(alloc);
+    page.put(key, &[WordPart::AsItIs(name)]);
+    match advice {
+        Some(advice) => page.put(advice, &[]),
+        None => put_near(alloc, &mut page, out.len(), form, name, names)?,
+    }
+    page.warn(alloc, out, text, span, key.name())
+}
+
+/// Warns of a part of a file, if it is there: its offset and its length.
+pub(crate) fn warn_at(
+    alloc: Global,
+    out: &mut Vec<Finding>,
+    text: &[u8],
+    file: usize,
+    part: Option<(usize, usize)>,
+    key: Key,
+) -> Result<(), AllocError>
+    ensures within { OnOk result (KeepsWithin file text.now out.old.items out.new.items) }
+{
+    let Some((start, length)) = part else {
+        return Ok(());
+    };
+    let span = Span {
+        file,
+        start,
+        end: start.saturating_add(length),
+    };
+    warn_by_key(alloc, out, text, span, key, &[])
+}

@@ -1,0 +1,198 @@
+//! Warnings about calls.
+
+use crate::extent::{Named, assigns, bare, is_given, text_at, warn_of_part};
+use crate::foreign::warn_of_texts;
+use crate::includes::warn_of_includes;
+use crate::rows::{EMPTY, FUNCTIONS, HELD, LIBRARY_ACTION, NAMES, SILENT};
+use crate::shellwords::warn_of_shell_words;
+use ac_calls::{CallAt, Extent};
+use bstr::ByteSlice;
+use lint_findings::Finding;
+use lint_macros::Index;
+use lint_table::{Key, keys};
+use lint_text::{after_blanks, from};
+use std::alloc::{AllocError, Global};
+
+/// Adds the warning of this key about a part of the source, if that is there and wrong.
+fn warn_if(
+    alloc: Global,
+    text: &[u8],
+    extent: Option<Extent>,
+    is_wrong: bool,
+    key: Key,
+    out: &mut Vec<Finding>,
+) -> Result<(), AllocError> {
+    match extent {
+        Some(extent) if is_wrong => warn_of_part(alloc, out, text, extent, key),
+        _ => Ok(()),
+    }
+}
+
+/// Returns whether an action is a comment alone.
+fn is_comment(action: &[u8]) -> bool {
+    action.starts_with(b"dnl") && !action.contains_str(b"\n")
+}
+
+/// Warns of a library that is sought by `main`, and of an action that is a comment alone.
+fn warn_of_library(
+    alloc: Global,
+    call: Named<'_>,
+    out: &mut Vec<Finding>,
+) -> Result<(), AllocError> {
+    let text = call.text;
+    for place in &FUNCTIONS {
+        let function = text_at(text, call.argument_at(place));
+        let is_main = bare(function) == b"main".as_slice();
+        warn_if(alloc, text, call.whole(), is_main, keys::LIBRARY_MAIN, out)?;
+    }
+    let action = call.argument_at(&LIBRARY_ACTION);
+    let is_idle = is_comment(bare(text_at(text, action)));
+    warn_if(alloc, text, action, is_idle, keys::DNL_ACTION, out)
+}
+
+/// Returns whether an argument holds a text that isn't empty.
+fn holds(argument: &[u8], sought: &[u8]) -> bool {
+    !sought.is_empty() && argument.contains_str(sought)
+}
+
+/// Warns if an argument of a call holds what one of the rows says.
+fn warn_of_rows(alloc: Global, call: Named<'_>, out: &mut Vec<Finding>) -> Result<(), AllocError> {
+    for row in &HELD {
+        let argument = call.argument_at(&(row.0, row.1));
+        let written = text_at(call.text, argument);
+        let is_quoted = row.4 && written.starts_with(b"[[");
+        let is_wrong = !is_quoted && (holds(written, row.2) || holds(written, row.3));
+        warn_if(alloc, call.text, argument, is_wrong, row.5, out)?;
+    }
+    Ok(())
+}
+
+/// Returns whether an argument in brackets begins or ends with a blank.
+fn has_end_blanks(argument: &[u8]) -> bool {
+    argument.starts_with(b"[ ") || argument.ends_with(b" ]")
+}
+
+/// Warns of empty texts in two pairs of brackets, and of names with blanks at their ends.
+fn warn_of_places(
+    alloc: Global,
+    call: Named<'_>,
+    out: &mut Vec<Finding>,
+) -> Result<(), AllocError> {
+    let text = call.text;
+    for place in &EMPTY {
+        let argument = call.argument_at(place);
+        let is_empty = text_at(text, argument) == b"[[]]".as_slice();
+        warn_if(alloc, text, argument, is_empty, keys::EMPTY_QUOTES, out)?;
+    }
+    for place in &NAMES {
+        let argument = call.argument_at(place);
+        let has_blanks = has_end_blanks(text_at(text, argument));
+        warn_if(alloc, text, argument, has_blanks, keys::BLANK_IN_NAME, out)?;
+    }
+    Ok(())
+}
+
+/// Warns of arguments of AC_CHECK_PROG and AS_CASE that are empty.
+fn warn_of_missing(
+    alloc: Global,
+    call: Named<'_>,
+    out: &mut Vec<Finding>,
+) -> Result<(), AllocError> {
+    let Named { text, name, .. } = call;
+    let args = &call.at.args;
+    let has_no_value = name == b"AC_CHECK_PROG".as_slice()
+        && !is_given(text, args.get(2))
+        && is_given(text, args.get(3));
+    warn_if(
+        alloc,
+        text,
+        call.whole(),
+        has_no_value,
+        keys::EMPTY_VALUE,
+        out,
+    )?;
+    let has_no_word = name == b"AS_CASE".as_slice() && !is_given(text, args.first());
+    warn_if(
+        alloc,
+        text,
+        call.whole(),
+        has_no_word,
+        keys::EMPTY_CASE,
+        out,
+    )
+}
+
+/// Warns of the variable SHELL, if it gets its value from the environment alone.
+fn warn_of_shell(alloc: Global, call: Named<'_>, out: &mut Vec<Finding>) -> Result<(), AllocError> {
+    let Named { text, name, .. } = call;
+    let args = &call.at.args;
+    let is_shell = name == b"AC_SUBST".as_slice()
+        && bare(text_at(text, args.first().copied())) == b"SHELL".as_slice();
+    let is_wrong = is_shell && !is_given(text, args.get(1)) && !assigns(text, b"SHELL");
+    warn_if(alloc, text, call.whole(), is_wrong, keys::LOGIN_SHELL, out)
+}
+
+/// Warns if a `;` is after a call of which Autoconf makes no shell text.
+fn warn_of_semicolon(
+    alloc: Global,
+    call: Named<'_>,
+    out: &mut Vec<Finding>,
+) -> Result<(), AllocError> {
+    let text = call.text;
+    let is_followed = SILENT.iter().any(|other| *other == call.name)
+        && after_blanks(from(text, call.at.end)).starts_with(b";");
+    let key = keys::SEMICOLON_AFTER_CALL;
+    warn_if(alloc, text, call.whole(), is_followed, key, out)
+}
+
+/// Warns of a call.
+fn warn_of_call(
+    alloc: Global,
+    index: &Index,
+    call: Named<'_>,
+    out: &mut Vec<Finding>,
+) -> Result<(), AllocError> {
+    if !call.at.is_of_profile {
+        return Ok(());
+    }
+    warn_of_library(alloc, call, out)?;
+    warn_of_rows(alloc, call, out)?;
+    warn_of_places(alloc, call, out)?;
+    warn_of_missing(alloc, call, out)?;
+    warn_of_shell(alloc, call, out)?;
+    warn_of_semicolon(alloc, call, out)?;
+    warn_of_texts(alloc, index, call, out)
+}
+
+/// Warns of the calls.
+fn warn_of_each(
+    alloc: Global,
+    index: &Index,
+    text: &[u8],
+    calls: &[CallAt],
+    out: &mut Vec<Finding>,
+) -> Result<(), AllocError> {
+    for call in calls {
+        warn_of_call(alloc, index, Named::new(text, call), out)?;
+    }
+    Ok(())
+}
+
+/// Adds the warnings about calls: arguments that mean something else here than with Autoconf, or
+/// than they seem to, names of macros in texts, names that the default includes don't declare, and
+/// words that a shell reads otherwise (own).
+///
+/// # Errors
+///
+/// Fails only if memory runs out.
+pub fn warn_of_calls(
+    alloc: Global,
+    text: &[u8],
+    calls: &[CallAt],
+    out: &mut Vec<Finding>,
+) -> Result<(), AllocError> {
+    let index = Index::new(alloc)?;
+    warn_of_each(alloc, &index, text, calls, out)?;
+    warn_of_includes(alloc, text, calls, out)?;
+    warn_of_shell_words(alloc, text, calls, out)
+}

@@ -1,0 +1,163 @@
+//! Names of macros in arguments that are text.
+
+use crate::extent::{Named, bare, span_of};
+use crate::rows::TEXTS;
+use ac_calls::Extent;
+use lint_findings::Finding;
+use lint_macros::{Index, MacroKind};
+use lint_table::{Page, WordPart, keys};
+use lint_text::{before, from, is_word_byte, part};
+use std::alloc::{AllocError, Global};
+
+/// The macro that may be in an argument with help.
+const HELP: &[u8] = b"AS_HELP_STRING";
+
+/// Returns whether a word begins as the names of macros do.
+fn has_front(word: &[u8]) -> bool {
+    let is_named = word.starts_with(b"AC_")
+        || word.starts_with(b"AS_")
+        || word.starts_with(b"AM_")
+        || word.starts_with(b"m4_");
+    is_named && word.len() > 3
+}
+
+/// Returns whether the table has an entry for this word alone.
+fn is_in_table(alloc: Global, index: &Index, word: &[u8]) -> Result<bool, AllocError> {
+    match index.entry_of(alloc, word)? {
+        Some(entry) => Ok(!matches!(entry.kind, MacroKind::Family)),
+        None => Ok(false),
+    }
+}
+
+/// Returns whether a word is the name of a macro.
+fn is_macro(alloc: Global, index: &Index, word: &[u8]) -> Result<bool, AllocError> {
+    if has_front(word) {
+        return Ok(true);
+    }
+    is_in_table(alloc, index, word)
+}
+
+/// Returns how many brackets are open at the end of a text.
+fn depth_of(text: &[u8]) -> usize {
+    let mut depth: usize = 0;
+    for byte in text {
+        depth = depth.saturating_add(usize::from(*byte == b'['));
+        depth = depth.saturating_sub(usize::from(*byte == b']'));
+    }
+    depth
+}
+
+/// Returns whether a comment of m4 is open at the end of a text: its last line has a `#` that isn't in more brackets than these.
+fn is_in_comment(text: &[u8], most: usize) -> bool {
+    let mut depth: usize = 0;
+    let mut is_open = false;
+    for byte in text {
+        is_open = *byte != b'\n' && (is_open || *byte == b'#' && depth <= most);
+        depth = depth.saturating_add(usize::from(*byte == b'['));
+        depth = depth.saturating_sub(usize::from(*byte == b']'));
+    }
+    is_open
+}
+
+/// Returns whether a word at this offset of an argument is read as text here, and as a macro by
+/// Autoconf: it isn't the name of a variable, isn't in more brackets than these, and isn't in a comment.
+fn is_expanded(argument: &[u8], at: usize, most: usize) -> bool {
+    let front = before(argument, at);
+    !front.ends_with(b"$")
+        && !front.ends_with(b"${")
+        && depth_of(front) <= most
+        && !is_in_comment(front, most)
+}
+
+/// Returns the first name of a macro in an argument that Autoconf expands, by its offset, but for
+/// one that is this.
+fn first_macro(
+    alloc: Global,
+    index: &Index,
+    argument: &[u8],
+    most: usize,
+    but: &[u8],
+) -> Result<Option<(usize, usize)>, AllocError> {
+    let mut at: usize = 0;
+    for word in argument.split(|byte| !is_word_byte(*byte)) {
+        if !word.is_empty()
+            && word != but
+            && is_macro(alloc, index, word)?
+            && is_expanded(argument, at, most)
+        {
+            return Ok(Some((at, word.len())));
+        }
+        at = at.saturating_add(word.len()).saturating_add(1);
+    }
+    Ok(None)
+}
+
+/// Returns the first name of a macro in an argument that Autoconf expands.
+fn macro_in(
+    alloc: Global,
+    index: &Index,
+    argument: &[u8],
+) -> Result<Option<(usize, usize)>, AllocError> {
+    if bare(argument).starts_with(HELP) {
+        return first_macro(alloc, index, argument, 2, HELP);
+    }
+    first_macro(alloc, index, argument, 1, b"")
+}
+
+/// The macros that Autoconf replaces by what AC_INIT says. A variable has each without its `AC_`.
+#[rattlefmt::skip]
+const PACKAGE: [&[u8]; 6] = [
+    b"AC_PACKAGE_NAME", b"AC_PACKAGE_TARNAME", b"AC_PACKAGE_VERSION", b"AC_PACKAGE_STRING",
+    b"AC_PACKAGE_BUGREPORT", b"AC_PACKAGE_URL",
+];
+
+/// Writes what to do about the name of a macro in a text of a call.
+fn put_help(page: &mut Page, call: &[u8], word: &[u8]) {
+    let variable = WordPart::AsItIs(from(word, 3));
+    if word == b"AC_HELP_STRING".as_slice() {
+        page.put(keys::WRITE_HELP_STRING, &[]);
+    } else if !PACKAGE.iter().any(|name| *name == word) {
+        page.put(keys::WRITE_TEXT, &[]);
+    } else if call == b"AC_DEFINE".as_slice() {
+        page.put(keys::WRITE_IN_UNQUOTED, &[variable]);
+    } else {
+        page.put(keys::WRITE_VARIABLE, &[variable]);
+    }
+}
+
+/// Warns if an argument of a call that is text has the name of a macro.
+fn warn_of_text(
+    alloc: Global,
+    index: &Index,
+    call: Named<'_>,
+    extent: Extent,
+    out: &mut Vec<Finding>,
+) -> Result<(), AllocError> {
+    let text = call.text;
+    let argument = part(text, extent.start, extent.end);
+    let Some((at, length)) = macro_in(alloc, index, argument)? else {
+        return Ok(());
+    };
+    let start = extent.start.saturating_add(at);
+    let end = start.saturating_add(length);
+    let mut page = Page::new(alloc);
+    page.put(keys::MACRO_IN_TEXT, &[]);
+    put_help(&mut page, call.name, part(text, start, end));
+    let span = span_of(Extent { start, end });
+    page.warn(alloc, out, text, span, keys::MACRO_IN_TEXT.name())
+}
+
+/// Warns of names of macros in the arguments of a call that are text.
+pub(crate) fn warn_of_texts(
+    alloc: Global,
+    index: &Index,
+    call: Named<'_>,
+    out: &mut Vec<Finding>,
+) -> Result<(), AllocError> {
+    for place in &TEXTS {
+        if let Some(extent) = call.argument_at(place) {
+            warn_of_text(alloc, index, call, extent, out)?;
+        }
+    }
+    Ok(())
+}

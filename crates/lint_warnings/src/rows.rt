@@ -1,0 +1,89 @@
+//! What an argument may hold that means something else here than with Autoconf, or than it seems to.
+
+use lint_table::{Key, keys};
+
+/// A macro, the number of one of its arguments from 0, a text that the argument may hold, another
+/// one if it isn't empty, whether the argument may hold them in two pairs of brackets, and the key
+/// of the warning.
+pub(crate) type Row = (
+    &'static [u8],
+    usize,
+    &'static [u8],
+    &'static [u8],
+    bool,
+    Key,
+);
+
+/// What an argument may hold.
+#[rattlefmt::skip]
+pub(crate) const HELD: [Row; 27] = [
+    (b"AC_CHECK_HEADERS", 0, b",", b"", false, keys::COMMA_IN_LIST),
+    (b"AC_CHECK_FUNCS", 0, b",", b"", false, keys::COMMA_IN_LIST),
+    (b"AC_MSG_NOTICE", 0, b"\\\"", b"\\`", false, keys::BACKSLASH_IN_MESSAGE),
+    (b"AC_MSG_WARN", 0, b"\\\"", b"\\`", false, keys::BACKSLASH_IN_MESSAGE),
+    (b"AC_MSG_ERROR", 0, b"\\\"", b"\\`", false, keys::BACKSLASH_IN_MESSAGE),
+    (b"AC_MSG_CHECKING", 0, b"\\\"", b"\\`", false, keys::BACKSLASH_IN_MESSAGE),
+    (b"AC_MSG_RESULT", 0, b"\\\"", b"\\`", false, keys::BACKSLASH_IN_MESSAGE),
+    (b"AC_CACHE_CHECK", 0, b"\\\"", b"\\`", false, keys::BACKSLASH_IN_MESSAGE),
+    (b"AC_CHECK_DECLS", 0, b" ,", b"\t,", false, keys::BLANK_BEFORE_COMMA),
+    (b"AC_CHECK_TYPES", 0, b" ,", b"\t,", false, keys::BLANK_BEFORE_COMMA),
+    (b"AC_CHECK_PROG", 2, b"\"", b"", false, keys::QUOTE_IN_VALUE),
+    (b"AC_CHECK_PROGS", 1, b"\n", b"", false, keys::LIST_ON_LINES),
+    (b"AC_SEARCH_LIBS", 1, b"\n", b"", false, keys::LIST_ON_LINES),
+    (b"AC_SUBST", 0, b"_AC_", b"", false, keys::FORBIDDEN_NAME),
+    (b"AC_DEFINE", 0, b"_AC_", b"", false, keys::FORBIDDEN_NAME),
+    (b"AC_DEFINE_UNQUOTED", 0, b"_AC_", b"", false, keys::FORBIDDEN_NAME),
+    (b"AC_ARG_VAR", 0, b"_AC_", b"", false, keys::FORBIDDEN_NAME),
+    (b"AC_CONFIG_FILES", 0, b"&", b"", false, keys::AMPERSAND_IN_OUTPUT),
+    (b"AC_CONFIG_HEADERS", 0, b"&", b"", false, keys::AMPERSAND_IN_OUTPUT),
+    (b"AC_CONFIG_FILES", 0, b"\ndnl ", b"[dnl ", false, keys::DNL_IN_LIST),
+    (b"AC_CONFIG_FILES", 0, b" dnl ", b"\tdnl ", false, keys::DNL_IN_LIST),
+    (b"AC_MSG_NOTICE", 0, b"#", b"", true, keys::HASH_IN_MESSAGE),
+    (b"AC_MSG_WARN", 0, b"#", b"", true, keys::HASH_IN_MESSAGE),
+    (b"AC_MSG_ERROR", 0, b"#", b"", true, keys::HASH_IN_MESSAGE),
+    (b"AC_MSG_CHECKING", 0, b"#", b"", true, keys::HASH_IN_MESSAGE),
+    (b"AC_MSG_RESULT", 0, b"#", b"", true, keys::HASH_IN_MESSAGE),
+    (b"AC_INIT", 0, b",", b"", true, keys::COMMA_IN_NAME),
+];
+
+/// A macro and the number of one of its arguments, from 0.
+pub(crate) type Place = (&'static [u8], usize);
+
+/// The functions by which libraries are sought.
+pub(crate) const FUNCTIONS: [Place; 2] = [(b"AC_CHECK_LIB", 1), (b"AC_SEARCH_LIBS", 0)];
+
+/// The action in place of which a library is added to LIBS.
+pub(crate) const LIBRARY_ACTION: Place = (b"AC_CHECK_LIB", 2);
+
+/// The arguments for which `[[]]` is something else in Autoconf than no argument.
+#[rattlefmt::skip]
+pub(crate) const EMPTY: [Place; 11] = [
+    (b"AC_SUBST", 1), (b"AC_DEFINE", 1), (b"AC_DEFINE_UNQUOTED", 1), (b"AC_INIT", 3),
+    (b"AC_PATH_PROG", 2), (b"AC_CHECK_DECL", 3), (b"AC_CHECK_DECLS", 3),
+    (b"AC_CHECK_HEADER", 3), (b"AC_CHECK_HEADERS", 3), (b"AC_CHECK_TYPE", 3),
+    (b"AC_CHECK_TYPES", 3),
+];
+
+/// The names at whose ends Autoconf keeps blanks, or refuses them.
+#[rattlefmt::skip]
+pub(crate) const NAMES: [Place; 7] = [
+    (b"AC_CHECK_LIB", 0), (b"AC_CHECK_LIB", 1), (b"AC_SEARCH_LIBS", 0), (b"AC_SUBST", 0),
+    (b"AC_DEFINE", 0), (b"AC_DEFINE_UNQUOTED", 0), (b"AC_ARG_VAR", 0),
+];
+
+/// The macros of which Autoconf makes no shell text.
+#[rattlefmt::skip]
+pub(crate) const SILENT: [&[u8]; 7] = [
+    b"AC_SUBST", b"AC_ARG_VAR", b"AC_CONFIG_FILES", b"AC_CONFIG_HEADERS", b"AC_CONFIG_SRCDIR",
+    b"AC_LANG", b"AC_PREREQ",
+];
+
+/// The arguments that are text, in which Autoconf expands macros.
+#[rattlefmt::skip]
+pub(crate) const TEXTS: [Place; 20] = [
+    (b"AC_INIT", 0), (b"AC_INIT", 1), (b"AC_INIT", 2), (b"AC_INIT", 3), (b"AC_INIT", 4),
+    (b"AC_SUBST", 1), (b"AC_DEFINE", 1), (b"AC_DEFINE", 2), (b"AC_DEFINE_UNQUOTED", 1),
+    (b"AC_DEFINE_UNQUOTED", 2), (b"AC_MSG_NOTICE", 0), (b"AC_MSG_WARN", 0), (b"AC_MSG_ERROR", 0),
+    (b"AC_MSG_CHECKING", 0), (b"AC_MSG_RESULT", 0), (b"AC_CACHE_CHECK", 0), (b"AC_ARG_VAR", 1),
+    (b"AC_ARG_ENABLE", 1), (b"AC_ARG_WITH", 1), (b"AC_CHECK_PROG", 2),
+];

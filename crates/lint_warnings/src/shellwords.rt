@@ -1,0 +1,362 @@
+//! Words that a shell reads otherwise, with no sign of it.
+
+use crate::extent::{name_of, span_of};
+use crate::lines::put_lines;
+use ac_calls::{CallAt, Extent};
+use deftable::is_shell_name;
+use lint_findings::Finding;
+use lint_table::{Key, Page, WordPart, keys, warn_by_key};
+use lint_text::{first_name, from, part};
+use shell_bare::{BareContext, after_quoted, escapes, following, is_part_end};
+use std::alloc::{AllocError, Global};
+
+/// What a byte of the source is a part of.
+#[derive(Clone, Copy, PartialEq, Eq)]
+enum Role {
+    /// Text that is no words of a shell.
+    Other,
+    /// Statements.
+    Statements,
+    /// A test.
+    Test,
+    /// The value of a variable.
+    Value,
+}
+
+/// Returns what an argument of a choice is. The arguments are counted from 0.
+fn role_in_choice(name: &[u8], count: usize, index: usize) -> Role {
+    let is_last = index.saturating_add(1) == count;
+    let is_odd = index % 2 == 1;
+    if name == b"AS_IF".as_slice() {
+        if is_odd || is_last {
+            Role::Statements
+        } else {
+            Role::Test
+        }
+    } else if index > 0 && (!is_odd || is_last) {
+        Role::Statements
+    } else {
+        Role::Other
+    }
+}
+
+/// The macros whose statements begin with an argument of this number, counted from 0, and end with the argument after it.
+#[rattlefmt::skip]
+const ACTIONS: [(&[u8], usize); 17] = [
+    (b"AC_ARG_ENABLE", 2), (b"AC_ARG_WITH", 2), (b"AC_CHECK_LIB", 2), (b"AC_SEARCH_LIBS", 2),
+    (b"AC_CHECK_HEADER", 1), (b"AC_CHECK_HEADERS", 1), (b"AC_CHECK_FUNC", 1), (b"AC_CHECK_FUNCS", 1),
+    (b"AC_CHECK_DECL", 1), (b"AC_CHECK_DECLS", 1), (b"AC_CHECK_TYPE", 1), (b"AC_CHECK_TYPES", 1),
+    (b"AC_COMPILE_IFELSE", 1), (b"AC_LINK_IFELSE", 1), (b"AC_PREPROC_IFELSE", 1), (b"AC_RUN_IFELSE", 1),
+    (b"AC_CACHE_CHECK", 2),
+];
+
+/// Returns what an argument of a call is.
+fn role_of(name: &[u8], count: usize, index: usize) -> Role {
+    if name == b"AS_IF".as_slice() || name == b"AS_CASE".as_slice() {
+        return role_in_choice(name, count, index);
+    }
+    if name == b"AC_SUBST".as_slice() && index == 1 {
+        return Role::Value;
+    }
+    match ACTIONS.iter().find(|row| row.0 == name) {
+        Some(row) if index == row.1 || index == row.1.saturating_add(1) => Role::Statements,
+        _ => Role::Other,
+    }
+}
+
+/// Sets what the bytes between two offsets are parts of.
+fn fill(roles: &mut [Role], start: usize, end: usize, role: Role) {
+    for i in start..end.min(roles.len()) {
+        roles[i] = role;
+    }
+}
+
+/// Returns what each byte of a source with these calls is a part of.
+fn roles_of(alloc: Global, text: &[u8], calls: &[CallAt]) -> Result<Vec<Role>, AllocError> {
+    let mut roles = vec![in alloc; Role::Statements; text.len()]?;
+    for call in calls {
+        let name = name_of(text, call);
+        fill(&mut roles, call.start, call.end, Role::Other);
+        for (index, arg) in call.args.iter().enumerate() {
+            let role = role_of(name, call.args.len(), index);
+            fill(&mut roles, arg.start, arg.end, role);
+        }
+    }
+    Ok(roles)
+}
+
+/// A walk over the bytes of a source.
+#[derive(Clone, Copy)]
+struct Walk {
+    role: Role,
+    place: BareContext,
+    /// Whether a backslash that quotes is before the byte.
+    is_escaped: bool,
+    /// The offset at which the word begins.
+    begin: usize,
+    /// Whether the word is that of a test.
+    is_test: bool,
+    /// Whether the byte is in the value of a variable.
+    is_value: bool,
+    /// Whether a shell replaces a `~` at this place.
+    is_front: bool,
+}
+
+impl Walk {
+    /// Returns the walk at the first byte of a text.
+    fn new(role: Role) -> Walk {
+        Walk {
+            role,
+            place: BareContext::Start,
+            is_escaped: false,
+            begin: 0,
+            is_test: role == Role::Test,
+            is_value: role == Role::Value,
+            is_front: role == Role::Value || role == Role::Test,
+        }
+    }
+
+    /// Returns whether the byte is outside quotes and comments.
+    fn is_bare(&self) -> bool {
+        matches!(self.place, BareContext::Start | BareContext::Word)
+    }
+
+    /// Begins a word at an offset.
+    fn begin_word(&mut self, at: usize) {
+        self.begin = at;
+        self.is_value = self.role == Role::Value;
+        self.is_front = self.is_value || self.is_test;
+    }
+
+    /// Ends the word before a byte that ends one.
+    fn end_word(&mut self, text: &[u8], at: usize, byte: u8) {
+        if self.role != Role::Statements {
+            return;
+        }
+        if matches!(byte, b'\n' | b';' | b'&' | b'|') {
+            self.is_test = false;
+        } else if part(text, self.begin, at) == b"test".as_slice() {
+            self.is_test = true;
+        }
+    }
+
+    /// Goes on after a byte that is no blank and in no quotes.
+    fn pass_bare(&mut self, text: &[u8], at: usize, byte: u8) {
+        let is_name = self.role == Role::Statements && is_shell_name(part(text, self.begin, at));
+        let begins = byte == b'=' && !self.is_value && is_name;
+        self.is_value |= begins;
+        self.is_front = begins || byte == b':' && self.is_value;
+    }
+}
+
+/// What is found in a source.
+#[derive(Drop)]
+struct Found {
+    /// The first `~` that a shell replaces.
+    tilde: Option<usize>,
+    /// The first `$` before a quote.
+    dollar: Option<usize>,
+    /// The words of tests that are variables alone.
+    words: Vec<Extent>,
+}
+
+/// Returns the length of the variable that a text begins with, or 0.
+fn variable_len(text: &[u8]) -> usize {
+    let name = match text {
+        [b'$', b'{', rest @ ..] => first_name(rest),
+        [b'$', rest @ ..] => return first_name(rest).len().saturating_add(1),
+        _ => return 0,
+    };
+    name.len().saturating_add(3)
+}
+
+/// How many variables of one word are looked at.
+const MOST: usize = 64;
+
+/// Returns the length of the variables that a text begins with.
+fn variables_len(text: &[u8]) -> usize {
+    let mut len: usize = 0;
+    for _ in 0..MOST {
+        let more = variable_len(from(text, len));
+        if more == 0 {
+            return len;
+        }
+        len = len.saturating_add(more);
+    }
+    len
+}
+
+/// Returns whether a byte ends a word of a test.
+fn ends_word(byte: u8) -> bool {
+    is_part_end(byte) || matches!(byte, b'&' | b'|' | b']' | b')')
+}
+
+/// Appends the word of a test that begins at an offset, if it is variables alone. The text ends with the test.
+fn push_word(text: &[u8], at: usize, out: &mut Vec<Extent>) -> Result<(), AllocError> {
+    let len = variables_len(from(text, at));
+    let end = at.saturating_add(len);
+    let is_end = match from(text, end).first() {
+        Some(byte) => ends_word(*byte),
+        None => true,
+    };
+    if len > 1 && is_end {
+        out.push(Extent { start: at, end })?;
+    }
+    Ok(())
+}
+
+/// Reads a byte that is in no quotes, and before which there is no backslash.
+fn read_bare(
+    text: &[u8],
+    at: usize,
+    byte: u8,
+    walk: &mut Walk,
+    found: &mut Found,
+) -> Result<(), AllocError> {
+    if matches!(walk.place, BareContext::Start) {
+        walk.begin_word(at);
+        if walk.is_test {
+            push_word(text, at, &mut found.words)?;
+        }
+    }
+    let rest = from(text, at);
+    if byte == b'~' && walk.is_front && found.tilde.is_none() {
+        found.tilde = Some(at);
+    }
+    let is_quote = rest.starts_with(b"$'") || rest.starts_with(b"$\"");
+    if is_quote && found.dollar.is_none() {
+        found.dollar = Some(at);
+    }
+    if ends_word(byte) {
+        walk.end_word(text, at, byte);
+    } else {
+        walk.pass_bare(text, at, byte);
+    }
+    Ok(())
+}
+
+/// Returns whether the line from an offset on is one that m4 drops.
+fn is_dropped(text: &[u8], at: usize, walk: &Walk) -> bool {
+    matches!(walk.place, BareContext::Start) && first_name(from(text, at)) == b"dnl".as_slice()
+}
+
+/// Reads a byte before which there is no backslash.
+fn read_plain(
+    text: &[u8],
+    at: usize,
+    byte: u8,
+    walk: &mut Walk,
+    found: &mut Found,
+) -> Result<(), AllocError> {
+    if is_dropped(text, at, walk) {
+        walk.place = BareContext::Comment;
+        return Ok(());
+    }
+    if walk.is_bare() {
+        read_bare(text, at, byte, walk, found)?;
+    }
+    if byte == b'\\' && escapes(walk.place) {
+        walk.is_escaped = true;
+        return Ok(());
+    }
+    walk.place = following(walk.place, byte);
+    Ok(())
+}
+
+/// Returns whether m4 drops a byte, which is a bracket.
+fn is_bracket(byte: u8, walk: &Walk) -> bool {
+    matches!(byte, b'[' | b']') && !matches!(walk.place, BareContext::Comment)
+}
+
+/// Reads the byte at an offset.
+fn read_byte(
+    text: &[u8],
+    at: usize,
+    byte: u8,
+    walk: &mut Walk,
+    found: &mut Found,
+) -> Result<(), AllocError> {
+    if walk.is_escaped {
+        walk.is_escaped = false;
+        walk.is_front = false;
+        walk.place = after_quoted(walk.place);
+        return Ok(());
+    }
+    if is_bracket(byte, walk) {
+        return Ok(());
+    }
+    read_plain(text, at, byte, walk, found)
+}
+
+/// Returns what is found in a source, of whose bytes it is known what they are parts of.
+fn found_in(alloc: Global, text: &[u8], roles: &[Role]) -> Result<Found, AllocError> {
+    let mut found = Found {
+        tilde: None,
+        dollar: None,
+        words: Vec::new(alloc),
+    };
+    let mut walk = Walk::new(Role::Other);
+    for (at, byte) in text.iter().enumerate() {
+        let role = roles.get(at).copied().unwrap_or(Role::Other);
+        if role != walk.role {
+            walk = Walk::new(role);
+        }
+        if role != Role::Other {
+            read_byte(text, at, *byte, &mut walk, &mut found)?;
+        }
+    }
+    Ok(found)
+}
+
+/// Warns of the byte at an offset, if there is one, and of the one after it.
+fn warn_at(
+    alloc: Global,
+    text: &[u8],
+    place: Option<usize>,
+    len: usize,
+    key: Key,
+    out: &mut Vec<Finding>,
+) -> Result<(), AllocError> {
+    let Some(start) = place else {
+        return Ok(());
+    };
+    let end = start.saturating_add(len);
+    warn_by_key(alloc, out, text, span_of(Extent { start, end }), key, &[])
+}
+
+/// Warns of the words of tests that are variables alone, at the first of them.
+fn warn_of_test_words(
+    alloc: Global,
+    text: &[u8],
+    words: &[Extent],
+    out: &mut Vec<Finding>,
+) -> Result<(), AllocError> {
+    let Some(first) = words.first() else {
+        return Ok(());
+    };
+    let word = part(text, first.start, first.end);
+    let mut page = Page::new(alloc);
+    page.put(keys::UNQUOTED_WORD, &[WordPart::AsItIs(word)]);
+    put_lines(&mut page, text, words);
+    page.warn(
+        alloc,
+        out,
+        text,
+        span_of(*first),
+        keys::UNQUOTED_WORD.name(),
+    )
+}
+
+/// Adds the warnings about words of a source that a shell reads otherwise.
+pub(crate) fn warn_of_shell_words(
+    alloc: Global,
+    text: &[u8],
+    calls: &[CallAt],
+    out: &mut Vec<Finding>,
+) -> Result<(), AllocError> {
+    let roles = roles_of(alloc, text, calls)?;
+    let found = found_in(alloc, text, roles.as_slice())?;
+    warn_at(alloc, text, found.tilde, 1, keys::TILDE, out)?;
+    warn_at(alloc, text, found.dollar, 2, keys::DOLLAR_QUOTE, out)?;
+    warn_of_test_words(alloc, text, found.words.as_slice(), out)
+}

@@ -1,0 +1,158 @@
+//! What is said of shell text that is not read.
+
+use crate::table::{Construct, Fit, Kind, Nameless, row_of, said_of};
+use lint_text::{after_blanks, first_line, first_name, first_word, from};
+
+/// Returns what is said of the first word of the text that a test may not have.
+fn row_of_words(text: &[u8]) -> Option<Construct> {
+    for word in text.split(|byte| matches!(*byte, b' ' | b'\t' | b'\n')) {
+        if let Some(found) = row_of(Kind::Test, Fit::Is(word)) {
+            return Some(found);
+        }
+    }
+    None
+}
+
+/// Returns what is said of what a text begins with, not as a word.
+fn row_of_front(text: &[u8]) -> Option<Construct> {
+    let fit = Fit::Begins(text);
+    if let Some(found) = row_of(Kind::Inside, fit) {
+        return Some(found);
+    }
+    if let Some(found) = row_of(Kind::Piece, fit) {
+        return Some(found);
+    }
+    row_of(Kind::Front, fit)
+}
+
+/// Returns whether the text after a `$` is an expansion with an operator, such as `${x-y}`.
+fn is_operator(text: &[u8]) -> bool {
+    match text {
+        [b'{', inside @ ..] => !from(inside, first_name(inside).len()).starts_with(b"}"),
+        _ => false,
+    }
+}
+
+/// Returns whether the text after a `$` is a variable of the shell's own.
+fn is_special(text: &[u8]) -> bool {
+    match text {
+        [byte, ..] => byte.is_ascii_digit() || b"@*#?!-$".contains(byte),
+        [] => false,
+    }
+}
+
+/// Returns what is said of the first variable that is not read.
+fn variable_help(text: &[u8]) -> Option<Construct> {
+    let mut at: usize = 0;
+    for byte in text {
+        at = at.saturating_add(1);
+        if *byte == b'$' && is_operator(from(text, at)) {
+            return Some(said_of(Nameless::Operator));
+        }
+        if *byte == b'$' && is_special(from(text, at)) {
+            return Some(said_of(Nameless::Special));
+        }
+    }
+    None
+}
+
+/// Which quote is open.
+#[derive(Clone, Copy)]
+enum Quote {
+    Nothing,
+    Single,
+    Double,
+    /// The next byte is escaped, outside quotes or within double ones.
+    Escape(bool),
+}
+
+impl Quote {
+    /// Returns which quote is open after the byte.
+    fn after(self, byte: u8) -> Quote {
+        match self {
+            Quote::Nothing if byte == b'\'' => Quote::Single,
+            Quote::Nothing if byte == b'"' => Quote::Double,
+            Quote::Nothing if byte == b'\\' => Quote::Escape(false),
+            Quote::Single if byte == b'\'' => Quote::Nothing,
+            Quote::Double if byte == b'"' => Quote::Nothing,
+            Quote::Double if byte == b'\\' => Quote::Escape(true),
+            Quote::Escape(true) => Quote::Double,
+            Quote::Escape(false) => Quote::Nothing,
+            quote => quote,
+        }
+    }
+}
+
+/// Returns what is said of a quote that is open at the end of a text.
+fn quote_help(text: &[u8]) -> Option<Construct> {
+    let mut quote = Quote::Nothing;
+    for byte in text {
+        quote = quote.after(*byte);
+    }
+    match quote {
+        Quote::Single => Some(said_of(Nameless::SingleQuote)),
+        Quote::Double => Some(said_of(Nameless::DoubleQuote)),
+        _ => None,
+    }
+}
+
+/// Returns whether a text begins with a name, a blank and `=`.
+fn has_blank_before_equals(text: &[u8]) -> bool {
+    let name = first_name(text);
+    let rest = from(text, name.len());
+    let later = after_blanks(rest);
+    !name.is_empty() && later.len() < rest.len() && later.starts_with(b"=")
+}
+
+/// Returns what is said of words, as far as their parts tell it.
+pub fn word_help(text: &[u8]) -> Option<Construct> {
+    if let Some(found) = row_of(Kind::Inside, Fit::IsIn(text)) {
+        return Some(found);
+    }
+    if let Some(found) = variable_help(text) {
+        return Some(found);
+    }
+    quote_help(text)
+}
+
+/// Returns what is said of a statement by what it begins with.
+fn front_help(text: &[u8]) -> Option<Construct> {
+    if first_line(text).ends_with(b"\r") {
+        return Some(said_of(Nameless::CarriageReturn));
+    }
+    if let Some(found) = row_of(Kind::Word, Fit::Is(first_word(text))) {
+        return Some(found);
+    }
+    if has_blank_before_equals(text) {
+        return Some(said_of(Nameless::BlankBesideEquals));
+    }
+    row_of_front(text)
+}
+
+/// Returns what is wrong with a statement of the shell, and the form that does it, as far as its text shows that.
+///
+/// The text begins at the statement and may go on after it.
+pub fn shell_help(statement: &[u8]) -> Option<Construct> {
+    if let Some(found) = front_help(statement) {
+        return Some(found);
+    }
+    let text = first_line(statement);
+    if let Some(found) = word_help(text) {
+        return Some(found);
+    }
+    row_of(Kind::Piece, Fit::IsIn(text))
+}
+
+/// Returns what is wrong with a test, as far as its text shows that. The text is without the quotes around it.
+pub fn test_help(test: &[u8]) -> Option<Construct> {
+    if test.contains(&b'\r') {
+        return Some(said_of(Nameless::CarriageReturn));
+    }
+    if after_blanks(test).starts_with(b"[") {
+        return Some(said_of(Nameless::Bracket));
+    }
+    if let Some(found) = row_of_words(test) {
+        return Some(found);
+    }
+    word_help(test)
+}

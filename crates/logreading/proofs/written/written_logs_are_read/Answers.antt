@@ -1,8 +1,0 @@
-use Rattle.logreading.proofs.Readings.{entries_log, entries_read}
-use Rattle.logreading.proofs.written.written_logs_are_read.Goals as goal
-
-pub returns : goal.returns
-returns c = record {
-  log = entries_log;
-  lines = entries_read;
-}

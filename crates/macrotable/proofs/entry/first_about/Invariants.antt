@@ -1,6 +1,0 @@
-use Rattle.std.proofs.Common.{◌≡◌, map, drop}
-use Rattle.macrotable.specs.Entries.{first_about}
-use Rattle.macrotable.proofs.entry.first_about.Given as goal
-
-abbrev pub invariant-loop-row : goal.invariant-loop-row
-invariant-loop-row l = first_about l.name (map (λ r. r.now) (drop l.row-index l.rows)) ≡ first_about l.name (map (λ r. r.now) l.rows)

@@ -1,6 +1,0 @@
-use Rattle.std.proofs.Common.{◌≡◌, ◌++◌, map, drop}
-use Rattle.macrotable.specs.Values.{listed}
-use Rattle.macrotable.proofs.filling.put_list.Given as goal
-
-abbrev pub invariant-loop-i : goal.invariant-loop-i
-invariant-loop-i l = l.out.items ++ listed (map (λ a. a.now) (drop l.i l.args)) ≡ l.initial.out.items ++ listed (map (λ a. a.now) l.args)

@@ -1,5 +1,0 @@
-use Rattle.std.proofs.Common.{◌≡◌, take}
-use Rattle.making.proofs.filling.table_of.Given as goal
-
-abbrev pub invariant-names : goal.invariant-names
-invariant-names l = l.table ≡ take l.i l.vars

@@ -1,6 +1,0 @@
-use Rattle.std.proofs.Common.{◌≡◌, take, fold}
-use Rattle.making.specs.Variables.{with_variable}
-use Rattle.making.proofs.variables.add_all.Given as goal
-
-abbrev pub invariant-loop-name : goal.invariant-loop-name
-invariant-loop-name l = l.table ≡ fold (with_variable l.vars l.has_header) l.fn.table (take l.name-index l.names)

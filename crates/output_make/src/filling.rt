@@ -1,0 +1,242 @@
+//! Makes the files and headers of a record.
+
+ghost use Rattle.std.specs.Prelude.{◌≡◌, [], ◌∷◌, ◌++◌, map, codes, IfOk, OnOk};
+ghost use Rattle.deftable.specs.Table.{with_entry};
+ghost use Rattle.output_make.specs.Choice.{chosen};
+ghost use Rattle.output_make.specs.Making as words;
+ghost use Rattle.template.specs.Place.{configure_input_of, place_of};
+
+use crate::choosing::{is_chosen, template_of};
+use deftable::{Bytes, Defs};
+use output_list::Output;
+use output_put::{Artifact, Artifacts, Kind};
+use status_record::Record;
+use std::alloc::{AllocError, Global};
+use template::{Place, Table, configure_input, fill, fill_header, header_note, place_vars};
+
+/// Returns the table of these variables.
+fn table_of(alloc: Global, vars: &Defs) -> Result<Table, AllocError>
+    ensures { IfOk result (λ table. table ≡ vars.now) }
+{
+    let mut table = Table::new(alloc);
+    'names: for i in 0..vars.len() {
+        let (name, value) = vars.at(i);
+        table.set(name, value)?;
+    }
+    Ok(table)
+}
+
+/// Adds the variables for the directories of a file.
+#[tactic(auto, unfolding(crate::specs::Making::with_place))]
+fn add_place(table: &mut Table, place: &Place) -> Result<(), AllocError>
+    ensures { OnOk result (table.new ≡ words.with_place table.old place.now) }
+{
+    table.set(b"srcdir", place.srcdir.as_slice())?;
+    table.set(b"top_srcdir", place.top_srcdir.as_slice())?;
+    table.set(b"builddir", place.builddir.as_slice())?;
+    table.set(b"top_builddir", place.top_builddir.as_slice())
+}
+
+/// Adds the variable for the names of a file and its template.
+fn add_input(alloc: Global, table: &mut Table, file: &Output) -> Result<(), AllocError>
+    ensures { OnOk result (table.new ≡ with_entry table.old (codes "configure_input") (configure_input_of file.now.name file.now.template)) }
+{
+    let input = configure_input(alloc, file.name.as_slice(), file.template.as_slice())?;
+    table.set(b"configure_input", input.as_slice())
+}
+
+/// Adds the variables that a file has of its own.
+fn add_own(alloc: Global, table: &mut Table, file: &Output, srcdir: &[u8]) -> Result<(), AllocError>
+    ensures { OnOk result (table.new
+        ≡ words.with_place (with_entry table.old (codes "configure_input") (configure_input_of file.now.name file.now.template)) (place_of file.now.name srcdir.now)) }
+{
+    add_input(alloc, table, file)?;
+    let place = place_vars(alloc, file.name.as_slice(), srcdir)?;
+    add_place(table, &place)
+}
+
+/// Returns the table that the template of a file is filled from: the output variables, and the file's own, which override
+/// them (Autoconf's manual, "Preset Output Variables").
+#[tactic(auto, unfolding(crate::specs::Making::file_table))]
+fn file_table(alloc: Global, recorded: &Record, file: &Output) -> Result<Table, AllocError>
+    ensures { IfOk result (λ table. table ≡ words.file_table recorded.now file.now) }
+{
+    let mut table = table_of(alloc, &recorded.vars)?;
+    add_own(alloc, &mut table, file, recorded.srcdir.as_slice())?;
+    Ok(table)
+}
+
+/// Makes a file of its template: the first template of that name, or the empty text if there is none.
+///
+/// The table that the template is filled from has the output variables, and the file's own variables, which override them
+/// (Autoconf's manual, "Preset Output Variables"). A value isn't read again, and an output variable that is unset is nothing.
+///
+/// # Errors
+///
+/// Fails only if memory runs out.
+#[tactic(auto, unfolding(crate::specs::Making::made_file))]
+pub fn make_file(
+    alloc: Global,
+    recorded: &Record,
+    templates: &[(Bytes, Bytes)],
+    file: &Output,
+) -> Result<Artifact, AllocError>
+    ensures { IfOk result (λ artifact. artifact ≡ words.made_file recorded.now templates.now file.now) }
+{
+    let table = file_table(alloc, recorded, file)?;
+    let name = file.name.copy(alloc)?;
+    let template = template_of(templates, file.template.as_slice());
+    let text = fill(alloc, template, &table)?;
+    Ok(Artifact {
+        kind: Kind::File,
+        name,
+        text: Bytes::from_vec(text),
+    })
+}
+
+/// Returns the text of a header: its first line, and then what is made of its template.
+fn header_text(
+    alloc: Global,
+    recorded: &Record,
+    templates: &[(Bytes, Bytes)],
+    header: &Output,
+) -> Result<Bytes, AllocError>
+    ensures { IfOk result (λ text. text ≡ words.header_text recorded.now templates.now header.now) }
+{
+    let template = template_of(templates, header.template.as_slice());
+    let made = fill_header(alloc, template, &recorded.defs)?;
+    let note = header_note(alloc, header.name.as_slice(), header.template.as_slice())?;
+    let mut text = note.into_vec();
+    text.extend_from_slice(made.as_slice())?;
+    Ok(Bytes::from_vec(text))
+}
+
+/// Makes a header of its template.
+#[tactic(auto, unfolding(crate::specs::Making::made_header))]
+fn make_header(
+    alloc: Global,
+    recorded: &Record,
+    templates: &[(Bytes, Bytes)],
+    header: &Output,
+) -> Result<Artifact, AllocError>
+    ensures { IfOk result (λ artifact. artifact ≡ words.made_header recorded.now templates.now header.now) }
+{
+    let name = header.name.copy(alloc)?;
+    let text = header_text(alloc, recorded, templates, header)?;
+    Ok(Artifact {
+        kind: Kind::Header,
+        name,
+        text,
+    })
+}
+
+/// Makes a file and appends it, unless the tags leave it out.
+fn add_file(
+    alloc: Global,
+    artifacts: &mut Artifacts,
+    recorded: &Record,
+    templates: &[(Bytes, Bytes)],
+    tags: &[Bytes],
+    file: &Output,
+) -> Result<(), AllocError>
+    ensures { OnOk result (artifacts.new ≡ artifacts.old ++ map (words.made_file recorded.now templates.now) (chosen tags.now (file.now ∷ []))) }
+{
+    if !is_chosen(tags, file) {
+        return Ok(());
+    }
+    let artifact = make_file(alloc, recorded, templates, file)?;
+    artifacts.push(artifact)
+}
+
+/// Makes the files that the tags do not leave out, and appends them.
+fn add_files(
+    alloc: Global,
+    artifacts: &mut Artifacts,
+    recorded: &Record,
+    templates: &[(Bytes, Bytes)],
+    tags: &[Bytes],
+    files: &[Output],
+) -> Result<(), AllocError>
+    ensures { OnOk result (artifacts.new ≡ artifacts.old ++ map (words.made_file recorded.now templates.now) (chosen tags.now files.now)) }
+{
+    'outputs: for file in files {
+        add_file(alloc, artifacts, recorded, templates, tags, file)?;
+    }
+    Ok(())
+}
+
+/// Makes a header and appends it, unless the tags leave it out.
+fn add_header(
+    alloc: Global,
+    artifacts: &mut Artifacts,
+    recorded: &Record,
+    templates: &[(Bytes, Bytes)],
+    tags: &[Bytes],
+    header: &Output,
+) -> Result<(), AllocError>
+    ensures { OnOk result (artifacts.new ≡ artifacts.old ++ map (words.made_header recorded.now templates.now) (chosen tags.now (header.now ∷ []))) }
+{
+    if !is_chosen(tags, header) {
+        return Ok(());
+    }
+    let artifact = make_header(alloc, recorded, templates, header)?;
+    artifacts.push(artifact)
+}
+
+/// Makes the headers that the tags do not leave out, and appends them.
+fn add_headers(
+    alloc: Global,
+    artifacts: &mut Artifacts,
+    recorded: &Record,
+    templates: &[(Bytes, Bytes)],
+    tags: &[Bytes],
+    headers: &[Output],
+) -> Result<(), AllocError>
+    ensures { OnOk result (artifacts.new ≡ artifacts.old ++ map (words.made_header recorded.now templates.now) (chosen tags.now headers.now)) }
+{
+    'outputs: for header in headers {
+        add_header(alloc, artifacts, recorded, templates, tags, header)?;
+    }
+    Ok(())
+}
+
+/// Makes the files and then the headers of a record, each of its template, and appends them in the record's order.
+///
+/// If memory runs out, some of them may have been appended. [`make_outputs`] says more.
+#[tactic(auto, unfolding(crate::specs::Making::made))]
+pub fn add_outputs(
+    alloc: Global,
+    artifacts: &mut Artifacts,
+    recorded: &Record,
+    templates: &[(Bytes, Bytes)],
+    tags: &[Bytes],
+) -> Result<(), AllocError>
+    ensures { OnOk result (artifacts.new ≡ artifacts.old ++ words.made recorded.now templates.now tags.now) }
+{
+    let files = recorded.files.as_slice();
+    let headers = recorded.headers.as_slice();
+    add_files(alloc, artifacts, recorded, templates, tags, files)?;
+    add_headers(alloc, artifacts, recorded, templates, tags, headers)
+}
+
+/// Makes the files and then the headers of a record, each of its template, in the record's order.
+///
+/// A template is a name and a text. If two have one name, the first one counts; if none has the name, the template is the
+/// empty text. If there are tags, makes only the outputs whose names are tags; a tag that is no output's name makes nothing
+/// (own).
+///
+/// # Errors
+///
+/// Fails only if memory runs out.
+pub fn make_outputs(
+    alloc: Global,
+    recorded: &Record,
+    templates: &[(Bytes, Bytes)],
+    tags: &[Bytes],
+) -> Result<Artifacts, AllocError>
+    ensures { IfOk result (λ artifacts. artifacts ≡ words.made recorded.now templates.now tags.now) }
+{
+    let mut artifacts = Artifacts::new(alloc);
+    add_outputs(alloc, &mut artifacts, recorded, templates, tags)?;
+    Ok(artifacts)
+}

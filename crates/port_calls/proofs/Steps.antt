@@ -1,0 +1,59 @@
+-- What one step of a pass makes.
+use Rattle.std.proofs.Common.{◌≡◌, ℕ, ◌≤◌, List, ◌++◌, length, Result, Ok, Err, is_ok, OnOk, if◌then◌else◌, slice_range, sym, subst, ap, ◌∙◌, map, get_or, ◌<◌, ◌+◌, [], append-nil, Option, Some, None, arith}
+use Rattle.std.specs.Prelude.{Contains, IfSome, codes}
+use Rattle.std.proofs.lemmas.List.{get_or-map, length-map}
+use Rattle.std.proofs.lemmas.List.Elements.{Contains-get_or}
+use Rattle.ac_calls.specs.declared.call.CallAt.{CallAt}
+use Rattle.ac_calls.specs.Calls.{MacroCall, calls_in, macro_call_of}
+use Rattle.port_calls.specs.Rewritten.{IsPass, IsRewritten, HasToGo, IsAround, DeclaresOption, IsOldHelp, JoinsWords}
+use Rattle.port_calls.specs.Rewritten as specs
+use Rattle.port_calls.specs.Put.{MayPut}
+use Rattle.port_calls.specs.declared.idioms.Idioms.{Idioms}
+
+pub pass_bound : (idioms : Idioms) (text : List ℕ) (at : ℕ) (out : List ℕ) → IsPass idioms text at out → at ≤ length text
+pass_bound idioms text at out specs.IsPass.begun = omega arith
+pass_bound idioms text at out (specs.IsPass.copied next before from to) = to
+pass_bound idioms text at out (specs.IsPass.replaced c put end before is goes puts around to) = to
+pass_bound idioms text at out (specs.IsPass.renamed c end before is declares help to) = to
+pass_bound idioms text at out (specs.IsPass.parted c before is joins) = omega (arith, joins.joint.within)
+
+-- What follows from what an `Ok` says holds of the `Ok`.
+pub on_ok : {T E P Q : Type 0} → (P → Q) → (r : Result T E) → OnOk r P → OnOk r Q
+on_ok f (Ok v) p = f p
+on_ok f (Err e) p = tt
+
+pub pass_step : (idioms : Idioms) (text : List ℕ) (at : ℕ) (out : List ℕ) (c : MacroCall) (start end : ℕ) (put : List ℕ) (new_at : ℕ) (new : List ℕ)
+    → IsPass idioms text at out → Contains (calls_in text) c → HasToGo text c → MayPut idioms text c put → at ≤ start → IsAround text c start end × (end ≤ length text) × (start ≤ length text)
+    → (new_at ≡ end) × (new ≡ (out ++ slice_range text at start) ++ put) → IsPass idioms text new_at new
+pass_step idioms text at out c start end put new_at new before is goes puts from (around, to, within) (at_is, new_is) =
+    subst (λ a. IsPass idioms text a new) (sym at_is) (subst (IsPass idioms text end) (sym new_is) (specs.IsPass.replaced c put end (specs.IsPass.copied start before from within) is goes puts around to))
+
+pub help_step : (idioms : Idioms) (text : List ℕ) (at : ℕ) (out : List ℕ) (c : MacroCall) (start end : ℕ) (new_at : ℕ) (new : List ℕ)
+    → IsPass idioms text at out → Contains (calls_in text) c → DeclaresOption text c → at ≤ start → IsOldHelp text c start end × (end ≤ length text) × (start ≤ length text)
+    → (new_at ≡ end) × (new ≡ (out ++ slice_range text at start) ++ codes "AS_HELP_STRING") → IsPass idioms text new_at new
+help_step idioms text at out c start end new_at new before is declares from (help, to, within) (at_is, new_is) =
+    subst (λ a. IsPass idioms text a new) (sym at_is) (subst (IsPass idioms text end) (sym new_is) (specs.IsPass.renamed c end (specs.IsPass.copied start before from within) is declares help to))
+
+pub part_step : (idioms : Idioms) (text : List ℕ) (at : ℕ) (out : List ℕ) (c : MacroCall) (start : ℕ) (new_at : ℕ) (new : List ℕ)
+    → IsPass idioms text at out → Contains (calls_in text) c → JoinsWords text c start → at ≤ start
+    → (new_at ≡ start + 1) × (new ≡ (out ++ slice_range text at start) ++ []) → IsPass idioms text new_at new
+part_step idioms text at out c start new_at new before is joins from (at_is, new_is) =
+    let copied = specs.IsPass.copied start before from (omega (arith, joins.joint.within)) in
+    subst (λ a. IsPass idioms text a new) (sym at_is)
+    (subst (IsPass idioms text (start + 1)) (sym (new_is ∙ append-nil (out ++ slice_range text at start))) (specs.IsPass.parted c copied is joins))
+
+pub pass_end : {T E : Type 0} (idioms : Idioms) (r : Result T E) (text : List ℕ) (at : ℕ) (out new : List ℕ) → IsPass idioms text at out
+    → new ≡ (if is_ok r then out ++ slice_range text at (length text) else out) → OnOk r (IsPass idioms text (length text) new)
+pass_end idioms (Ok v) text at out new before is = subst (IsPass idioms text (length text)) (sym is) (specs.IsPass.copied (length text) before (pass_bound idioms text at out before) (omega arith))
+pass_end idioms (Err e) text at out new before is = tt
+
+pub pass_more : {V : Type 0} (idioms : Idioms) (items : V → List ℕ) (text mid now : List ℕ) (o : Option V) (next : V) → o ≡ Some next → now ≡ mid
+    → IfSome o (λ v. IsPass idioms now (length now) (items v)) → IsRewritten idioms text mid → IsRewritten idioms text (items next)
+pass_more idioms items text mid now o next is same pass before =
+    specs.IsRewritten.passed before (subst (λ m. IsPass idioms m (length m) (items next)) same (subst (λ o. IfSome o (λ v. IsPass idioms now (length now) (items v))) is pass))
+
+pub has_call : (calls : List CallAt) (all : List MacroCall) (i : ℕ) (c : CallAt) → map macro_call_of calls ≡ all → i < length calls → c ≡ get_or calls i c → Contains all (macro_call_of c)
+has_call calls all i c is lt here =
+    let within : i < length (map macro_call_of calls) = subst (λ n. i < n) (sym (length-map calls macro_call_of)) lt in
+    let found : get_or (map macro_call_of calls) i (macro_call_of c) ≡ macro_call_of c = get_or-map macro_call_of calls i c (macro_call_of c) lt ∙ ap macro_call_of (sym here) in
+    subst (λ l. Contains l (macro_call_of c)) is (subst (Contains (map macro_call_of calls)) found (Contains-get_or (map macro_call_of calls) i (macro_call_of c) within))

@@ -1,0 +1,83 @@
+-- What is put in the place of a call.
+use Rattle.std.specs.Prelude.{◌≡◌, ◌⊎◌, ℕ, ◌==◌, ◌||◌, Bool, true, false, List, [], ◌∷◌, ◌++◌, length, map, slice_get, Option, Some, bytes_eq, codes, if◌then◌else◌}
+use Rattle.std.specs.List.{flat_map, list_all}
+use Rattle.text_cut.specs.Cuts.{parts}
+use Rattle.lint_macros.specs.Entries.{entry_of}
+use Rattle.lint_macros.specs.declared.text.TheConstants.{TABLE}
+use Rattle.port_idioms.specs.Filled.{filled, text_of}
+use Rattle.port_idioms.specs.Rows.{put_by, IsExact, Differs}
+use Rattle.port_calls.specs.declared.idioms.Idioms.{Idioms}
+use Rattle.port_calls.specs.declared.idioms.Idioms.TheVariants.{Exact, All}
+use Rattle.ac_calls.specs.Calls.{MacroCall}
+use Rattle.ac_calls.specs.declared.call.Extent.{Extent}
+use Rattle.lint_text.specs.Parts.{part}
+
+-- The text of an argument. (own)
+abbrev pub arg_text : List ℕ → Extent → List ℕ
+arg_text text arg = part text arg.start arg.end
+
+-- The name that the table of macros has for a call: that of AC_OUTPUT with arguments says so. (own)
+abbrev pub row_name : List ℕ → MacroCall → List ℕ
+row_name text c = if c.is_of_profile then codes "AC_OUTPUT(files)" else part text c.start c.name_end
+
+-- What the table of macros puts in the place of a call: the text of an idiom, or nothing if the call has no meaning. (own)
+unfoldable pub put_for : List ℕ → MacroCall → Option (List ℕ)
+put_for text c = put_by (entry_of (row_name text c) TABLE.now)
+
+-- A space, a tab or a carriage return. (own)
+abbrev pub is_space : ℕ → Bool
+is_space b = b == 32 || b == 9 || b == 13
+
+-- Nothing, or the command `:`, which does nothing. (own)
+abbrev pub DoesNothing : List ℕ → Type 0
+DoesNothing put = (put ≡ []) ⊎ (put ≡ codes ":")
+
+-- What may be put in the place of a call: the idiom that the table has for it, with the call's own arguments and some blanks as the
+-- indent; or nothing, or `:`, if the table puts nothing there. (own)
+pub data IsPut (text : List ℕ) (c : MacroCall) : List ℕ → Type 0 where
+  idiom : (it indent : List ℕ) → put_for text c ≡ Some it → list_all is_space indent ≡ true → IsPut text c (filled (map (arg_text text) c.args) indent it)
+  dropped : (put : List ℕ) → put_for text c ≡ Some [] → DoesNothing put → IsPut text c put
+
+-- The idiom of the call, or that it has no meaning, is exact for so many arguments as it has. (own)
+abbrev pub IsExactFor : List ℕ → MacroCall → Type 0
+IsExactFor text c = IsExact (row_name text c) (length c.args)
+
+-- ---- idioms that differ
+
+-- The macro takes a list of names with commas between them as its first argument. (own)
+abbrev pub takes_list : List ℕ → Bool
+takes_list name = bytes_eq name (codes "AC_CHECK_MEMBERS")
+
+-- The arguments of the calls with one name each that do together what the call with a list does. (own)
+abbrev pub each_of : List (List ℕ) → List (List (List ℕ))
+each_of [] = []
+each_of (list ∷ more) = map (λ name. name ∷ more) (parts 44 (text_of (Some list)))
+
+-- The arguments that the idiom is written with, once with each of these. (own)
+abbrev pub written_with : Bool → List (List ℕ) → List (List (List ℕ))
+written_with true args = each_of args
+written_with false args = args ∷ []
+
+-- The line of comment above an idiom in the place of this macro: its name, and in what the idiom differs. (own)
+unfoldable pub difference : List ℕ → List ℕ → List ℕ
+difference name said = codes "dnl acrun: in place of " ++ name ++ 58 ∷ said
+
+-- An idiom after a newline and the indent. (own)
+abbrev pub below : List ℕ → List ℕ → List (List ℕ) → List ℕ
+below indent it args = 10 ∷ indent ++ filled args indent it
+
+-- The comment, and below it the idiom, once with each of these arguments. (own)
+unfoldable pub noted : List ℕ → List ℕ → List ℕ → List (List (List ℕ)) → List ℕ
+noted comment indent it calls = comment ++ flat_map (below indent it) calls
+
+-- What may be put in the place of a call below a comment: the idiom that the table has for it, though it differs from the macro, with
+-- the call's own arguments and some blanks as the indent. The comment says in what it differs. (own)
+pub data IsNoted (text : List ℕ) (c : MacroCall) : List ℕ → Type 0 where
+  idiom : (it indent said : List ℕ) → put_for text c ≡ Some it → list_all is_space indent ≡ true → Differs (row_name text c) (length c.args) said
+      → IsNoted text c (noted (difference (row_name text c) said) indent it (written_with (takes_list (row_name text c)) (map (arg_text text) c.args)))
+
+-- What may be put in the place of a call: what is exact, and if all idioms are wanted, also an idiom that differs, below its comment.
+-- (own)
+unfoldable pub MayPut : Idioms → List ℕ → MacroCall → List ℕ → Type 0
+MayPut Exact text c put = IsPut text c put × IsExactFor text c
+MayPut All text c put = (IsPut text c put × IsExactFor text c) ⊎ IsNoted text c put

@@ -1,0 +1,73 @@
+-- What the calls of a text become. The offsets are those of the text that is read. All of this is own.
+use Rattle.std.specs.Prelude.{◌≡◌, ◌⊎◌, ℕ, ◌+◌, ◌-◌, ◌<◌, ◌≤◌, ◌==◌, ◌||◌, Bool, true, false, List, [], ◌++◌, length, slice_range, slice_index, slice_get, Some, Contains, bytes_eq, codes}
+use Rattle.std.specs.List.{list_all}
+use Rattle.ac_calls.specs.Calls.{MacroCall, calls_in}
+use Rattle.ac_calls.specs.declared.call.Extent.{Extent}
+use Rattle.port_calls.specs.Put.{MayPut}
+use Rattle.port_calls.specs.declared.idioms.Idioms.{Idioms}
+
+-- A space, a tab, a carriage return or a newline.
+abbrev pub is_blank : ℕ → Bool
+is_blank b = b == 32 || b == 9 || b == 13 || b == 10
+
+-- The call has to go: the table of macros doesn't have its name, or it is AC_OUTPUT with arguments.
+abbrev pub HasToGo : List ℕ → MacroCall → Type 0
+HasToGo text c = (c.is_of_profile ≡ false) ⊎ ((slice_range text c.start c.name_end ≡ codes "AC_OUTPUT") × (0 < length c.args))
+
+-- Between these offsets are the call and, around it, nothing but blanks.
+abbrev pub IsAround : List ℕ → MacroCall → ℕ → ℕ → Type 0
+IsAround text c start end = (start ≤ c.start) × (c.end ≤ end) × (list_all is_blank (slice_range text start c.start) ≡ true) × (list_all is_blank (slice_range text c.end end) ≡ true)
+
+-- The call is one of AC_ARG_ENABLE or AC_ARG_WITH.
+abbrev pub DeclaresOption : List ℕ → MacroCall → Type 0
+DeclaresOption text c = (slice_range text c.start c.name_end ≡ codes "AC_ARG_ENABLE") ⊎ (slice_range text c.start c.name_end ≡ codes "AC_ARG_WITH")
+
+-- Between these offsets, within the call, is the old name of AS_HELP_STRING.
+abbrev pub IsOldHelp : List ℕ → MacroCall → ℕ → ℕ → Type 0
+IsOldHelp text c start end = (c.start ≤ start) × (end ≤ c.end) × (slice_range text start end ≡ codes "AC_HELP_STRING")
+
+-- A macro of this name looks for each function or header of a list.
+abbrev pub looks_for_words : List ℕ → Bool
+looks_for_words name =
+    bytes_eq name (codes "AC_CHECK_FUNCS") || bytes_eq name (codes "AC_CHECK_HEADERS") || bytes_eq name (codes "AC_HAVE_FUNCS") || bytes_eq name (codes "AC_HAVE_HEADERS")
+
+-- The first argument of a macro of this name is a list of words: of names that it looks for, or of files.
+abbrev pub takes_words : List ℕ → Bool
+takes_words name =
+    looks_for_words name || bytes_eq name (codes "AC_CONFIG_FILES") || bytes_eq name (codes "AC_CONFIG_HEADERS") || bytes_eq name (codes "AC_OUTPUT")
+
+-- A byte after which a word of a list may begin: a space, a tab, a newline, a bracket or a parenthesis.
+abbrev pub is_before_word : ℕ → Bool
+is_before_word b = b == 32 || b == 9 || b == 10 || b == 91 || b == 40
+
+-- At this offset of an argument a backslash joins two lines, and no word ends right before it.
+pub record IsLineJoint (text : List ℕ) (arg : Extent) (at : ℕ) : Type 0 where
+  pub place : (arg.start ≤ at) × (at + 1 < arg.end)
+  pub within : at + 1 < length text
+  pub before : is_before_word (slice_index text (at - 1)) ≡ true
+  pub backslash : slice_index text at ≡ 92
+  pub newline : slice_index text (at + 1) ≡ 10
+
+-- The call is one of a macro that takes such a list, and at this offset of the list a backslash joins two lines.
+pub record JoinsWords (text : List ℕ) (c : MacroCall) (at : ℕ) : Type 0 where
+  pub macro : takes_words (slice_range text c.start c.name_end) ≡ true
+  pub list : Extent
+  pub first : slice_get c.args 0 ≡ Some list
+  pub joint : IsLineJoint text list at
+
+-- One pass over the calls of a text has read so much of it, and written this. Everything is copied, with three exceptions: a call that has
+-- to go, with blanks around it, may be replaced by what may be put in its place; in a call that declares an option the old name of
+-- AS_HELP_STRING may become the name; and a backslash that joins two lines of a list of words may go.
+pub data IsPass (idioms : Idioms) (text : List ℕ) : ℕ → List ℕ → Type 0 where
+  begun : IsPass idioms text 0 []
+  copied : {at : ℕ} {out : List ℕ} (next : ℕ) → IsPass idioms text at out → at ≤ next → next ≤ length text → IsPass idioms text next (out ++ slice_range text at next)
+  replaced : {at : ℕ} {out : List ℕ} (c : MacroCall) (put : List ℕ) (end : ℕ) → IsPass idioms text at out → Contains (calls_in text) c → HasToGo text c → MayPut idioms text c put → IsAround text c at end → end ≤ length text
+      → IsPass idioms text end (out ++ put)
+  renamed : {at : ℕ} {out : List ℕ} (c : MacroCall) (end : ℕ) → IsPass idioms text at out → Contains (calls_in text) c → DeclaresOption text c → IsOldHelp text c at end → end ≤ length text
+      → IsPass idioms text end (out ++ codes "AS_HELP_STRING")
+  parted : {at : ℕ} {out : List ℕ} (c : MacroCall) → IsPass idioms text at out → Contains (calls_in text) c → JoinsWords text c at → IsPass idioms text (at + 1) out
+
+-- The one text becomes the other by passes over its calls, each of which reads what the one before it wrote.
+pub data IsRewritten (idioms : Idioms) : List ℕ → List ℕ → Type 0 where
+  same : {text : List ℕ} → IsRewritten idioms text text
+  passed : {text mid out : List ℕ} → IsRewritten idioms text mid → IsPass idioms mid (length mid) out → IsRewritten idioms text out

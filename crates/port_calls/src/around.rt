@@ -1,0 +1,137 @@
+//! What is before and after a place of a text.
+
+ghost use Rattle.std.specs.Prelude.{◌≡◌, true};
+ghost use Rattle.std.specs.List.{list_all};
+ghost use Rattle.port_calls.specs.Put as specs;
+
+use crate::spots::Spot;
+use lint_text::{before, from, part};
+
+/// Returns whether the byte is a space, a tab or a carriage return.
+pub(crate) fn is_space(byte: u8) -> bool
+    ensures { result ≡ specs.is_space byte }
+{
+    byte == b' ' || byte == b'\t' || byte == b'\r'
+}
+
+fn is_blank(byte: u8) -> bool {
+    is_space(byte) || byte == b'\n'
+}
+
+/// Returns the number of spaces and tabs at the front.
+pub(crate) fn space_len(text: &[u8]) -> usize {
+    text.iter().take_while(|byte| is_space(**byte)).count()
+}
+
+/// Returns the number of blanks and newlines at the front.
+pub(crate) fn blank_len(text: &[u8]) -> usize {
+    text.iter().take_while(|byte| is_blank(**byte)).count()
+}
+
+/// Returns the text without the blanks and newlines at its end.
+pub(crate) fn without_end_blanks(text: &[u8]) -> &[u8] {
+    let blanks = text
+        .iter()
+        .rev()
+        .take_while(|byte| is_blank(**byte))
+        .count();
+    before(text, text.len().saturating_sub(blanks))
+}
+
+fn are_spaces(text: &[u8]) -> bool
+    ensures { result ≡ list_all specs.is_space text.now }
+{
+    text.iter().all(|byte| is_space(*byte))
+}
+
+/// Returns the text if it has nothing but spaces and tabs, and otherwise nothing.
+fn spaces_of(text: &[u8]) -> &[u8]
+    ensures { list_all specs.is_space result.now ≡ true }
+{
+    if are_spaces(text) { text } else { b"" }
+}
+
+/// Returns the spaces and tabs that the line of a place begins with, if there is nothing else before it.
+pub(crate) fn indent_of(text: &[u8], spot: Spot, at: usize) -> &[u8]
+    ensures { list_all specs.is_space result.now ≡ true }
+{
+    if spot.is_first {
+        spaces_of(part(text, spot.line, at))
+    } else {
+        b""
+    }
+}
+
+/// Returns the spaces and tabs that the line of a place begins with.
+pub(crate) fn line_indent(text: &[u8], spot: Spot) -> &[u8]
+    ensures { list_all specs.is_space result.now ≡ true }
+{
+    let line = from(text, spot.line);
+    spaces_of(before(line, space_len(line)))
+}
+
+/// Returns whether a statement may end before this text.
+pub(crate) fn ends_statement(rest: &[u8]) -> bool {
+    let rest = from(rest, space_len(rest));
+    match rest.first() {
+        None => true,
+        Some(byte) => {
+            matches!(*byte, b'\n' | b';' | b'#' | b']' | b')' | b',') || rest.starts_with(b"dnl")
+        }
+    }
+}
+
+/// Returns the offset of the first byte of the last line.
+fn last_line(text: &[u8]) -> usize {
+    let len = text.iter().rev().take_while(|byte| **byte != b'\n').count();
+    text.len().saturating_sub(len)
+}
+
+/// Returns whether a line is blank or a comment.
+fn is_idle_line(line: &[u8]) -> bool {
+    let line = from(line, space_len(line));
+    line.is_empty() || line.starts_with(b"dnl ") || line.starts_with(b"#")
+}
+
+/// Returns the text before an offset without the blanks, the blank lines and the lines of comments at its end.
+pub(crate) fn before_idle(text: &[u8], at: usize) -> &[u8] {
+    let mut front = before(text, at);
+    for _ in 0..text.len() {
+        let start = last_line(front);
+        if start == 0 || !is_idle_line(from(front, start)) {
+            return without_end_blanks(front);
+        }
+        front = before(front, start - 1);
+    }
+    without_end_blanks(front)
+}
+
+/// Returns what is before a place: on its line, or, if nothing is there, on the lines before it that are no comments.
+fn text_before(text: &[u8], spot: Spot, at: usize) -> &[u8] {
+    if spot.is_first {
+        before_idle(text, spot.line)
+    } else {
+        part(text, spot.line, at)
+    }
+}
+
+/// Returns whether a text ends in `then` or `else`.
+fn ends_in_word(text: &[u8]) -> bool {
+    let is_word = text.ends_with(b"then") || text.ends_with(b"else");
+    let before = text.len().checked_sub(5).and_then(|at| text.get(at));
+    is_word && !before.is_some_and(|byte| !is_blank(*byte) && *byte != b';')
+}
+
+/// Returns whether a statement may begin at a place: an argument begins there, `then` or `else` is before it on its line, or nothing
+/// is, and no operator ends the line before.
+pub(crate) fn begins_statement(text: &[u8], spot: Spot, at: usize) -> bool {
+    let before = without_end_blanks(text_before(text, spot, at));
+    match before.last() {
+        None => true,
+        Some(_) if !spot.is_first && ends_in_word(before) => true,
+        Some(byte) => {
+            let is_joined = matches!(*byte, b'&' | b'|' | b'\\' | b'!');
+            matches!(*byte, b'[' | b'(' | b',') || spot.is_first && !is_joined
+        }
+    }
+}

@@ -1,0 +1,375 @@
+//! What the calls of a text become.
+
+ghost use Rattle.std.specs.Prelude.{◌≡◌, Some, [], length, map, IfOk, IfSome};
+ghost use Rattle.ac_calls.specs.Calls.{macro_call_of};
+ghost use Rattle.port_idioms.specs.Exact.{text_of};
+ghost use Rattle.port_idioms.specs.Rows.{Differs};
+ghost use Rattle.port_calls.specs.Put as specs;
+
+use crate::around::{
+    before_idle, begins_statement, ends_statement, indent_of, line_indent, space_len,
+};
+use crate::bare::bare_in;
+use crate::idioms::Idioms;
+use crate::noting::noted_text;
+use crate::spots::Spot;
+use ac_calls::{CallAt, Extent};
+use lint_macros::Index;
+use lint_text::{from, part};
+use port_idioms::{Exact, Other, exact_of, filled, other_of};
+use std::alloc::{AllocError, Global};
+
+/// What a part of the text is replaced by.
+#[derive(Drop)]
+pub(crate) struct Change {
+    pub start: usize,
+    pub end: usize,
+    pub put: Vec<u8>,
+}
+
+/// What is known of a text before its calls are gone over.
+#[derive(Drop)]
+pub(crate) struct Known {
+    index: Index,
+    /// Whether a call or the bracket that an argument begins with ends at each offset.
+    borders: Vec<bool>,
+    /// Whether each offset is in an argument that has no brackets around it.
+    bare: Vec<bool>,
+    /// Whether the source looks for a compiler itself. If not, a macro that is left out may have done so.
+    has_compiler: bool,
+}
+
+/// Marks an offset.
+fn mark(borders: &mut Vec<bool>, at: usize) {
+    if at < borders.len() {
+        borders[at] = true;
+    }
+}
+
+/// Marks the offsets at which the calls, and the brackets that their arguments begin with, end.
+fn mark_calls(borders: &mut Vec<bool>, calls: &[CallAt]) {
+    for call in calls {
+        mark(borders, call.end);
+        for arg in &call.args {
+            mark(borders, arg.start.saturating_add(1));
+        }
+    }
+}
+
+/// Returns what is known of a text with these calls.
+pub(crate) fn known_of(alloc: Global, text: &[u8], calls: &[CallAt]) -> Result<Known, AllocError> {
+    let index = Index::new(alloc)?;
+    let mut borders = vec![in alloc; false; text.len().saturating_add(1)]?;
+    mark_calls(&mut borders, calls);
+    let bare = bare_in(alloc, text, calls)?;
+    let has_compiler = calls.iter().any(|call| part(text, call.start, call.name_end)
+        == b"AC_PROG_CC".as_slice());
+    Ok(Known {
+        index,
+        borders,
+        bare,
+        has_compiler,
+    })
+}
+
+/// Returns the texts of the arguments. Empty parentheses have none.
+pub(crate) fn texts<'a>(
+    alloc: Global,
+    text: &'a [u8],
+    args: &[Extent],
+) -> Result<Vec<&'a [u8]>, AllocError>
+    ensures { IfOk result (λ v. map (λ a. a.now) v.items ≡ map (specs.arg_text text.now) args.now) }
+{
+    let mut out = Vec::new(alloc);
+    for arg in args {
+        out.push(part(text, arg.start, arg.end))?;
+    }
+    Ok(out)
+}
+
+/// Returns the name that the table has for a call: that of AC_OUTPUT with arguments says so.
+pub(crate) fn name_of<'a>(text: &'a [u8], call: &CallAt) -> &'a [u8]
+    ensures { result.now ≡ specs.row_name text.now (macro_call_of call.now) }
+{
+    if call.is_of_profile {
+        b"AC_OUTPUT(files)"
+    } else {
+        part(text, call.start, call.name_end)
+    }
+}
+
+/// Returns the change of a call to a text.
+fn change_to(call: &CallAt, put: Vec<u8>) -> Change
+    ensures { result.put.items ≡ put.items }
+{
+    Change {
+        start: call.start,
+        end: call.end,
+        put,
+    }
+}
+
+/// Returns an idiom with the arguments of a call, unless an argument can't be put into it.
+fn idiom_text(
+    alloc: Global,
+    text: &[u8],
+    spot: Spot,
+    call: &CallAt,
+    idiom: &[u8],
+) -> Result<Option<Vec<u8>>, AllocError>
+    requires idiom { specs.put_for text.now (macro_call_of call.now) ≡ Some idiom.now }
+    ensures { IfOk result (λ o. IfSome o (λ v. specs.IsPut text.now (macro_call_of call.now) v.items)) }
+{
+    let args = texts(alloc, text, call.args.as_slice())?;
+    let indent = indent_of(text, spot, call.start);
+    filled(alloc, idiom, args.as_slice(), indent)
+}
+
+/// Returns the change of a call to an idiom, unless an argument can't be put into it.
+fn to_idiom(
+    alloc: Global,
+    text: &[u8],
+    spot: Spot,
+    call: &CallAt,
+    idiom: &[u8],
+) -> Result<Option<Change>, AllocError>
+    requires idiom { specs.put_for text.now (macro_call_of call.now) ≡ Some idiom.now }
+    ensures { IfOk result (λ o. IfSome o (λ change. specs.IsPut text.now (macro_call_of call.now) change.put.items)) }
+{
+    match idiom_text(alloc, text, spot, call, idiom)? {
+        Some(put) => Ok(Some(change_to(call, put))),
+        None => Ok(None),
+    }
+}
+
+/// Returns the change of a call to a text.
+fn to_text(alloc: Global, call: &CallAt, text: &[u8]) -> Result<Change, AllocError>
+    ensures { IfOk result (λ change. change.put.items ≡ text.now) }
+{
+    let put = Vec::from_slice(alloc, text)?;
+    Ok(change_to(call, put))
+}
+
+/// Returns whether nothing but a comment follows on the line.
+fn is_last(rest: &[u8]) -> bool {
+    rest.is_empty() || rest.starts_with(b"#") || rest.starts_with(b"dnl")
+}
+
+/// Returns the change of a call that can be left out: with its line if nothing else is on it, and otherwise to `:` if anything but a
+/// comment follows.
+fn without_call(alloc: Global, text: &[u8], spot: Spot, call: &CallAt) -> Result<Change, AllocError>
+    ensures { IfOk result (λ change. specs.DoesNothing change.put.items) }
+{
+    let blanks = space_len(from(text, call.end));
+    let after = call.end.saturating_add(blanks);
+    if text.get(after) == Some(&b'\n') {
+        return Ok(Change {
+            start: spot.line,
+            end: after.saturating_add(1),
+            put: Vec::new(alloc),
+        });
+    }
+    if is_last(from(text, after)) {
+        to_text(alloc, call, b"")
+    } else {
+        to_text(alloc, call, b":")
+    }
+}
+
+/// Returns whether what ends at this offset is a call, or the bracket that an argument begins with.
+fn is_border(known: &Known, at: usize) -> bool {
+    known.borders.get(at) == Some(&true)
+}
+
+/// Returns whether a call can be left out so that no list of commands of a shell becomes empty: a call or the start of an argument is
+/// before it, apart from comments.
+fn can_be_left_out(known: &Known, text: &[u8], spot: Spot) -> bool {
+    spot.is_first && is_border(known, before_idle(text, spot.line).len())
+}
+
+/// Returns the change of a call to nothing, or to `:` if a list of commands may become empty.
+fn to_nothing(
+    alloc: Global,
+    known: &Known,
+    text: &[u8],
+    spot: Spot,
+    call: &CallAt,
+) -> Result<Change, AllocError>
+    ensures { IfOk result (λ change. specs.DoesNothing change.put.items) }
+{
+    if can_be_left_out(known, text, spot) {
+        without_call(alloc, text, spot, call)
+    } else {
+        to_text(alloc, call, b":")
+    }
+}
+
+/// Returns whether the idiom of a call does the same at its place.
+fn is_same_here(text: &[u8], spot: Spot, call: &CallAt) -> bool {
+    let is_once = part(text, call.start, call.name_end).ends_with(b"_ONCE");
+    begins_statement(text, spot, call.start)
+        && ends_statement(from(text, call.end))
+        && (!is_once || spot.is_at_top)
+}
+
+/// Returns the change of a call to nothing, unless the source doesn't look for a compiler.
+fn left_out(
+    alloc: Global,
+    known: &Known,
+    text: &[u8],
+    spot: Spot,
+    call: &CallAt,
+) -> Result<Option<Change>, AllocError>
+    requires dropped { specs.put_for text.now (macro_call_of call.now) ≡ Some [] }
+    ensures { IfOk result (λ o. IfSome o (λ change. specs.IsPut text.now (macro_call_of call.now) change.put.items)) }
+{
+    if !known.has_compiler {
+        return Ok(None);
+    }
+    let change = to_nothing(alloc, known, text, spot, call)?;
+    Ok(Some(change))
+}
+
+/// Returns what a call is replaced by, if there is something exact.
+#[tactic(auto, unfolding(crate::specs::Put::put_for))]
+fn exact_for(
+    alloc: Global,
+    known: &Known,
+    text: &[u8],
+    call: &CallAt,
+) -> Result<Option<Exact>, AllocError>
+    ensures put { IfOk result (λ o. IfSome o (λ e. specs.put_for text.now (macro_call_of call.now) ≡ Some (text_of e))) }
+    ensures exact { IfOk result (λ o. IfSome o (λ e. specs.IsExactFor text.now (macro_call_of call.now))) }
+{
+    exact_of(alloc, &known.index, name_of(text, call), call.args.len())
+}
+
+/// Returns the change of a call that has to go to this text or nothing.
+fn to_exact(
+    alloc: Global,
+    known: &Known,
+    text: &[u8],
+    spot: Spot,
+    call: &CallAt,
+    exact: Exact,
+) -> Result<Option<Change>, AllocError>
+    requires put { specs.put_for text.now (macro_call_of call.now) ≡ Some (text_of exact) }
+    ensures { IfOk result (λ o. IfSome o (λ change. specs.IsPut text.now (macro_call_of call.now) change.put.items)) }
+{
+    match exact {
+        Exact::Nothing => left_out(alloc, known, text, spot, call),
+        Exact::Idiom(idiom) => to_idiom(alloc, text, spot, call, idiom),
+    }
+}
+
+/// Returns the change of a call that has to go, if it has an exact idiom.
+#[tactic(auto, using(crate::proofs::Puts::exactly))]
+fn exact_change(
+    alloc: Global,
+    known: &Known,
+    text: &[u8],
+    spot: Spot,
+    call: &CallAt,
+) -> Result<Option<Change>, AllocError>
+    ensures { IfOk result (λ o. IfSome o (λ change. specs.IsPut text.now (macro_call_of call.now) change.put.items × specs.IsExactFor text.now (macro_call_of call.now))) }
+{
+    match exact_for(alloc, known, text, call)? {
+        Some(exact) => to_exact(alloc, known, text, spot, call, exact),
+        None => Ok(None),
+    }
+}
+
+/// Returns the idiom of a call that differs from the macro, if it has one.
+#[tactic(auto, unfolding(crate::specs::Put::put_for))]
+fn other_for(
+    alloc: Global,
+    known: &Known,
+    text: &[u8],
+    call: &CallAt,
+) -> Result<Option<Other>, AllocError>
+    ensures put { IfOk result (λ o. IfSome o (λ e. specs.put_for text.now (macro_call_of call.now) ≡ Some e.idiom.now)) }
+    ensures said { IfOk result (λ o. IfSome o (λ e. Differs (specs.row_name text.now (macro_call_of call.now)) (length (macro_call_of call.now).args) e.said.now)) }
+{
+    other_of(alloc, &known.index, name_of(text, call), call.args.len())
+}
+
+/// Returns whether a comment can be right before a call that begins a statement: the call is in no argument without brackets, of which
+/// the comment would be a part.
+fn can_be_noted(known: &Known, call: &CallAt) -> bool {
+    known.bare.get(call.start) == Some(&false)
+}
+
+/// Returns the change of a call to a text below a comment.
+fn to_noted(
+    alloc: Global,
+    text: &[u8],
+    spot: Spot,
+    call: &CallAt,
+    other: &Other,
+) -> Result<Option<Change>, AllocError>
+    requires idiom { specs.put_for text.now (macro_call_of call.now) ≡ Some other.now.idiom.now }
+    requires said { Differs (specs.row_name text.now (macro_call_of call.now)) (length (macro_call_of call.now).args) other.now.said.now }
+    ensures { IfOk result (λ o. IfSome o (λ change. specs.IsNoted text.now (macro_call_of call.now) change.put.items)) }
+{
+    match noted_text(alloc, text, line_indent(text, spot), call, other)? {
+        Some(put) => Ok(Some(change_to(call, put))),
+        None => Ok(None),
+    }
+}
+
+/// Returns the change of a call that has to go to an idiom that differs from the macro, below a comment, if it has one.
+fn noted_change(
+    alloc: Global,
+    known: &Known,
+    text: &[u8],
+    spot: Spot,
+    call: &CallAt,
+) -> Result<Option<Change>, AllocError>
+    ensures { IfOk result (λ o. IfSome o (λ change. specs.IsNoted text.now (macro_call_of call.now) change.put.items)) }
+{
+    if !can_be_noted(known, call) {
+        return Ok(None);
+    }
+    match other_for(alloc, known, text, call)? {
+        Some(other) => to_noted(alloc, text, spot, call, &other),
+        None => Ok(None),
+    }
+}
+
+/// Returns the change of a call that has to go and has no exact idiom, if it has an idiom that is wanted.
+fn other_change(
+    alloc: Global,
+    idioms: Idioms,
+    known: &Known,
+    text: &[u8],
+    spot: Spot,
+    call: &CallAt,
+) -> Result<Option<Change>, AllocError>
+    ensures { IfOk result (λ o. IfSome o (λ change. specs.MayPut idioms text.now (macro_call_of call.now) change.put.items)) }
+{
+    match idioms {
+        Idioms::Exact => Ok(None),
+        Idioms::All => noted_change(alloc, known, text, spot, call),
+    }
+}
+
+/// Returns the change of a call that has to go, if it has an idiom that is wanted.
+#[tactic(auto, using(crate::proofs::Puts::exact_may))]
+pub(crate) fn change_of(
+    alloc: Global,
+    idioms: Idioms,
+    known: &Known,
+    text: &[u8],
+    spot: Spot,
+    call: &CallAt,
+) -> Result<Option<Change>, AllocError>
+    ensures { IfOk result (λ o. IfSome o (λ change. specs.MayPut idioms text.now (macro_call_of call.now) change.put.items)) }
+{
+    if !is_same_here(text, spot, call) {
+        return Ok(None);
+    }
+    match exact_change(alloc, known, text, spot, call)? {
+        Some(change) => Ok(Some(change)),
+        None => other_change(alloc, idioms, known, text, spot, call),
+    }
+}

@@ -1,0 +1,183 @@
+//! Idioms that differ from their macros, each below a comment that says in what.
+
+ghost use Rattle.std.specs.Prelude.{◌≡◌, ◌∷◌, ◌++◌, Some, true, length, map, bytes_eq, codes, IfOk, IfSome, IsTrue, OnOk};
+ghost use Rattle.std.specs.List.{flat_map, list_all};
+ghost use Rattle.ac_calls.specs.Calls.{macro_call_of};
+ghost use Rattle.port_idioms.specs.Rows.{Differs};
+ghost use Rattle.port_calls.specs.Put as specs;
+
+use crate::changes::{name_of, texts};
+use ac_calls::CallAt;
+use port_idioms::{Other, filled, text_of};
+use std::alloc::{AllocError, Global};
+use text_cut::parts;
+
+/// What the comment above an idiom begins with.
+const FRONT: &[u8] = b"dnl acrun: in place of ";
+
+/// Returns whether the macro takes a list of names as its first argument.
+fn takes_list(name: &[u8]) -> bool
+    ensures { result ≡ specs.takes_list name.now }
+{
+    name == b"AC_CHECK_MEMBERS".as_slice()
+}
+
+/// Returns the comment above the idiom of a macro of this name.
+#[tactic(auto, unfolding(crate::specs::Put::difference))]
+fn difference(alloc: Global, name: &[u8], said: &[u8]) -> Result<Vec<u8>, AllocError>
+    ensures { IfOk result (λ v. v.items ≡ specs.difference name.now said.now) }
+{
+    let mut out = Vec::from_slice(alloc, FRONT)?;
+    out.extend_from_slice(name)?;
+    out.push(b':')?;
+    out.extend_from_slice(said)?;
+    Ok(out)
+}
+
+/// Appends a newline, the indent and a text.
+fn put_text(out: &mut Vec<u8>, indent: &[u8], text: &[u8]) -> Result<(), AllocError>
+    ensures { OnOk result (out.new.items ≡ out.old.items ++ (10 ∷ indent.now ++ text.now)) }
+{
+    out.push(b'\n')?;
+    out.extend_from_slice(indent)?;
+    out.extend_from_slice(text)
+}
+
+/// Appends an idiom with these arguments, after a newline and the indent. Returns whether each argument could be put there.
+fn put_idiom(
+    alloc: Global,
+    out: &mut Vec<u8>,
+    idiom: &[u8],
+    args: &[&[u8]],
+    indent: &[u8],
+) -> Result<bool, AllocError>
+    ensures { IfOk result (λ b. IsTrue b → out.new.items ≡ out.old.items ++ specs.below indent.now idiom.now (map (λ a. a.now) args.now)) }
+{
+    match filled(alloc, idiom, args, indent)? {
+        Some(text) => {
+            put_text(out, indent, text.as_slice())?;
+            Ok(true)
+        }
+        None => Ok(false),
+    }
+}
+
+/// Returns the arguments of the call with one name.
+fn with_name<'a>(
+    alloc: Global,
+    name: &'a [u8],
+    more: &[&'a [u8]],
+) -> Result<Vec<&'a [u8]>, AllocError>
+    ensures { IfOk result (λ v. map (λ a. a.now) v.items ≡ name.now ∷ map (λ a. a.now) more.now) }
+{
+    let mut out = Vec::new(alloc);
+    out.push(name)?;
+    out.extend_from_slice(more)?;
+    Ok(out)
+}
+
+/// Appends an idiom with one name, after a newline and the indent. Returns whether each argument could be put there.
+fn put_named(
+    alloc: Global,
+    out: &mut Vec<u8>,
+    idiom: &[u8],
+    name: &[u8],
+    more: &[&[u8]],
+    indent: &[u8],
+) -> Result<bool, AllocError>
+    ensures { IfOk result (λ b. IsTrue b → out.new.items ≡ out.old.items ++ specs.below indent.now idiom.now (name.now ∷ map (λ a. a.now) more.now)) }
+{
+    let args = with_name(alloc, name, more)?;
+    put_idiom(alloc, out, idiom, args.as_slice(), indent)
+}
+
+/// Appends an idiom with each of the names, after a newline and the indent. Returns whether each argument could be put there.
+fn put_each(
+    alloc: Global,
+    out: &mut Vec<u8>,
+    idiom: &[u8],
+    names: &[&[u8]],
+    more: &[&[u8]],
+    indent: &[u8],
+) -> Result<bool, AllocError>
+    ensures { IfOk result (λ b. IsTrue b → out.new.items ≡ out.old.items ++ flat_map (specs.below indent.now idiom.now) (map (λ name. name ∷ map (λ a. a.now) more.now) (map (λ n. n.now) names.now))) }
+{
+    for name in names {
+        if !put_named(alloc, out, idiom, name, more, indent)? {
+            return Ok(false);
+        }
+    }
+    Ok(true)
+}
+
+/// Appends an idiom with each name of a list, after a newline and the indent. Returns whether each argument could be put there.
+fn put_list(
+    alloc: Global,
+    out: &mut Vec<u8>,
+    idiom: &[u8],
+    list: &[u8],
+    more: &[&[u8]],
+    indent: &[u8],
+) -> Result<bool, AllocError>
+    ensures { IfOk result (λ b. IsTrue b → out.new.items ≡ out.old.items ++ flat_map (specs.below indent.now idiom.now) (specs.each_of (list.now ∷ map (λ a. a.now) more.now))) }
+{
+    let Some(list) = text_of(list) else {
+        return Ok(false);
+    };
+    let names = parts(alloc, list, b',')?;
+    put_each(alloc, out, idiom, names.as_slice(), more, indent)
+}
+
+/// Appends an idiom, once or with each name of a list, each time after a newline and the indent. Returns whether each argument could be
+/// put there.
+#[tactic(auto, using(crate::proofs::Differing::once))]
+fn put_all(
+    alloc: Global,
+    out: &mut Vec<u8>,
+    idiom: &[u8],
+    is_list: bool,
+    args: &[&[u8]],
+    indent: &[u8],
+) -> Result<bool, AllocError>
+    ensures { IfOk result (λ b. IsTrue b → out.new.items ≡ out.old.items ++ flat_map (specs.below indent.now idiom.now) (specs.written_with is_list (map (λ a. a.now) args.now))) }
+{
+    if !is_list {
+        return put_idiom(alloc, out, idiom, args, indent);
+    }
+    match args.split_first() {
+        Some((list, more)) => put_list(alloc, out, idiom, list, more, indent),
+        None => Ok(true),
+    }
+}
+
+/// Returns an idiom with the arguments of a call, below the comment that says in what it differs from the macro, unless an argument
+/// can't be put into it.
+pub(crate) fn noted_text(
+    alloc: Global,
+    text: &[u8],
+    indent: &[u8],
+    call: &CallAt,
+    other: &Other,
+) -> Result<Option<Vec<u8>>, AllocError>
+    requires idiom { specs.put_for text.now (macro_call_of call.now) ≡ Some other.now.idiom.now }
+    requires said { Differs (specs.row_name text.now (macro_call_of call.now)) (length (macro_call_of call.now).args) other.now.said.now }
+    requires indent { list_all specs.is_space indent.now ≡ true }
+    ensures { IfOk result (λ o. IfSome o (λ v. specs.IsNoted text.now (macro_call_of call.now) v.items)) }
+{
+    let args = texts(alloc, text, call.args.as_slice())?;
+    let name = name_of(text, call);
+    let is_list = takes_list(name);
+    let mut out = difference(alloc, name, other.said)?;
+    if put_all(
+        alloc,
+        &mut out,
+        other.idiom,
+        is_list,
+        args.as_slice(),
+        indent,
+    )? {
+        Ok(Some(out))
+    } else {
+        Ok(None)
+    }
+}

@@ -1,0 +1,64 @@
+-- What ends a part of a compound statement of a shell. The offsets are those of the text.
+use Rattle.std.specs.Prelude.{◌≡◌, ◌⊎◌, ℕ, ◌-◌, ◌+◌, ◌<◌, ◌≤◌, ◌==◌, Bool, false, List, [], ◌∷◌, slice_range, slice_index, codes}
+use Rattle.std.specs.List.{list_any}
+use Rattle.m4quote.specs.Entry.{bare}
+use Rattle.m4quote.specs.Spelling.{IsSpelling}
+use Rattle.port_compounds.specs.Places.{AreBlank, AreSpaces, IsWord, BeginsStatement, EndsStatement}
+
+-- A `#`, which may begin a comment. (own)
+abbrev pub is_hash : ℕ → Bool
+is_hash b = b == 35
+
+-- The text has no `#`. (own)
+abbrev pub HasNoHash : List ℕ → Type 0
+HasNoHash text = list_any is_hash text ≡ false
+
+-- The byte is a newline. (own)
+abbrev pub is_newline : ℕ → Bool
+is_newline b = b == 10
+
+-- The text has `dnl` at some place. (own)
+abbrev pub HasDnl : List ℕ → Type 0
+HasDnl text = (at : ℕ) × (slice_range text at (at + 3) ≡ codes "dnl")
+
+-- Between these offsets are spaces, a `;` or a newline, and blanks: the end of a list of commands. (POSIX shell, 2.9.3)
+pub record IsListEnd (text : List ℕ) (start end : ℕ) : Type 0 where
+  pub at : ℕ
+  pub order : (start ≤ at) × (at < end)
+  pub spaces : AreSpaces text start at
+  pub is : (slice_index text at ≡ 59) ⊎ (slice_index text at ≡ 10)
+  pub blanks : AreBlank text (at + 1) end
+
+-- Between these offsets are spaces, a `;`, and spaces. (POSIX shell, 2.9.3)
+pub record IsSemicolon (text : List ℕ) (start end : ℕ) : Type 0 where
+  pub at : ℕ
+  pub order : (start ≤ at) × (at < end)
+  pub before : AreSpaces text start at
+  pub is : slice_index text at ≡ 59
+  pub after : AreSpaces text (at + 1) end
+
+-- The last line of the text before `end` has nothing but spaces, and no backslash joins it to the line before. (POSIX shell, 2.2.1)
+pub record IsAtLineStart (text : List ℕ) (start end : ℕ) : Type 0 where
+  pub newline : ℕ
+  pub order : (start ≤ newline) × (newline < end)
+  pub is : slice_index text newline ≡ 10
+  pub not_joined : slice_index text (newline - 1) ≡ 92 → ⊥
+  pub spaces : AreSpaces text (newline + 1) end
+
+-- A `;` is after a body, which has neither a `#` nor `dnl`. (POSIX shell, 2.9.3)
+pub record IsBeforeSemicolon (text : List ℕ) (from to end : ℕ) : Type 0 where
+  pub after : IsSemicolon text to end
+  pub no_comment : HasNoHash (slice_range text from to)
+  pub no_dnl : HasDnl (slice_range text from to) → ⊥
+
+-- The text is on one line, and has no `#`. m4 finds neither a macro nor `dnl` in it. (own)
+pub record IsPlainLine (part : List ℕ) : Type 0 where
+  pub one_line : list_any is_newline part ≡ false
+  pub no_comment : HasNoHash part
+  pub plain : IsSpelling 0 part (bare part 0 ∷ [])
+
+-- From `start` to `end` a statement of its own may be, which ends in this word.
+pub record IsStatement (text : List ℕ) (start : ℕ) (last : List ℕ) (at end : ℕ) : Type 0 where
+  pub word : IsWord text at last end
+  pub begins : BeginsStatement text start
+  pub ends : EndsStatement text end

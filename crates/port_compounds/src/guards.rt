@@ -1,0 +1,265 @@
+//! The parts of a statement that a condition guards.
+
+ghost use Rattle.std.specs.Prelude.{◌≡◌, ◌⊎◌, [], map, length, codes, IfOk, IfSome, IsTrue};
+ghost use Rattle.std.specs.List.{list_any};
+ghost use Rattle.m4quote.specs.Entry.{view, views};
+ghost use Rattle.port_compounds.specs.Places.{BeginsStatement, EndsStatement};
+ghost use Rattle.port_compounds.specs.Guards as specs;
+
+use crate::cut::GuardCut;
+use crate::parts::{after_blanks, is_plain_line};
+use crate::places::{
+    are_blank, are_spaces, before_spaces, begins_statement, ends_statement, is_word,
+};
+use m4quote::{Item, QuoteFault, read_items};
+use std::alloc::{AllocError, Global};
+
+/// Returns whether the byte ends a command, or joins it to the next.
+fn is_separator(byte: u8) -> bool
+    ensures { result ≡ specs.is_separator byte }
+{
+    byte == b';' || byte == b'&' || byte == b'|'
+}
+
+/// Returns whether the text has a byte that ends a command.
+fn has_separator(text: &[u8]) -> bool
+    ensures { result ≡ list_any specs.is_separator text.now }
+{
+    text.iter().any(|byte| is_separator(*byte))
+}
+
+/// Returns whether the macro defines something.
+fn is_definition(name: &[u8]) -> bool
+    ensures { IsTrue result → specs.IsDefinition name.now }
+{
+    name == b"AC_DEFINE".as_slice() || name == b"AC_DEFINE_UNQUOTED".as_slice()
+}
+
+/// Returns whether the macro prints a message.
+fn is_message(name: &[u8]) -> bool
+    ensures { IsTrue result → specs.IsMessage name.now }
+{
+    name == b"AC_MSG_CHECKING".as_slice()
+        || name == b"AC_MSG_RESULT".as_slice()
+        || name == b"AC_MSG_NOTICE".as_slice()
+        || name == b"AC_MSG_WARN".as_slice()
+        || name == b"AC_MSG_ERROR".as_slice()
+}
+
+/// Returns whether the macro is one whose call is one command of a shell.
+fn is_one(name: &[u8]) -> bool
+    ensures { IsTrue result → specs.IsDefinition name.now ⊎ specs.IsMessage name.now }
+{
+    is_definition(name) || is_message(name)
+}
+
+/// Returns whether the item is a call of such a macro, at the start of its text.
+fn is_command(item: &Item<'_>) -> bool
+    ensures { IsTrue result → specs.IsCommandItem (view item.now) }
+{
+    match item {
+        Item::Bare { .. } => false,
+        Item::Call { name, at, .. } => *at == 0 && is_one(name),
+    }
+}
+
+/// Returns whether the only item is a call of such a macro.
+fn are_command(items: &[Item<'_>]) -> bool
+    ensures { IsTrue result → specs.AreOneCommand (views items.now) }
+{
+    items.len() == 1 && is_command(&items[0])
+}
+
+/// Returns whether a text is one call of such a macro.
+fn is_call(alloc: Global, text: &[u8]) -> Result<bool, AllocError>
+    ensures { IfOk result (λ b. IsTrue b → specs.IsOneCommand text.now) }
+{
+    match read_items(alloc, text) {
+        Ok(items) => Ok(are_command(items.as_slice())),
+        Err(QuoteFault::OutOfMemory) => Err(AllocError),
+        Err(_) => Ok(false),
+    }
+}
+
+/// Returns whether a text is the words of one command, on one line.
+fn is_words(alloc: Global, text: &[u8]) -> Result<bool, AllocError>
+    ensures { IfOk result (λ b. IsTrue b → specs.IsOneCommand text.now) }
+{
+    if has_separator(text) {
+        return Ok(false);
+    }
+    is_plain_line(alloc, text)
+}
+
+/// Returns whether a text is one command.
+fn is_one_command(alloc: Global, text: &[u8]) -> Result<bool, AllocError>
+    ensures { IfOk result (λ b. IsTrue b → specs.IsOneCommand text.now) }
+{
+    if is_words(alloc, text)? {
+        return Ok(true);
+    }
+    is_call(alloc, text)
+}
+
+/// Returns whether spaces alone are between two offsets that are after another one.
+fn is_before_joint(text: &[u8], start: usize, to: usize, end: usize) -> bool
+    ensures { IsTrue result → specs.IsPlaceBefore text.now start to end }
+{
+    start <= to && to <= end && end <= text.len() && are_spaces(&text[to..end])
+}
+
+/// Returns the condition between two offsets, if there is one.
+fn condition_before<'a>(
+    alloc: Global,
+    text: &'a [u8],
+    start: usize,
+    end: usize,
+) -> Result<Option<&'a [u8]>, AllocError>
+    ensures { IfOk result (λ o. IfSome o (λ c. specs.IsConditionBefore text.now start end c.now)) }
+{
+    let to = before_spaces(text, start, end);
+    if !is_before_joint(text, start, to, end) {
+        return Ok(None);
+    }
+    let found = &text[start..to];
+    if is_plain_line(alloc, found)? {
+        Ok(Some(found))
+    } else {
+        Ok(None)
+    }
+}
+
+/// Returns whether blanks alone are between two offsets that are before another one.
+fn is_after_joint(text: &[u8], start: usize, from: usize, end: usize) -> bool
+    ensures { IsTrue result → specs.IsPlaceAfter text.now start from end }
+{
+    start <= from && from <= end && end <= text.len() && are_blank(&text[start..from])
+}
+
+/// Returns the statement between two offsets, if there is one.
+fn statement_after<'a>(
+    alloc: Global,
+    text: &'a [u8],
+    start: usize,
+    end: usize,
+) -> Result<Option<&'a [u8]>, AllocError>
+    ensures { IfOk result (λ o. IfSome o (λ s. specs.IsStatementAfter text.now start end s.now)) }
+{
+    let from = after_blanks(text, start);
+    if !is_after_joint(text, start, from, end) {
+        return Ok(None);
+    }
+    let found = &text[from..end];
+    if is_one_command(alloc, found)? {
+        Ok(Some(found))
+    } else {
+        Ok(None)
+    }
+}
+
+/// Appends the parts of a statement after `&&`. Returns whether it has them.
+fn push_and<'a>(
+    alloc: Global,
+    text: &'a [u8],
+    cut: GuardCut,
+    out: &mut Vec<&'a [u8]>,
+) -> Result<bool, AllocError>
+    requires { out.old.items ≡ [] }
+    ensures { IfOk result (λ b. IsTrue b → specs.AreGuardParts text.now cut.start cut.end (map (λ p. p.now) out.new.items)) }
+{
+    let after = cut.at_joint.saturating_add(2);
+    if !is_word(text, cut.at_joint, b"&&", after) {
+        return Ok(false);
+    }
+    let Some(test) = condition_before(alloc, text, cut.start, cut.at_joint)? else {
+        return Ok(false);
+    };
+    let Some(done) = statement_after(alloc, text, after, cut.end)? else {
+        return Ok(false);
+    };
+    out.push(test)?;
+    out.push(done)?;
+    Ok(true)
+}
+
+/// Returns a text of no bytes.
+fn nothing(text: &[u8]) -> &[u8]
+    ensures { result.now ≡ [] }
+{
+    &text[..0]
+}
+
+/// Appends the parts of a statement after `||`. Returns whether it has them.
+fn push_or<'a>(
+    alloc: Global,
+    text: &'a [u8],
+    cut: GuardCut,
+    out: &mut Vec<&'a [u8]>,
+) -> Result<bool, AllocError>
+    requires { out.old.items ≡ [] }
+    ensures { IfOk result (λ b. IsTrue b → specs.AreGuardParts text.now cut.start cut.end (map (λ p. p.now) out.new.items)) }
+{
+    let after = cut.at_joint.saturating_add(2);
+    if !is_word(text, cut.at_joint, b"||", after) {
+        return Ok(false);
+    }
+    let Some(test) = condition_before(alloc, text, cut.start, cut.at_joint)? else {
+        return Ok(false);
+    };
+    let Some(done) = statement_after(alloc, text, after, cut.end)? else {
+        return Ok(false);
+    };
+    out.push(test)?;
+    out.push(nothing(text))?;
+    out.push(done)?;
+    Ok(true)
+}
+
+/// Appends the parts of a statement that a condition guards. Returns whether it has them.
+fn push_parts<'a>(
+    alloc: Global,
+    text: &'a [u8],
+    cut: GuardCut,
+    out: &mut Vec<&'a [u8]>,
+) -> Result<bool, AllocError>
+    requires { out.old.items ≡ [] }
+    ensures { IfOk result (λ b. IsTrue b → specs.AreGuardParts text.now cut.start cut.end (map (λ p. p.now) out.new.items)) }
+{
+    if text.get(cut.at_joint) == Some(&b'&') {
+        push_and(alloc, text, cut, out)
+    } else {
+        push_or(alloc, text, cut, out)
+    }
+}
+
+/// Returns whether a statement of its own may be between two offsets.
+fn is_own(text: &[u8], start: usize, end: usize) -> bool
+    ensures { IsTrue result → BeginsStatement text.now start × EndsStatement text.now end }
+{
+    begins_statement(text, start) && ends_statement(text, end)
+}
+
+/// Returns the parts of a statement that a condition guards, as AS_IF takes them: the condition and the statement after `&&`, or the
+/// condition, nothing, and the statement after `||`. The statement is one command: words such as assignments, a definition or a message.
+/// If the offsets are not those of such a list that is a statement of its own, returns `None`.
+///
+/// # Errors
+///
+/// Fails only if memory runs out.
+pub fn guard_parts<'a>(
+    alloc: Global,
+    text: &'a [u8],
+    cut: GuardCut,
+) -> Result<Option<Vec<&'a [u8]>>, AllocError>
+    ensures { IfOk result (λ o. IfSome o (λ v. specs.IsGuarded text.now cut.start cut.end (map (λ p. p.now) v.items))) }
+{
+    if !is_own(text, cut.start, cut.end) {
+        return Ok(None);
+    }
+    let mut out = Vec::new(alloc);
+    if push_parts(alloc, text, cut, &mut out)? {
+        Ok(Some(out))
+    } else {
+        Ok(None)
+    }
+}

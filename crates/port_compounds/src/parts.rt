@@ -1,0 +1,258 @@
+//! The parts of a statement: conditions and bodies.
+
+ghost use Rattle.std.specs.Prelude.{◌≡◌, ◌≤◌, ◌+◌, [], ◌∷◌, length, IfOk, IfSome, IsTrue, false, slice_range, codes};
+ghost use Rattle.std.specs.List.{list_any};
+ghost use Rattle.m4quote.specs.Entry.{bare, view, views};
+ghost use Rattle.m4quote.specs.Spelling.{IsSpelling};
+ghost use Rattle.port_compounds.specs.Ifs as ifs;
+ghost use Rattle.port_compounds.specs.Parts as specs;
+
+use crate::places::{after_spaces, are_blank, are_spaces, before_spaces, is_blank};
+use m4quote::{Item, QuoteFault, read_items};
+use std::alloc::{AllocError, Global};
+
+/// Returns whether the text has a `#`.
+pub(crate) fn has_hash(text: &[u8]) -> bool
+    ensures { result ≡ list_any specs.is_hash text.now }
+{
+    text.iter().any(|byte| *byte == b'#')
+}
+
+/// Returns whether the text has a newline.
+fn has_newline(text: &[u8]) -> bool
+    ensures { result ≡ list_any specs.is_newline text.now }
+{
+    text.iter().any(|byte| *byte == b'\n')
+}
+
+/// Returns whether an offset between two others is that of a `;` or a newline, with spaces before it and blanks after it.
+fn is_list_end_at(text: &[u8], start: usize, at: usize, end: usize) -> bool
+    ensures { IsTrue result → specs.IsListEnd text.now start end }
+{
+    start <= at
+        && at < end
+        && end <= text.len()
+        && are_spaces(&text[start..at])
+        && (text[at] == b';' || text[at] == b'\n')
+        && are_blank(&text[at + 1..end])
+}
+
+/// Returns whether the end of a list of commands is between two offsets.
+fn is_list_end(text: &[u8], start: usize, end: usize) -> bool
+    ensures { IsTrue result → specs.IsListEnd text.now start end }
+{
+    is_list_end_at(text, start, after_spaces(text, start), end)
+}
+
+/// Returns whether an offset between two others is that of a `;` with spaces around it.
+fn is_semicolon_at(text: &[u8], start: usize, at: usize, end: usize) -> bool
+    ensures { IsTrue result → specs.IsSemicolon text.now start end }
+{
+    start <= at
+        && at < end
+        && end <= text.len()
+        && are_spaces(&text[start..at])
+        && text[at] == b';'
+        && are_spaces(&text[at + 1..end])
+}
+
+/// Returns whether a `;` with spaces around it is between two offsets.
+fn is_semicolon(text: &[u8], start: usize, end: usize) -> bool
+    ensures { IsTrue result → specs.IsSemicolon text.now start end }
+{
+    is_semicolon_at(text, start, after_spaces(text, start), end)
+}
+
+/// Returns whether the item is this text.
+fn is_bare(item: &Item<'_>, text: &[u8]) -> bool
+    ensures { IsTrue result → view item.now ≡ bare text.now 0 }
+{
+    match item {
+        Item::Bare { text: found, at } => *at == 0 && *found == text,
+        Item::Call { .. } => false,
+    }
+}
+
+/// Returns whether m4 finds neither a macro nor `dnl` in a text.
+fn is_plain(alloc: Global, text: &[u8]) -> Result<bool, AllocError>
+    ensures { IfOk result (λ b. IsTrue b → IsSpelling 0 text.now (bare text.now 0 ∷ [])) }
+{
+    match read_items(alloc, text) {
+        Ok(items) => Ok(are_bare(items.as_slice(), text)),
+        Err(QuoteFault::OutOfMemory) => Err(AllocError),
+        Err(_) => Ok(false),
+    }
+}
+
+/// Returns whether the only item is this text.
+fn are_bare(items: &[Item<'_>], text: &[u8]) -> bool
+    ensures { IsTrue result → views items.now ≡ bare text.now 0 ∷ [] }
+{
+    items.len() == 1 && is_bare(&items[0], text)
+}
+
+/// Returns whether the text is on one line and has no `#`, and m4 finds neither a macro nor `dnl` in it.
+pub(crate) fn is_plain_line(alloc: Global, text: &[u8]) -> Result<bool, AllocError>
+    ensures { IfOk result (λ b. IsTrue b → specs.IsPlainLine text.now) }
+{
+    if has_newline(text) || has_hash(text) {
+        return Ok(false);
+    }
+    is_plain(alloc, text)
+}
+
+/// Returns whether between two offsets, which are within two others, is a condition, apart from what m4 finds in it.
+fn is_condition(text: &[u8], start: usize, end: usize, from: usize, to: usize) -> bool
+    ensures { IsTrue result → ifs.IsConditionAt text.now start end from to × (end ≤ length text.now) }
+{
+    start < from
+        && from <= to
+        && to <= end
+        && end <= text.len()
+        && are_blank(&text[start..from])
+        && is_list_end(text, to, end)
+        && !has_newline(&text[from..to])
+        && !has_hash(&text[from..to])
+}
+
+/// Returns the offset after the blanks at an offset.
+pub(crate) fn after_blanks(text: &[u8], at: usize) -> usize {
+    for i in at..text.len() {
+        if !is_blank(text[i]) {
+            return i;
+        }
+    }
+    text.len().max(at)
+}
+
+/// Returns the offset of the blanks before an offset, but none before `start`.
+pub(crate) fn before_blanks(text: &[u8], start: usize, at: usize) -> usize {
+    for i in (start..at.min(text.len())).rev() {
+        if !is_blank(text[i]) {
+            return i.saturating_add(1);
+        }
+    }
+    start.min(at)
+}
+
+/// Returns the offset after a condition that ends before `end`, but not before `start`: that of the blanks and the `;` before `end`.
+fn condition_end(text: &[u8], start: usize, end: usize) -> usize {
+    let to = before_blanks(text, start, end);
+    if to > start && text.get(to.saturating_sub(1)) == Some(&b';') {
+        before_blanks(text, start, to.saturating_sub(1))
+    } else {
+        to
+    }
+}
+
+/// Returns the condition between two offsets, if there is one.
+pub(crate) fn condition<'a>(
+    alloc: Global,
+    text: &'a [u8],
+    start: usize,
+    end: usize,
+) -> Result<Option<&'a [u8]>, AllocError>
+    ensures { IfOk result (λ o. IfSome o (λ c. ifs.IsCondition text.now start end c.now × (end ≤ length text.now))) }
+{
+    let from = after_blanks(text, start);
+    let to = condition_end(text, from, end);
+    if !is_condition(text, start, end, from, to) {
+        return Ok(None);
+    }
+    let found = &text[from..to];
+    if is_plain(alloc, found)? {
+        Ok(Some(found))
+    } else {
+        Ok(None)
+    }
+}
+
+/// Returns whether an offset is that of `dnl`.
+fn is_dnl_at(text: &[u8], at: usize) -> bool
+    requires { at ≤ length text.now }
+    ensures { result ≡ false → slice_range text.now at (at + 3) ≡ codes "dnl" → ⊥ }
+{
+    let rest = &text[at..];
+    rest.len() >= 3 && &rest[..3] == b"dnl".as_slice()
+}
+
+/// Returns whether the text has `dnl` at some place.
+pub(crate) fn has_dnl(text: &[u8]) -> bool
+    ensures { result ≡ false → specs.HasDnl text.now → ⊥ }
+{
+    for i in 0..text.len() {
+        if is_dnl_at(text, i) {
+            return true;
+        }
+    }
+    false
+}
+
+/// Returns whether the line before an offset has nothing but spaces after its newline, which is at another offset.
+fn is_line_start(text: &[u8], start: usize, newline: usize, end: usize) -> bool
+    ensures { IsTrue result → specs.IsAtLineStart text.now start end }
+{
+    start <= newline
+        && newline < end
+        && end <= text.len()
+        && text[newline] == b'\n'
+        && text[newline.saturating_sub(1)] != b'\\'
+        && are_spaces(&text[newline + 1..end])
+}
+
+/// Returns whether a body between two offsets ends in the newline of its last line.
+pub(crate) fn ends_in_line(text: &[u8], start: usize, end: usize) -> bool
+    ensures { IsTrue result → specs.IsAtLineStart text.now start end }
+{
+    let newline = before_spaces(text, start, end).saturating_sub(1);
+    is_line_start(text, start, newline, end)
+}
+
+/// Returns whether a `;` is after a body between two offsets, which has neither a `#` nor `dnl`, before a third one.
+pub(crate) fn ends_in_semicolon(text: &[u8], from: usize, to: usize, end: usize) -> bool
+    ensures { IsTrue result → specs.IsBeforeSemicolon text.now from to end }
+{
+    from <= to
+        && to <= end
+        && end <= text.len()
+        && is_semicolon(text, to, end)
+        && !has_hash(&text[from..to])
+        && !has_dnl(&text[from..to])
+}
+
+/// Returns the offset of the `;` and of the spaces around it that are before an offset, but not before `start`.
+pub(crate) fn semicolon_start(text: &[u8], start: usize, end: usize) -> usize {
+    let to = before_spaces(text, start, end).saturating_sub(1).max(start);
+    before_spaces(text, start, to)
+}
+
+/// Returns whether a body is between two offsets, which are within two others.
+fn is_body(text: &[u8], start: usize, end: usize, from: usize, to: usize) -> bool
+    ensures { IsTrue result → ifs.IsBodyAt text.now start end from to × (end ≤ length text.now) }
+{
+    start <= from
+        && from <= to
+        && to <= end
+        && end <= text.len()
+        && start < end
+        && is_blank(text[start])
+        && are_blank(&text[start..from])
+        && (to == end && ends_in_line(text, from, to) || ends_in_semicolon(text, from, to, end))
+}
+
+/// Returns the body between two offsets, if there is one.
+pub(crate) fn body(text: &[u8], start: usize, end: usize) -> Option<&[u8]>
+    ensures { IfSome result (λ b. ifs.IsBody text.now start end b.now × (end ≤ length text.now)) }
+{
+    let from = after_spaces(text, start);
+    let to = if ends_in_line(text, from, end) {
+        end
+    } else {
+        semicolon_start(text, from, end)
+    };
+    if is_body(text, start, end, from, to) {
+        Some(&text[from..to])
+    } else {
+        None
+    }
+}

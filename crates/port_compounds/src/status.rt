@@ -1,0 +1,60 @@
+//! Whether a text reads the status of a command.
+
+ghost use Rattle.std.specs.Prelude.{◌≡◌, ◌≤◌, ◌+◌, false, length, slice_range, codes};
+ghost use Rattle.port_compounds.specs.Guards as specs;
+
+use crate::places::is_blank;
+
+/// Returns whether an option may begin with the byte, or the byte may be before one.
+fn may_begin_option(byte: u8) -> bool
+    ensures { result ≡ specs.may_begin_option byte }
+{
+    byte == b'-' || byte == b'\\' || is_blank(byte)
+}
+
+/// Returns whether `$?` is at an offset.
+fn is_parameter_at(text: &[u8], at: usize) -> bool
+    requires { at ≤ length text.now }
+    ensures { result ≡ false → slice_range text.now at (at + 2) ≡ codes "$?" → ⊥ }
+{
+    let rest = &text[at..];
+    rest.len() >= 2 && &rest[..2] == b"$?".as_slice()
+}
+
+/// Returns whether `set` is at an offset.
+fn is_set_word_at(text: &[u8], at: usize) -> bool
+    requires { at ≤ length text.now }
+    ensures { result ≡ false → slice_range text.now at (at + 3) ≡ codes "set" → ⊥ }
+{
+    let rest = &text[at..];
+    rest.len() >= 3 && &rest[..3] == b"set".as_slice()
+}
+
+/// Returns whether a blank is at an offset, and an option may begin after it.
+fn is_before_option(text: &[u8], at: usize) -> bool
+    ensures { result ≡ false → (specs.IsBeforeOption text.now at) → ⊥ }
+{
+    let after = at.saturating_add(1);
+    after < text.len() && is_blank(text[at]) && may_begin_option(text[after])
+}
+
+/// Returns whether the status of a command is read at an offset, or a shell may be asked to end at one.
+fn is_status_at(text: &[u8], at: usize) -> bool
+    requires { at ≤ length text.now }
+    ensures { result ≡ false → specs.IsStatusAt text.now at → ⊥ }
+{
+    is_parameter_at(text, at)
+        || is_set_word_at(text, at) && is_before_option(text, at.saturating_add(3))
+}
+
+/// Returns whether a text reads the status of a command at some place, or may ask a shell to end at one.
+pub fn reads_status(text: &[u8]) -> bool
+    ensures { result ≡ false → specs.ReadsStatus text.now → ⊥ }
+{
+    for i in 0..text.len() {
+        if is_status_at(text, i) {
+            return true;
+        }
+    }
+    false
+}

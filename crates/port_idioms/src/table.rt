@@ -1,0 +1,185 @@
+//! The macros whose idioms `acrun port` writes. `tools/macro_table.py` writes this file from `macros.txt` of `lint_macros`.
+
+ghost use Rattle.std.specs.Prelude.{◌≡◌};
+
+/// The macros that have an exact idiom, each with the least and the largest number of arguments that it is exact for.
+#[rattlefmt::skip]
+pub const EXACT: &[u8] = b"\
+AC_CACHE_VAL 2 2
+AC_CHECKING 1 1
+AC_CHECK_DECLS_ONCE 1 1
+AC_CHECK_FUNCS_ONCE 1 1
+AC_CHECK_HEADERS_ONCE 1 1
+AC_CHECK_TOOL 2 3
+AC_COMPILE_CHECK 3 5
+AC_CONFIG_HEADER 1 1
+AC_CONST 0 0
+AC_C_CONST 0 0
+AC_C_CROSS 0 0
+AC_C_INLINE 0 0
+AC_C_VOLATILE 0 0
+AC_ERROR 1 1
+AC_EXEEXT 0 0
+AC_FUNC_CHECK 1 1
+AC_FUNC_GETMNTENT 0 0
+AC_FUNC_MBRTOWC 0 0
+AC_FUNC_SETVBUF_REVERSED 0 0
+AC_FUNC_STRERROR_R 0 0
+AC_FUNC_STRFTIME 0 0
+AC_FUNC_VPRINTF 0 0
+AC_HAVE_FUNCS 1 1
+AC_HAVE_HEADERS 1 1
+AC_HEADER_CHECK 1 1
+AC_HEADER_MAJOR 0 0
+AC_HEADER_STAT 0 0
+AC_HEADER_STDBOOL 0 0
+AC_INLINE 0 0
+AC_ISC_POSIX 0 0
+AC_LN_S 0 0
+AC_MODE_T 0 0
+AC_MSG_FAILURE 1 1
+AC_OBJEXT 0 0
+AC_OFF_T 0 0
+AC_OUTPUT(files) 1 1
+AC_PATH_TOOL 2 2
+AC_PID_T 0 0
+AC_PREFIX_DEFAULT 1 1
+AC_PRESERVE_HELP_ORDER 0 0
+AC_PROGRAMS_CHECK 2 2
+AC_PROGRAM_CHECK 3 4
+AC_PROGRAM_PATH 2 2
+AC_PROG_AWK 0 0
+AC_PROG_CC_C89 0 0
+AC_PROG_CC_C99 0 0
+AC_PROG_CC_C_O 0 0
+AC_PROG_CC_STDC 0 0
+AC_PROG_CPP 0 0
+AC_PROG_GREP 0 0
+AC_PROG_INSTALL 0 0
+AC_PROG_LN_S 0 0
+AC_PROG_MKDIR_P 0 0
+AC_PROG_RANLIB 0 0
+AC_PROG_SED 0 0
+AC_RETSIGTYPE 0 0
+AC_REVISION 0 1
+AC_SETVBUF_REVERSED 0 0
+AC_SIZE_T 0 0
+AC_STRUCT_TIMEZONE 0 0
+AC_STRUCT_TM 0 0
+AC_TEST_PROGRAM 1 4
+AC_TIMEZONE 0 0
+AC_TRY_COMPILE 2 4
+AC_TRY_CPP 1 3
+AC_TRY_LINK 2 4
+AC_TRY_LINK_FUNC 1 3
+AC_TRY_RUN 1 4
+AC_TYPE_MODE_T 0 0
+AC_TYPE_OFF_T 0 0
+AC_TYPE_PID_T 0 0
+AC_TYPE_SIGNAL 0 0
+AC_TYPE_SIZE_T 0 0
+AC_TYPE_SSIZE_T 0 0
+AC_VERBOSE 1 1
+AC_VPRINTF 0 0
+AC_WARN 1 1
+AS_MESSAGE 1 1
+AS_VAR_COPY 2 2";
+
+/// Returns the rows of these macros, with a newline between them.
+pub(crate) fn exact() -> &'static [u8]
+    ensures { result.now ≡ EXACT.now }
+{
+    EXACT
+}
+
+/// The macros whose idiom differs, each with the least and the largest number of arguments that it is written for, and with what
+/// is said of it.
+#[rattlefmt::skip]
+pub const DIFFERING: &[u8] = b"\
+ACX_PTHREAD 0 0 the library is added to LIBS, and PTHREAD_CFLAGS is -pthread without a check
+AC_ALLOCA 0 0 the function is taken to be there, and ALLOCA is empty
+AC_ARG_PROGRAM 0 0 no option changes the names of programs
+AC_CANONICAL_BUILD 0 0 the system is not detected, so the user gives build and its parts, as NAME=VALUE
+AC_CANONICAL_HOST 0 0 the system is not detected, so the user gives host and its parts, as NAME=VALUE
+AC_CANONICAL_SYSTEM 0 0 no system is detected, so the user gives host, target and their parts, as NAME=VALUE
+AC_CANONICAL_TARGET 0 0 no system is detected, so the user gives host, target and their parts, as NAME=VALUE
+AC_CHECK_ALIGNOF 1 1 the program includes the default headers of acrun, and an alignment other than 1, 2, 4, 8 and 16 is 0
+AC_CHECK_HEADER_STDBOOL 0 0 HAVE_STDBOOL_H is defined if the header is there
+AC_CHECK_MEMBER 1 3 the program includes the default headers of acrun, sys/stat.h and unistd.h, and a bit-field counts as missing
+AC_CHECK_MEMBERS 1 1 the program includes the default headers of acrun, sys/stat.h and unistd.h, and a bit-field counts as missing
+AC_CHECK_SIZEOF 1 2 the program includes the default headers of acrun, and a size other than 1, 2, 4, 8 and 16 is 0
+AC_CHECK_TARGET_TOOL 2 3 no program whose name begins with that of the host is looked for
+AC_CHECK_TARGET_TOOLS 2 3 no program whose name begins with that of the host is looked for
+AC_CHECK_TOOLS 2 3 no program whose name begins with that of the host is looked for
+AC_CYGWIN 0 0 a program is compiled, and the name of the host is not looked at
+AC_C_BIGENDIAN 0 0 the macros of the compiler for the order of bytes decide, and no program is run
+AC_DIRENT 0 0 no other header and no library of directories is looked for
+AC_DIR_HEADER 0 0 no other header and no library of directories is looked for
+AC_FUNC_ALLOCA 0 0 the function is taken to be there, and ALLOCA is empty
+AC_FUNC_CHOWN 0 0 no program is run, so a function that is there counts as one that works
+AC_FUNC_ERROR_AT_LINE 0 0 the object is in EXTRA_OBJS and not in LIBOBJS
+AC_FUNC_FORK 0 0 no program is run, so a function that is there counts as one that works
+AC_FUNC_FSEEKO 0 0 _LARGEFILE_SOURCE is not defined
+AC_FUNC_GETPGRP 0 0 GETPGRP_VOID is defined without a check
+AC_FUNC_LSTAT_FOLLOWS_SLASHED_SYMLINK 0 0 the name is defined without a check
+AC_FUNC_MALLOC 0 0 HAVE_MALLOC is 1 without a check
+AC_FUNC_MMAP 0 0 no program is run, so a function that is there counts as one that works
+AC_FUNC_REALLOC 0 0 HAVE_REALLOC is 1 without a check
+AC_FUNC_SELECT_ARGTYPES 0 0 the types are those of POSIX, without a check
+AC_FUNC_SETPGRP 0 0 SETPGRP_VOID is defined without a check
+AC_FUNC_STRCOLL 0 0 no program is run, so a function that is there counts as one that works
+AC_FUNC_STRNLEN 0 0 no program is run, and the object is in EXTRA_OBJS and not in LIBOBJS
+AC_FUNC_UTIME_NULL 0 0 HAVE_UTIME_NULL is defined without a check
+AC_FUNC_VFORK 0 0 no program is run, so a function that is there counts as one that works
+AC_GETGROUPS_T 0 0 GETGROUPS_T is gid_t without a check
+AC_GNU_SOURCE 0 0 only _GNU_SOURCE and __EXTENSIONS__ are defined, and config.h.in needs a line for each
+AC_HEADER_DIRENT 0 0 no other header and no library of directories is looked for
+AC_HEADER_RESOLV 0 0 resolv.h counts as missing if one of the other headers is missing
+AC_HEADER_STDC 0 0 STDC_HEADERS is defined without a check
+AC_HEADER_SYS_WAIT 0 0 the header counts as that of POSIX if it is there
+AC_HEADER_TIME 0 0 TIME_WITH_SYS_TIME is defined without a check
+AC_HEADER_TIOCGWINSZ 0 0 a program is compiled, and no text is searched for
+AC_LIBOBJ 1 1 the object is in EXTRA_OBJS and not in LIBOBJS
+AC_LONG_FILE_NAMES 0 0 HAVE_LONG_FILE_NAMES is defined without a check
+AC_MINGW32 0 0 a program is compiled, and the name of the host is not looked at
+AC_MMAP 0 0 no program is run, so a function that is there counts as one that works
+AC_PATH_X 0 0 nothing is looked for, so the user gives X_CFLAGS and X_LIBS
+AC_PATH_XTRA 0 0 nothing is looked for, so the user gives X_CFLAGS and X_LIBS
+AC_PROG_EGREP 0 0 no program is looked for
+AC_PROG_FGREP 0 0 no program is looked for
+AC_PROG_LEX 0 0 no scanner is made, so yytext is taken to be a pointer
+AC_REPLACE_FUNCS 1 1 the object is in EXTRA_OBJS and not in LIBOBJS
+AC_SIZEOF_TYPE 1 1 the program includes the default headers of acrun, and a size other than 1, 2, 4, 8 and 16 is 0
+AC_STDC_HEADERS 0 0 STDC_HEADERS is defined without a check
+AC_STRCOLL 0 0 no program is run, so a function that is there counts as one that works
+AC_SYS_LARGEFILE 0 0 _FILE_OFFSET_BITS is defined on each system, and --disable-largefile is not read
+AC_SYS_LONG_FILE_NAMES 0 0 HAVE_LONG_FILE_NAMES is defined without a check
+AC_SYS_POSIX_TERMIOS 0 0 the program includes termios.h alone
+AC_TIME_WITH_SYS_TIME 0 0 TIME_WITH_SYS_TIME is defined without a check
+AC_TYPE_GETGROUPS 0 0 GETGROUPS_T is gid_t without a check
+AC_TYPE_UID_T 0 0 gid_t is taken to be there
+AC_UID_T 0 0 gid_t is taken to be there
+AC_USE_SYSTEM_EXTENSIONS 0 0 only _GNU_SOURCE and __EXTENSIONS__ are defined, and config.h.in needs a line for each
+AC_UTIME_NULL 0 0 HAVE_UTIME_NULL is defined without a check
+AC_VFORK 0 0 no program is run, so a function that is there counts as one that works
+AC_WORDS_BIGENDIAN 0 0 the macros of the compiler for the order of bytes decide, and no program is run
+AM_CONDITIONAL 2 2 there is no Automake, so each line of Makefile.in that depends on it begins with @NAME_TRUE@ or @NAME_FALSE@
+AM_CONFIG_HEADER 1 1 no stamp file is made
+AM_GNU_GETTEXT 0 1 a library that has gettext is added to LIBS, and a rule of the Makefile makes the catalogues
+AM_ICONV 0 0 a library that has iconv is added to LIBS, LIBICONV is empty, and ICONV_CONST is not defined
+AM_LANGINFO_CODESET 0 0 the function is looked for, and CODESET is taken to be there
+AM_PATH_PYTHON 0 0 PYTHON is the only variable that is set
+AM_PROG_AR 0 0 no program whose name begins with that of the host is looked for, and ar is not tried
+AM_PROG_LEX 0 0 no scanner is made, so yytext is taken to be a pointer
+AS_EXIT 1 1 a message is printed
+AS_UNSET 1 1 the variable is empty and not unset
+AS_VAR_SET_IF 1 3 a variable that is set to nothing counts as one that is not set
+AX_PTHREAD 0 0 the library is added to LIBS, and PTHREAD_CFLAGS is -pthread without a check
+gl_USE_SYSTEM_EXTENSIONS 0 0 only _GNU_SOURCE and __EXTENSIONS__ are defined, and config.h.in needs a line for each";
+
+/// Returns the rows of these macros, with a newline between them.
+pub(crate) fn differing() -> &'static [u8]
+    ensures { result.now ≡ DIFFERING.now }
+{
+    DIFFERING
+}

@@ -1,0 +1,603 @@
+//! The compound statements that are open in a list of statements.
+
+use crate::cut::Cut;
+use crate::shell::{Sign, Word};
+use port_compounds::{CaseBranch, CaseCut, GuardCut, IfBranch, IfCut};
+use std::alloc::{AllocError, Global};
+
+/// What a compound statement is.
+#[derive(Clone, Copy, PartialEq, Eq)]
+enum Kind {
+    /// `if`.
+    If,
+    /// `case`.
+    Case,
+    /// `for`, `while`, `until` or `select`.
+    Loop,
+    /// Braces.
+    Group,
+    /// Parentheses.
+    Paren,
+}
+
+/// How far a compound statement was read.
+#[derive(Clone, Copy, PartialEq, Eq)]
+enum Stage {
+    /// The condition of an `if`, the word of a `case`, or what is before `do`.
+    Head,
+    /// The patterns of a `case`.
+    Patterns,
+    /// A list of statements that is done.
+    Body,
+    /// The list after `else`.
+    Default,
+}
+
+/// A compound statement that is open.
+#[derive(Drop)]
+struct Compound {
+    kind: Kind,
+    stage: Stage,
+    /// Whether it is a statement of a list that calls may be put in.
+    is_in_list: bool,
+    /// Whether it may be rewritten.
+    is_allowed: bool,
+    /// The offset of its first byte.
+    start: usize,
+    /// The branches of an `if` so far, and the one that was begun.
+    branches: Vec<IfBranch>,
+    branch: IfBranch,
+    at_else: Option<usize>,
+    /// Whether the word of a `case` was read.
+    has_subject: bool,
+    at_in: usize,
+    /// The branches of a `case` so far, and the parenthesis after the patterns of the one that was begun.
+    cases: Vec<CaseBranch>,
+    at_close: usize,
+}
+
+impl Compound {
+    /// Returns whether the statements of the list that is read are ones that calls may be put in.
+    fn is_list(&self) -> bool {
+        let is_done = self.stage == Stage::Body || self.stage == Stage::Default;
+        self.is_in_list && is_done && matches!(self.kind, Kind::If | Kind::Case)
+    }
+}
+
+/// What may begin at a place.
+#[derive(Clone, Copy, PartialEq, Eq)]
+enum Front {
+    /// A further word of a command.
+    Further,
+    /// A statement.
+    Statement,
+    /// A statement, after a call on the line.
+    AfterCall,
+    /// A command that is joined to another one, or the first of a condition.
+    Joined,
+}
+
+/// The compound statements that are open, and those that were found.
+#[derive(Drop)]
+pub(crate) struct Compounds {
+    open: Vec<Compound>,
+    front: Front,
+    /// Whether words and operators can't be told apart from here on.
+    is_lost: bool,
+    /// Whether the parenthesis that is open is that of a function, or the body of one follows.
+    is_function: bool,
+    /// Whether the sign before was a `;`, and its offset.
+    semicolon: Option<usize>,
+    /// The statement that begins with a test, up to the last word that was read.
+    guard: Option<GuardCut>,
+    found: Vec<Cut>,
+}
+
+/// Returns a branch of an `if` that begins at an offset.
+fn branch_at(start: usize) -> IfBranch {
+    IfBranch {
+        start,
+        at_then: 0,
+        end: 0,
+    }
+}
+
+impl Compounds {
+    /// Returns the start of a list.
+    pub(crate) fn new(alloc: Global) -> Compounds {
+        Compounds {
+            open: Vec::new(alloc),
+            front: Front::Statement,
+            is_lost: false,
+            is_function: false,
+            semicolon: None,
+            guard: None,
+            found: Vec::new(alloc),
+        }
+    }
+
+    /// Ends the list, and returns the statements that may be rewritten.
+    pub(crate) fn into_found(mut self) -> Result<Vec<Cut>, AllocError> {
+        self.end_guard()?;
+        let Compounds { found, .. } = self;
+        Ok(found)
+    }
+
+    /// Ends a statement that begins with a test, if one was begun. If something is joined to the test, the statement may be rewritten.
+    fn end_guard(&mut self) -> Result<(), AllocError> {
+        if let Some(guard) = self.guard {
+            if guard.at_joint > 0 && guard.at_joint < guard.end {
+                self.found.push(Cut::Guard(guard))?;
+            }
+        }
+        self.guard = None;
+        Ok(())
+    }
+
+    /// Begins or extends a statement that begins with a test, up to the end of a word.
+    fn read_guard(&mut self, text: &[u8], word: Word, is_quoted: bool) {
+        if let Some(guard) = self.guard {
+            self.guard = Some(GuardCut {
+                end: word.end,
+                ..guard
+            });
+        } else if text == b"test".as_slice()
+            && self.is_list()
+            && self.front == Front::Statement
+            && !self.is_function
+            && !is_quoted
+        {
+            self.guard = Some(GuardCut {
+                start: word.start,
+                at_joint: 0,
+                end: word.end,
+            });
+        }
+    }
+
+    /// Reads the first or the second byte of a joint, in a statement that begins with a test.
+    fn join_guard(&mut self, at: usize) {
+        if let Some(guard) = self.guard {
+            let is_second = at > 0 && guard.at_joint == at.saturating_sub(1);
+            if !is_second {
+                self.guard = Some(GuardCut {
+                    at_joint: at,
+                    ..guard
+                });
+            }
+        }
+    }
+
+    /// Returns whether a call may be put in the list that is read.
+    fn is_list(&self) -> bool {
+        let is_open = match self.open.last() {
+            Some(last) => last.is_list(),
+            None => true,
+        };
+        is_open && !self.is_lost
+    }
+
+    /// Returns whether a call that begins here is a statement of such a list.
+    fn begins_call(&self) -> bool {
+        self.is_list() && self.front != Front::Further && self.front != Front::Joined
+    }
+
+    /// Begins a compound statement.
+    fn begin(
+        &mut self,
+        alloc: Global,
+        kind: Kind,
+        word: Word,
+        is_quoted: bool,
+    ) -> Result<(), AllocError> {
+        self.guard = None;
+        let is_in_list = self.is_list();
+        let is_allowed = is_in_list
+            && self.front == Front::Statement
+            && !self.is_function
+            && !is_quoted;
+        if let Some(last) = self.open.last_mut() {
+            last.is_allowed = false;
+        }
+        self.is_function = false;
+        self.open.push(Compound {
+            kind,
+            stage: Stage::Head,
+            is_in_list,
+            is_allowed,
+            start: word.start,
+            branches: Vec::new(alloc),
+            branch: branch_at(word.end),
+            at_else: None,
+            has_subject: false,
+            at_in: 0,
+            cases: Vec::new(alloc),
+            at_close: 0,
+        })?;
+        self.front = Front::Joined;
+        Ok(())
+    }
+
+    /// Gives up.
+    fn lose(&mut self) {
+        self.is_lost = true;
+    }
+
+    /// Reads `then`.
+    fn read_then(&mut self, word: Word, is_quoted: bool) {
+        match self.open.last_mut() {
+            Some(last) if last.kind == Kind::If && last.stage == Stage::Head => {
+                last.stage = Stage::Body;
+                last.branch.at_then = word.start;
+                last.is_allowed &= !is_quoted;
+                self.front = Front::Statement;
+            }
+            _ => self.lose(),
+        }
+    }
+
+    /// Reads `elif`.
+    fn read_elif(&mut self, word: Word, is_quoted: bool) -> Result<(), AllocError> {
+        match self.open.last_mut() {
+            Some(last) if last.kind == Kind::If && last.stage == Stage::Body => {
+                last.branch.end = word.start;
+                last.branches.push(last.branch)?;
+                last.branch = branch_at(word.end);
+                last.stage = Stage::Head;
+                last.is_allowed &= !is_quoted;
+                self.front = Front::Joined;
+            }
+            _ => self.lose(),
+        }
+        Ok(())
+    }
+
+    /// Reads `else`.
+    fn read_else(&mut self, word: Word, is_quoted: bool) -> Result<(), AllocError> {
+        match self.open.last_mut() {
+            Some(last) if last.kind == Kind::If && last.stage == Stage::Body => {
+                last.branch.end = word.start;
+                last.branches.push(last.branch)?;
+                last.at_else = Some(word.start);
+                last.stage = Stage::Default;
+                last.is_allowed &= !is_quoted;
+                self.front = Front::Statement;
+            }
+            _ => self.lose(),
+        }
+        Ok(())
+    }
+
+    /// Closes an `if` that was taken out.
+    fn close_if(
+        &mut self,
+        compound: Compound,
+        word: Word,
+        is_quoted: bool,
+    ) -> Result<(), AllocError> {
+        let Compound {
+            stage,
+            is_allowed,
+            start,
+            mut branches,
+            mut branch,
+            at_else,
+            ..
+        } = compound;
+        if stage == Stage::Body {
+            branch.end = word.start;
+            branches.push(branch)?;
+        }
+        if is_allowed && !is_quoted {
+            self.found.push(Cut::If(IfCut {
+                start,
+                branches,
+                at_else,
+                at_fi: word.start,
+                end: word.end,
+            }))?;
+        }
+        Ok(())
+    }
+
+    /// Closes a `case` that was taken out.
+    fn close_case(
+        &mut self,
+        compound: Compound,
+        word: Word,
+        is_quoted: bool,
+    ) -> Result<(), AllocError> {
+        let Compound {
+            stage,
+            is_allowed,
+            start,
+            at_in,
+            mut cases,
+            at_close,
+            ..
+        } = compound;
+        if stage == Stage::Body {
+            cases.push(CaseBranch {
+                at_close,
+                end: word.start,
+            })?;
+        }
+        if is_allowed && !is_quoted {
+            self.found.push(Cut::Case(CaseCut {
+                start,
+                at_in,
+                branches: cases,
+                at_esac: word.start,
+                end: word.end,
+            }))?;
+        }
+        Ok(())
+    }
+
+    /// Takes out the last compound statement if it is of this kind, and otherwise gives up.
+    fn take(&mut self, kind: Kind) -> Option<Compound> {
+        let is_it = match self.open.last() {
+            Some(last) => last.kind == kind,
+            None => false,
+        };
+        if !is_it {
+            self.lose();
+            return None;
+        }
+        self.front = Front::Further;
+        self.open.pop()
+    }
+
+    /// Reads `fi`.
+    fn read_fi(&mut self, word: Word, is_quoted: bool) -> Result<(), AllocError> {
+        match self.take(Kind::If) {
+            Some(compound) if compound.stage != Stage::Head => {
+                self.close_if(compound, word, is_quoted)
+            }
+            Some(_) => {
+                self.lose();
+                Ok(())
+            }
+            None => Ok(()),
+        }
+    }
+
+    /// Reads `esac`.
+    fn read_esac(&mut self, word: Word, is_quoted: bool) -> Result<(), AllocError> {
+        match self.take(Kind::Case) {
+            Some(compound) => self.close_case(compound, word, is_quoted),
+            None => Ok(()),
+        }
+    }
+
+    /// Reads `do`.
+    fn read_do(&mut self) {
+        match self.open.last_mut() {
+            Some(last) if last.kind == Kind::Loop && last.stage == Stage::Head => {
+                last.stage = Stage::Body;
+                self.front = Front::Statement;
+            }
+            _ => self.lose(),
+        }
+    }
+
+    /// Closes a compound statement that isn't rewritten.
+    fn close(&mut self, kind: Kind) {
+        let _ = self.take(kind);
+    }
+
+    /// Reads a word that may begin a compound statement.
+    fn read_beginning(
+        &mut self,
+        alloc: Global,
+        text: &[u8],
+        word: Word,
+        is_quoted: bool,
+    ) -> Result<bool, AllocError> {
+        let kind = match text {
+            b"if" => Kind::If,
+            b"case" => Kind::Case,
+            b"for" | b"while" | b"until" | b"select" => Kind::Loop,
+            b"{" => Kind::Group,
+            _ => return Ok(false),
+        };
+        self.begin(alloc, kind, word, is_quoted)?;
+        if kind == Kind::Group {
+            self.front = Front::Statement;
+        }
+        if kind == Kind::Case || text == b"for".as_slice() || text == b"select".as_slice() {
+            self.front = Front::Further;
+        }
+        Ok(true)
+    }
+
+    /// Reads a word that may go on with a compound statement, or end one. Returns whether it does.
+    fn read_continuing(
+        &mut self,
+        text: &[u8],
+        word: Word,
+        is_quoted: bool,
+    ) -> Result<bool, AllocError> {
+        match text {
+            b"then" => self.read_then(word, is_quoted),
+            b"elif" => self.read_elif(word, is_quoted)?,
+            b"else" => self.read_else(word, is_quoted)?,
+            b"fi" => self.read_fi(word, is_quoted)?,
+            b"do" => self.read_do(),
+            b"done" => self.close(Kind::Loop),
+            b"esac" => self.read_esac(word, is_quoted)?,
+            b"}" => self.close(Kind::Group),
+            b"!" => self.front = Front::Joined,
+            _ => return Ok(false),
+        }
+        Ok(true)
+    }
+
+    /// Reads a word of the patterns of a `case`, or of what is before them. Returns whether it is one.
+    fn read_of_case(
+        &mut self,
+        text: &[u8],
+        word: Word,
+        is_quoted: bool,
+    ) -> Result<bool, AllocError> {
+        let Some(last) = self.open.last_mut() else {
+            return Ok(false);
+        };
+        if last.kind != Kind::Case {
+            return Ok(false);
+        }
+        if last.stage == Stage::Head {
+            if text == b"in".as_slice() && last.has_subject {
+                last.stage = Stage::Patterns;
+                last.at_in = word.start;
+                last.is_allowed &= !is_quoted;
+            }
+            last.has_subject = true;
+            return Ok(true);
+        }
+        if last.stage == Stage::Patterns && text == b"esac".as_slice() {
+            self.read_esac(word, is_quoted)?;
+            return Ok(true);
+        }
+        Ok(last.stage == Stage::Patterns)
+    }
+
+    /// Reads a word. Returns whether it is a call that is a statement of a list that calls may be put in.
+    pub(crate) fn read_word(
+        &mut self,
+        alloc: Global,
+        text: &[u8],
+        word: Word,
+        is_quoted: bool,
+    ) -> Result<bool, AllocError> {
+        self.semicolon = None;
+        if self.is_lost || self.read_of_case(text, word, is_quoted)? {
+            return Ok(false);
+        }
+        self.read_guard(text, word, is_quoted);
+        if self.front == Front::Further {
+            return Ok(false);
+        }
+        if word.is_call {
+            let is_statement = self.begins_call();
+            self.front = Front::AfterCall;
+            return Ok(is_statement);
+        }
+        if !word.is_plain {
+            self.front = Front::Further;
+            return Ok(false);
+        }
+        if !self.read_beginning(alloc, text, word, is_quoted)?
+            && !self.read_continuing(text, word, is_quoted)?
+        {
+            self.front = Front::Further;
+        }
+        Ok(false)
+    }
+
+    /// Reads a parenthesis that opens: of a command, of a function, or before patterns.
+    fn read_open_paren(&mut self, alloc: Global, at: usize) -> Result<(), AllocError> {
+        if self
+            .open
+            .last()
+            .is_some_and(|last| last.stage == Stage::Patterns)
+        {
+            return Ok(());
+        }
+        let is_function = self.front == Front::Further;
+        let word = Word {
+            start: at,
+            end: at,
+            is_plain: true,
+            is_call: false,
+        };
+        self.begin(alloc, Kind::Paren, word, false)?;
+        self.is_function = is_function;
+        Ok(())
+    }
+
+    /// Reads a parenthesis that closes: of a command, of a function, or after patterns.
+    fn read_close_paren(&mut self, at: usize) {
+        if let Some(last) = self.open.last_mut() {
+            if last.stage == Stage::Patterns {
+                last.stage = Stage::Body;
+                last.at_close = at;
+                self.front = Front::Statement;
+                return;
+            }
+        }
+        let is_function = self.is_function;
+        self.close(Kind::Paren);
+        if is_function {
+            self.front = Front::Statement;
+        }
+    }
+
+    /// Reads a `;`. A second one after it ends a branch of a `case`.
+    fn read_semicolon(&mut self, at: usize) -> Result<(), AllocError> {
+        let first = at.saturating_sub(1);
+        let is_second = at > 0 && self.semicolon == Some(first);
+        self.semicolon = if is_second { None } else { Some(at) };
+        self.front = Front::Statement;
+        self.end_guard()?;
+        if let Some(last) = self.open.last_mut() {
+            if is_second && last.kind == Kind::Case && last.stage == Stage::Body {
+                last.stage = Stage::Patterns;
+                last.cases.push(CaseBranch {
+                    at_close: last.at_close,
+                    end: first,
+                })?;
+            }
+        }
+        Ok(())
+    }
+
+    /// Reads `&` or `|`. If it is right after a `;`, a branch of a `case` goes on with the next one.
+    fn read_joint(&mut self, at: usize) {
+        let is_after_semicolon = at > 0 && self.semicolon == Some(at.saturating_sub(1));
+        if let Some(last) = self.open.last_mut() {
+            if is_after_semicolon && last.kind == Kind::Case && last.stage == Stage::Body {
+                last.stage = Stage::Patterns;
+                last.is_allowed = false;
+            }
+        }
+        self.semicolon = None;
+        self.front = Front::Joined;
+        self.join_guard(at);
+    }
+
+    /// Reads a newline. What is joined to the next command stays so.
+    fn read_newline(&mut self) -> Result<(), AllocError> {
+        self.semicolon = None;
+        if self.front == Front::Joined
+            || self.open.last().is_some_and(|last| last.kind == Kind::Case
+                && last.stage == Stage::Head)
+        {
+            return Ok(());
+        }
+        self.front = Front::Statement;
+        self.end_guard()
+    }
+
+    /// Reads a sign at an offset.
+    pub(crate) fn read_sign(
+        &mut self,
+        alloc: Global,
+        sign: Sign,
+        at: usize,
+    ) -> Result<(), AllocError> {
+        match sign {
+            Sign::Inside | Sign::Blank => {}
+            Sign::Newline => self.read_newline()?,
+            Sign::Semicolon => self.read_semicolon(at)?,
+            Sign::Joint => self.read_joint(at),
+            Sign::Redirection => {
+                self.front = Front::Further;
+                self.guard = None;
+            }
+            Sign::OpenParen => self.read_open_paren(alloc, at)?,
+            Sign::CloseParen => self.read_close_paren(at),
+        }
+        Ok(())
+    }
+}

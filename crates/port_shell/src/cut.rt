@@ -1,0 +1,22 @@
+//! Where the words of a statement are.
+
+use port_compounds::{CaseCut, GuardCut, IfCut};
+
+/// A statement by the offsets of its words.
+#[derive(Drop)]
+pub(crate) enum Cut {
+    If(IfCut),
+    Case(CaseCut),
+    Guard(GuardCut),
+}
+
+impl Cut {
+    /// Returns the offset of its first byte.
+    pub(crate) fn start(&self) -> usize {
+        match self {
+            Cut::If(cut) => cut.start,
+            Cut::Case(cut) => cut.start,
+            Cut::Guard(cut) => cut.start,
+        }
+    }
+}

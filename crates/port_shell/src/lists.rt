@@ -1,0 +1,282 @@
+//! The lists of statements of a source, and the compound statements in them.
+
+use crate::compounds::Compounds;
+use crate::cut::Cut;
+use crate::shell::Shell;
+use ac_calls::{CallAt, Extent, calls_of};
+use ac_macros::table::row_named;
+use ac_macros::{ChoiceMacro, Macro, Named, QuestionMacro};
+use lint_text::{first_line, first_name, from, is_word_byte, part, without_end_blanks};
+use std::alloc::{AllocError, Global};
+
+/// Returns whether the argument of a macro at an index holds statements, if there are so many arguments.
+fn holds_statements(named: Named, count: usize, index: usize) -> bool {
+    let first = match named {
+        Named::Statement(Macro::Choice(ChoiceMacro::If)) => {
+            return index % 2 == 1 || index.saturating_add(1) == count;
+        }
+        Named::Statement(Macro::Choice(ChoiceMacro::Case)) => {
+            return index > 0 && (index % 2 == 0 || index.saturating_add(1) == count);
+        }
+        Named::Statement(Macro::Question(question)) => first_action(question),
+        Named::Statement(Macro::Check) => return index == 2,
+        Named::Statement(Macro::Plain(_)) | Named::Argument(_) => return false,
+    };
+    index == first || index == first.saturating_add(1)
+}
+
+/// Returns the index of the first argument after those of a question.
+fn first_action(question: QuestionMacro) -> usize {
+    match question {
+        QuestionMacro::Given(_) | QuestionMacro::Library | QuestionMacro::Libraries => 2,
+        QuestionMacro::Tries(_) | QuestionMacro::Checks(_) | QuestionMacro::ChecksEach(_) => 1,
+    }
+}
+
+/// Returns whether the brackets of a text are closed at its end, and not earlier.
+fn is_one_run(text: &[u8]) -> bool {
+    let mut depth: usize = 0;
+    for i in 0..text.len() {
+        if text[i] == b'[' {
+            depth = depth.saturating_add(1);
+        } else if text[i] == b']' {
+            depth = depth.saturating_sub(1);
+        }
+        if depth == 0 {
+            return i.saturating_add(1) == text.len();
+        }
+    }
+    false
+}
+
+/// Returns the list of statements in an argument in brackets.
+fn list_of(text: &[u8], arg: &Extent) -> Option<Extent> {
+    let written = without_end_blanks(part(text, arg.start, arg.end));
+    if is_one_run(written) {
+        Some(Extent {
+            start: arg.start.saturating_add(1),
+            end: arg.start.saturating_add(written.len()).saturating_sub(1),
+        })
+    } else {
+        None
+    }
+}
+
+/// Appends the lists of statements in the arguments of a call.
+fn push_lists(text: &[u8], call: &CallAt, lists: &mut Vec<Extent>) -> Result<(), AllocError> {
+    let Some(row) = row_named(part(text, call.start, call.name_end)) else {
+        return Ok(());
+    };
+    for i in 0..call.args.len() {
+        if !holds_statements(row.named, call.args.len(), i) {
+            continue;
+        }
+        if let Some(list) = list_of(text, &call.args[i]) {
+            lists.push(list)?;
+        }
+    }
+    Ok(())
+}
+
+/// How far a list of statements was read.
+#[derive(Drop)]
+struct Reader {
+    shell: Shell,
+    compounds: Compounds,
+    /// The brackets that are open.
+    depth: usize,
+    /// Whether this is a comment of m4, in which brackets mean nothing.
+    is_comment: bool,
+    /// Whether a name is before the place.
+    is_name: bool,
+    /// Whether a byte of the word is in brackets.
+    is_quoted: bool,
+    /// The offset up to which nothing is to be read.
+    skips: usize,
+    /// The index of the next call.
+    next: usize,
+    /// The index of the call that the word begins with.
+    call: usize,
+}
+
+/// Returns the index of the first call that doesn't begin before an offset.
+fn first_call(calls: &[CallAt], at: usize) -> usize {
+    let mut low = 0;
+    let mut high = calls.len();
+    for _ in 0..64 {
+        if high <= low {
+            break;
+        }
+        let middle = low.saturating_add(high.saturating_sub(low) / 2);
+        match calls.get(middle) {
+            Some(call) if call.start < at => low = middle.saturating_add(1),
+            _ => high = middle,
+        }
+    }
+    low
+}
+
+impl Reader {
+    /// Ends the word before an offset, if there is one. The lists of a call that is a statement are appended.
+    fn end_word(
+        &mut self,
+        alloc: Global,
+        text: &[u8],
+        calls: &[CallAt],
+        lists: &mut Vec<Extent>,
+    ) -> Result<(), AllocError> {
+        let Some(word) = self.shell.take_word() else {
+            return Ok(());
+        };
+        let is_quoted = self.is_quoted;
+        self.is_quoted = false;
+        let written = part(text, word.start, word.end);
+        if self.shell.take_delimiter(alloc, written)? {
+            return Ok(());
+        }
+        if self.compounds.read_word(alloc, written, word, is_quoted)? {
+            if let Some(call) = calls.get(self.call) {
+                push_lists(text, call, lists)?;
+            }
+        }
+        Ok(())
+    }
+
+    /// Reads a call, if one begins at an offset.
+    fn read_call(&mut self, calls: &[CallAt], at: usize) -> bool {
+        self.next = self.next.max(first_call(calls, at));
+        let Some(call) = calls.get(self.next) else {
+            return false;
+        };
+        if call.start != at || self.depth > 0 || self.is_comment {
+            return false;
+        }
+        self.call = self.next;
+        self.shell.read_call(at, call.end);
+        self.skips = call.end;
+        self.is_name = false;
+        true
+    }
+
+    /// Reads a bracket that quotes, if one is at an offset.
+    fn read_bracket(&mut self, byte: u8) -> bool {
+        if self.is_comment {
+            return false;
+        }
+        self.is_name = false;
+        if byte == b'[' {
+            self.depth = self.depth.saturating_add(1);
+            return true;
+        }
+        if byte == b']' {
+            self.depth = self.depth.saturating_sub(1);
+            return true;
+        }
+        false
+    }
+
+    /// Returns whether m4 drops the line from an offset on.
+    fn is_dropped(&self, text: &[u8], at: usize) -> bool {
+        self.depth == 0
+            && !self.is_comment
+            && !self.is_name
+            && first_name(from(text, at)) == b"dnl".as_slice()
+    }
+
+    /// Reads a byte that the shell sees.
+    fn read_seen(
+        &mut self,
+        alloc: Global,
+        text: &[u8],
+        calls: &[CallAt],
+        byte: u8,
+        at: usize,
+        lists: &mut Vec<Extent>,
+    ) -> Result<(), AllocError> {
+        if self.shell.ends_before(byte) {
+            self.end_word(alloc, text, calls, lists)?;
+        }
+        self.is_quoted |= self.depth > 0;
+        let sign = self.shell.read(byte, at)?;
+        self.compounds.read_sign(alloc, sign, at)
+    }
+
+    /// Reads the byte at an offset.
+    fn read(
+        &mut self,
+        alloc: Global,
+        text: &[u8],
+        calls: &[CallAt],
+        at: usize,
+        lists: &mut Vec<Extent>,
+    ) -> Result<(), AllocError> {
+        let Some(byte) = text.get(at).copied() else {
+            return Ok(());
+        };
+        if at < self.skips || self.read_call(calls, at) || self.read_bracket(byte) {
+            return Ok(());
+        }
+        if self.is_dropped(text, at) {
+            self.skips = at
+                .saturating_add(first_line(from(text, at)).len())
+                .saturating_add(1);
+            return self.read_seen(alloc, text, calls, b'\n', at, lists);
+        }
+        if self.depth == 0 {
+            self.is_comment = self.is_comment && byte != b'\n' || byte == b'#';
+        }
+        self.is_name = is_word_byte(byte);
+        self.read_seen(alloc, text, calls, byte, at, lists)
+    }
+}
+
+/// Appends the statements of a list that may be rewritten, and the lists in the arguments of its calls.
+fn read_list(
+    alloc: Global,
+    text: &[u8],
+    calls: &[CallAt],
+    list: Extent,
+    lists: &mut Vec<Extent>,
+    found: &mut Vec<Cut>,
+) -> Result<(), AllocError> {
+    let mut reader = Reader {
+        shell: Shell::new(alloc),
+        compounds: Compounds::new(alloc),
+        depth: 0,
+        is_comment: false,
+        is_name: false,
+        is_quoted: false,
+        skips: 0,
+        next: 0,
+        call: 0,
+    };
+    for at in list.start..list.end {
+        reader.read(alloc, text, calls, at, lists)?;
+    }
+    reader.end_word(alloc, text, calls, lists)?;
+    let Reader { compounds, .. } = reader;
+    for cut in compounds.into_found()? {
+        found.push(cut)?;
+    }
+    Ok(())
+}
+
+/// Returns the statements of a source that may be rewritten, in order of their offsets. Each is one in which no compound statement of a
+/// shell is.
+pub(crate) fn cuts_of(alloc: Global, text: &[u8]) -> Result<Vec<Cut>, AllocError> {
+    let calls = calls_of(alloc, text)?;
+    let mut lists = Vec::new(alloc);
+    lists.push(Extent {
+        start: 0,
+        end: text.len(),
+    })?;
+    let mut found = Vec::new(alloc);
+    for i in 0..text.len() {
+        let Some(list) = lists.get(i).copied() else {
+            break;
+        };
+        read_list(alloc, text, calls.as_slice(), list, &mut lists, &mut found)?;
+    }
+    found.sort_by_key(|cut| cut.start())?;
+    Ok(found)
+}

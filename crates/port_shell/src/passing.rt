@@ -1,0 +1,177 @@
+//! One pass over a text, in which statements become calls.
+
+ghost use Rattle.std.specs.Prelude.{◌≡◌, ◌≤◌, ◌++◌, false, length, slice_range, IfOk, IfSome, OnOk};
+ghost use Rattle.port_compounds.specs.Guards.{ReadsStatus};
+ghost use Rattle.port_shell.specs.Formed as specs;
+
+use crate::cut::Cut;
+use crate::lists::cuts_of;
+use crate::puts::{put_for_case, put_for_guard, put_for_if};
+use port_compounds::{CaseCut, GuardCut, IfCut, reads_status};
+use std::alloc::{AllocError, Global};
+
+/// A text that is written while another is read.
+#[derive(Drop)]
+struct Pass {
+    out: Vec<u8>,
+    /// How much was read.
+    at: usize,
+    /// Whether anything was rewritten.
+    has_changed: bool,
+}
+
+/// Copies what is before a statement, and writes what is put in its place.
+fn write_change(
+    text: &[u8],
+    start: usize,
+    end: usize,
+    put: &[u8],
+    pass: &mut Pass,
+) -> Result<(), AllocError>
+    requires { (pass.old.at ≤ start) × (start ≤ length text.now) }
+    ensures { OnOk result ((pass.new.at ≡ end) × (pass.new.out.items ≡ (pass.old.out.items ++ slice_range text.now pass.old.at start) ++ put.now)) }
+{
+    pass.out.extend_from_slice(&text[pass.at..start])?;
+    pass.out.extend_from_slice(put)?;
+    pass.at = end;
+    pass.has_changed = true;
+    Ok(())
+}
+
+/// Writes what is put in the place of a statement between two offsets, unless the statement was in what was rewritten.
+fn put_found(
+    text: &[u8],
+    start: usize,
+    end: usize,
+    put: &[u8],
+    pass: &mut Pass,
+) -> Result<(), AllocError>
+    requires put { specs.MayPut text.now start end put.now }
+    requires begun { specs.IsPass text.now pass.old.at pass.old.out.items }
+    ensures { OnOk result (specs.IsPass text.now pass.new.at pass.new.out.items) }
+{
+    if start < pass.at || text.len() < start {
+        return Ok(());
+    }
+    write_change(text, start, end, put, pass)
+}
+
+/// Writes the call for an `if`, if there is one, unless it was in what was rewritten.
+fn pass_if(alloc: Global, text: &[u8], cut: &IfCut, pass: &mut Pass) -> Result<(), AllocError>
+    requires begun { specs.IsPass text.now pass.old.at pass.old.out.items }
+    ensures { OnOk result (specs.IsPass text.now pass.new.at pass.new.out.items) }
+{
+    if cut.start < pass.at {
+        return Ok(());
+    }
+    match put_for_if(alloc, text, cut)? {
+        Some(put) => put_found(text, cut.start, cut.end, put.as_slice(), pass),
+        None => Ok(()),
+    }
+}
+
+/// Writes the call for a `case`, if there is one, unless it was in what was rewritten.
+fn pass_case(alloc: Global, text: &[u8], cut: &CaseCut, pass: &mut Pass) -> Result<(), AllocError>
+    requires begun { specs.IsPass text.now pass.old.at pass.old.out.items }
+    ensures { OnOk result (specs.IsPass text.now pass.new.at pass.new.out.items) }
+{
+    if cut.start < pass.at {
+        return Ok(());
+    }
+    match put_for_case(alloc, text, cut)? {
+        Some(put) => put_found(text, cut.start, cut.end, put.as_slice(), pass),
+        None => Ok(()),
+    }
+}
+
+/// Writes the call for a statement that a condition guards, if there is one, unless it was in what was rewritten.
+fn pass_unread(alloc: Global, text: &[u8], cut: GuardCut, pass: &mut Pass) -> Result<(), AllocError>
+    requires begun { specs.IsPass text.now pass.old.at pass.old.out.items }
+    requires no_status { ReadsStatus text.now → ⊥ }
+    ensures { OnOk result (specs.IsPass text.now pass.new.at pass.new.out.items) }
+{
+    if cut.start < pass.at {
+        return Ok(());
+    }
+    match put_for_guard(alloc, text, cut)? {
+        Some(put) => put_found(text, cut.start, cut.end, put.as_slice(), pass),
+        None => Ok(()),
+    }
+}
+
+/// Writes the call for a statement that a condition guards, unless the text reads the status of a command.
+fn pass_guard(
+    alloc: Global,
+    text: &[u8],
+    cut: GuardCut,
+    reads: bool,
+    pass: &mut Pass,
+) -> Result<(), AllocError>
+    requires begun { specs.IsPass text.now pass.old.at pass.old.out.items }
+    requires reads { reads ≡ false → ReadsStatus text.now → ⊥ }
+    ensures { OnOk result (specs.IsPass text.now pass.new.at pass.new.out.items) }
+{
+    if reads {
+        return Ok(());
+    }
+    pass_unread(alloc, text, cut, pass)
+}
+
+/// Writes the call for a statement, if there is one, unless it was in what was rewritten.
+fn pass_cut(
+    alloc: Global,
+    text: &[u8],
+    cut: &Cut,
+    reads: bool,
+    pass: &mut Pass,
+) -> Result<(), AllocError>
+    requires begun { specs.IsPass text.now pass.old.at pass.old.out.items }
+    requires reads { reads ≡ false → ReadsStatus text.now → ⊥ }
+    ensures { OnOk result (specs.IsPass text.now pass.new.at pass.new.out.items) }
+{
+    match cut {
+        Cut::If(cut) => pass_if(alloc, text, cut, pass),
+        Cut::Case(cut) => pass_case(alloc, text, cut, pass),
+        Cut::Guard(cut) => pass_guard(alloc, text, *cut, reads, pass),
+    }
+}
+
+/// Goes over the statements that were found.
+fn pass_cuts(alloc: Global, text: &[u8], cuts: &[Cut], pass: &mut Pass) -> Result<(), AllocError>
+    requires begun { specs.IsPass text.now pass.old.at pass.old.out.items }
+    ensures { OnOk result (specs.IsPass text.now pass.new.at pass.new.out.items) }
+{
+    let reads = reads_status(text);
+    for i in 0..cuts.len() {
+        pass_cut(alloc, text, &cuts[i], reads, pass)?;
+    }
+    Ok(())
+}
+
+/// Copies the rest of a text.
+fn finish(text: &[u8], pass: &mut Pass) -> Result<(), AllocError>
+    requires begun { specs.IsPass text.now pass.old.at pass.old.out.items }
+    ensures { OnOk result (specs.IsPass text.now (length text.now) pass.new.out.items) }
+{
+    pass.out.extend_from_slice(&text[pass.at..text.len()])
+}
+
+/// Returns the text with each statement rewritten that has no other one in it, or `None` if there is none.
+pub(crate) fn formed_once(alloc: Global, text: &[u8]) -> Result<Option<Vec<u8>>, AllocError>
+    ensures { IfOk result (λ o. IfSome o (λ v. specs.IsPass text.now (length text.now) v.items)) }
+{
+    let cuts = cuts_of(alloc, text)?;
+    let mut pass = Pass {
+        out: Vec::new(alloc),
+        at: 0,
+        has_changed: false,
+    };
+    pass_cuts(alloc, text, cuts.as_slice(), &mut pass)?;
+    finish(text, &mut pass)?;
+    let Pass {
+        out,
+        has_changed,
+        ..
+    } = pass;
+    if has_changed { Ok(Some(out)) } else { Ok(None) }
+}

@@ -1,5 +1,0 @@
-use Rattle.replacing.specs.Rewritten.{IsRewritten}
-use Rattle.replacing.proofs.passes.replaced.Given as goal
-
-abbrev pub invariant-loop : goal.invariant-loop
-invariant-loop l = IsRewritten l.idioms l.text l.out.items

@@ -1,5 +1,0 @@
-use Rattle.replacing.specs.Rewritten.{IsPass}
-use Rattle.replacing.proofs.passing.pass_calls.Given as goal
-
-abbrev pub invariant-loop-i : goal.invariant-loop-i
-invariant-loop-i l = IsPass l.idioms l.text l.pass.at l.pass.out.items

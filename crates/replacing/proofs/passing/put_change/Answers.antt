@@ -1,8 +1,0 @@
-use Rattle.sourcecalls.specs.Calls.{seen}
-use Rattle.std.proofs.Common.{arith, refl, subst, sym}
-use Rattle.replacing.specs.Put.{MayPut}
-use Rattle.replacing.proofs.Steps.{on_ok, pass_step}
-use Rattle.replacing.proofs.passing.put_change.Goals as goal
-
-pub returns : goal.returns
-returns c = on_ok (pass_step c.args.idioms _ _ _ (seen c.args.call.now) _ _ _ _ _ c.requires.begun c.requires.call c.requires.goes (subst (MayPut c.args.idioms c.args.text.now (seen c.args.call.now)) (sym c.as_slice.ensures.value) c.requires.put) (omega (arith, c.if-change-pass.false)) (c.if-not-is_around.ensures refl)) c.write_change.result c.write_change.ensures

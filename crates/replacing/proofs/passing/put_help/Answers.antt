@@ -1,7 +1,0 @@
-use Rattle.sourcecalls.specs.Calls.{seen}
-use Rattle.std.proofs.Common.{arith, refl}
-use Rattle.replacing.proofs.Steps.{on_ok, help_step}
-use Rattle.replacing.proofs.passing.put_help.Goals as goal
-
-pub returns : goal.returns
-returns c = on_ok (help_step c.args.idioms _ _ _ (seen c.args.call.now) _ _ _ _ c.requires.begun c.requires.call c.requires.declares (omega (arith, c.if-start-pass.false)) (c.if-not-is_old_help.ensures refl)) c.write_change.result c.write_change.ensures

@@ -1,6 +1,0 @@
-use Rattle.std.proofs.Common.{subst, sym}
-use Rattle.replacing.specs.Rewritten as specs
-use Rattle.replacing.proofs.passing.replaced_once.Goals as goal
-
-pub pass_calls-requires-clause-begun : goal.pass_calls-requires-clause-begun
-pass_calls-requires-clause-begun c = subst (specs.IsPass c.args.idioms c.args.text.now 0) (sym c.new.ensures.items) specs.IsPass.begun

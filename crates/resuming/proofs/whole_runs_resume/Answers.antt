@@ -1,5 +1,0 @@
-use Rattle.resuming.proofs.WholeRuns as lemmas
-use Rattle.resuming.proofs.whole_runs_resume.Goals as goal
-
-pub returns : goal.returns
-returns c = record { law = lemmas.whole_runs_resume }

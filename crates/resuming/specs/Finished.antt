@@ -1,2 +1,0 @@
--- A run under given replies, with those that it takes and those that it leaves.
-pub use Rattle.laws.specs.Finished.{Finished, with_taken, finish, Enough}

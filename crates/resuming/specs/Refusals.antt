@@ -1,2 +1,0 @@
--- A law of cuts: a run is cut exactly if a reply is refused.
-pub use Rattle.laws.specs.Refusals.{CutJustThere, CutsAtRefusals}

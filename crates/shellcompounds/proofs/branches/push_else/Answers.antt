@@ -1,7 +1,0 @@
-use Rattle.std.proofs.Common.{refl}
-use Rattle.shellcompounds.specs.Ifs as specs
-use Rattle.shellcompounds.proofs.Steps.{on_true}
-use Rattle.shellcompounds.proofs.branches.push_else.Goals as goal
-
-pub returns : goal.returns
-returns c = on_true (λ adds. specs.AreAllBranches.default c.requires (c.if-not-is_word.ensures refl) adds) c.push_body.result c.push_body.ensures

@@ -1,7 +1,0 @@
-use Rattle.std.proofs.Common.{refl}
-use Rattle.shellcompounds.specs.Cases as specs
-use Rattle.shellcompounds.proofs.Steps.{on_some}
-use Rattle.shellcompounds.proofs.cases.last_body.Goals as goal
-
-pub returns-then-are_blank_to : goal.returns-then-are_blank_to
-returns-then-are_blank_to c = let blank = c.if-are_blank_to.ensures refl in on_some (λ b is. specs.IsLastBody.closed _ is blank.0 blank.1) c.closed_body.result c.closed_body.ensures

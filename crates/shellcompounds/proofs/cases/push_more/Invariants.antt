@@ -1,6 +1,0 @@
-use Rattle.std.proofs.Common.{map}
-use Rattle.shellcompounds.specs.Cases.{AreBranches}
-use Rattle.shellcompounds.proofs.cases.push_more.Given as goal
-
-abbrev pub invariant-loop-i : goal.invariant-loop-i
-invariant-loop-i l = AreBranches l.text l.start l.end (map (λ p. p.now) l.out.items)

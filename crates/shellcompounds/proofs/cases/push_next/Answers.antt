@@ -1,6 +1,0 @@
-use Rattle.shellcompounds.specs.Cases as specs
-use Rattle.shellcompounds.proofs.Steps.{on_true}
-use Rattle.shellcompounds.proofs.cases.push_next.Goals as goal
-
-pub returns : goal.returns
-returns c = on_true (λ adds. specs.AreBranches.next c.requires adds) c.push_branch.result c.push_branch.ensures

@@ -1,6 +1,0 @@
-use Rattle.std.proofs.Common.{◌≡◌, ℕ, ◌<◌}
-use Rattle.shellcompounds.specs.Guards.{IsStatusAt}
-use Rattle.shellcompounds.proofs.status.reads_status.Given as goal
-
-abbrev pub invariant-loop-i : goal.invariant-loop-i
-invariant-loop-i l = (k : ℕ) → k < l.i → IsStatusAt l.text k → ⊥

@@ -1,6 +1,0 @@
-use Rattle.std.proofs.Common.{subst, sym}
-use Rattle.shellforms.specs.Formed as specs
-use Rattle.shellforms.proofs.passing.formed_once.Goals as goal
-
-pub pass_cuts-requires : goal.pass_cuts-requires
-pass_cuts-requires c = record { begun = subst (specs.IsPass c.args.text.now 0) (sym c.new.ensures.items) specs.IsPass.begun }

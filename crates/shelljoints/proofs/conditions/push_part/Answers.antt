@@ -1,5 +1,0 @@
-use Rattle.shelljoints.proofs.Becoming.{stepped}
-use Rattle.shelljoints.proofs.conditions.push_part.Goals as goal
-
-pub returns : goal.returns
-returns c = stepped c.args.is_condition c.args.part.now _ _ _ c.in_ok-text.ensures c.in_ok-push.ensures.items

@@ -1,7 +1,0 @@
-use Rattle.std.proofs.Common.{true, [], subst, sym}
-use Rattle.shelljoints.specs.Joints.{HaveBecome}
-use Rattle.shelljoints.specs.Joints as specs
-use Rattle.shelljoints.proofs.conditions.push_parts.Goals as goal
-
-pub loop-part-init : goal.loop-part-init
-loop-part-init c = subst (HaveBecome true []) (sym c.requires) specs.HaveBecome.begun

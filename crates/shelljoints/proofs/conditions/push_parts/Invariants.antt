@@ -1,6 +1,0 @@
-use Rattle.std.proofs.Common.{map, take}
-use Rattle.shelljoints.specs.Joints.{HaveBecome}
-use Rattle.shelljoints.proofs.conditions.push_parts.Given as goal
-
-abbrev pub invariant-loop-part : goal.invariant-loop-part
-invariant-loop-part l = HaveBecome l.is_condition (map (λ p. p.now) (take l.part-index l.parts)) l.out.items

@@ -1,7 +1,0 @@
-use Rattle.std.proofs.Common.{subst, sym}
-use Rattle.shelljoints.specs.Joints as specs
-use Rattle.shelljoints.proofs.joints.read_after.Goals as goal
-
-pub read_whole-requires : goal.read_whole-requires
-read_whole-requires c =
-    record { begun = subst (specs.IsBegun c.args.operator.now c.args.joint.now c.args.text.now c.args.at) (sym c.in_ok-out.ensures.items) (specs.IsBegun.first c.requires) }

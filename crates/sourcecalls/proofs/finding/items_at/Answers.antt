@@ -1,6 +1,0 @@
-use Rattle.std.proofs.Common.{arith}
-use Rattle.sourcecalls.proofs.Laid.{spelled_placed}
-use Rattle.sourcecalls.proofs.finding.items_at.Goals as goal
-
-pub returns-in-Ok-clause-placed : goal.returns-in-Ok-clause-placed
-returns-in-Ok-clause-placed c = spelled_placed c.in-Ok.ensures.sound.spells (omega (arith, c.requires))

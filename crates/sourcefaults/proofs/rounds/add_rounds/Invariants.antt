@@ -1,5 +1,0 @@
-use Rattle.sourcefaults.specs.Found.{KeepsErrors}
-use Rattle.sourcefaults.proofs.rounds.add_rounds.Given as goal
-
-abbrev pub invariant-loop : goal.invariant-loop
-invariant-loop l = KeepsErrors l.reader.len l.initial.found.items l.found.items

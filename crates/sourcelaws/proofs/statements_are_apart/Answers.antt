@@ -1,5 +1,0 @@
-use Rattle.sourcelaws.proofs.Positions as lemmas
-use Rattle.sourcelaws.proofs.statements_are_apart.Goals as goal
-
-pub returns : goal.returns
-returns c = record { law = lemmas.statements_are_apart; read = lemmas.read_are_apart }

@@ -1,5 +1,0 @@
-use Rattle.sourcelaws.proofs.Counted as lemmas
-use Rattle.sourcelaws.proofs.tools_are_counted.Goals as goal
-
-pub returns : goal.returns
-returns c = record { law = lemmas.tools_are_counted }

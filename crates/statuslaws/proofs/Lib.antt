@@ -1,2 +1,0 @@
-mod Lookups
-mod Agains

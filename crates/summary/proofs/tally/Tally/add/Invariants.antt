@@ -1,7 +1,0 @@
--- The bytes so far are counted.
-use Rattle.std.proofs.Common.{◌≡◌, take}
-use Rattle.summary.specs.Tallies.{after_text}
-use Rattle.summary.proofs.tally.Tally.add.Given as goal
-
-abbrev pub invariant-loop-byte : goal.invariant-loop-byte
-invariant-loop-byte l = l.self ≡ after_text l.fn.self (take l.byte-index l.text)

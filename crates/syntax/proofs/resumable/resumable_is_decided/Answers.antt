@@ -1,5 +1,0 @@
-use Rattle.syntax.proofs.Deciding.{script_decided}
-use Rattle.syntax.proofs.resumable.resumable_is_decided.Goals as goal
-
-pub returns : goal.returns
-returns c = λ own tested script. script_decided own tested script

@@ -1,5 +1,0 @@
-use Rattle.findings.specs.Within.{KeepsWithin}
-use Rattle.templatewarnings.proofs.headers.warn_of_lines.Given as goal
-
-abbrev pub invariant-loop-line : goal.invariant-loop-line
-invariant-loop-line l = KeepsWithin l.file l.text l.initial.out.items l.out.items

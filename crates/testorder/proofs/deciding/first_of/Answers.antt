@@ -1,5 +1,0 @@
-use Rattle.testorder.proofs.NameLists.{first_is}
-use Rattle.testorder.proofs.deciding.first_of.Goals as goal
-
-pub returns : goal.returns
-returns c = first_is c.args.names.now c.min.result c.min.ensures

@@ -1,9 +1,0 @@
-use Rattle.std.proofs.Common.{◌++◌, take}
-use Rattle.testorder.specs.Tested.{HasSameNames, Extends}
-use Rattle.testorder.proofs.tested.Tested.add_all.Given as goal
-
-abbrev pub invariant-loop-name : goal.invariant-loop-name
-invariant-loop-name l = record {
-  added : HasSameNames (take l.name-index l.names ++ l.fn.self) l.self;
-  grown : Extends l.fn.self l.self;
-}

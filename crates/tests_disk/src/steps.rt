@@ -1,0 +1,144 @@
+//! What a receiver does to a disk, step by step.
+
+ghost use Rattle.std.specs.Prelude.{◌≡◌, []};
+
+use crate::done::Step;
+use crate::files::artifacts_of;
+use crate::memory::MemoryDisk;
+use deftable::Bytes;
+use file_texts::FileOutputs;
+use output_put::{Artifact, put_all};
+use std::process::Abort;
+use std::test::Fail;
+use test_rows::{Page, RowCall, cut, try_rows};
+
+/// Puts a step, and a semicolon.
+fn put_step(page: &mut Page, step: &Step) {
+    match step {
+        Step::MadeDirectories(name) => put_named(page, b"directories ", name),
+        Step::Made(name) => put_named(page, b"made ", name),
+        Step::Filled(name, mode, text) => put_filled(page, name, *mode, text),
+        Step::Failed(name) => put_named(page, b"failed ", name),
+        Step::Renamed(from, to) => {
+            page.put(b"renamed ");
+            page.put(from.as_slice());
+            put_named(page, b" to ", to);
+        }
+        Step::Removed(name) => put_named(page, b"removed ", name),
+    }
+}
+
+fn put_named(page: &mut Page, verb: &[u8], name: &Bytes) {
+    page.put(verb);
+    page.put(name.as_slice());
+    page.put(b";");
+}
+
+fn put_filled(page: &mut Page, name: &Bytes, mode: Option<u32>, text: &Bytes) {
+    page.put(b"filled ");
+    page.put(name.as_slice());
+    if let Some(mode) = mode {
+        page.put(b" ");
+        page.put_shown(&mode);
+    }
+    page.put_text(text.as_slice());
+    page.put(b";");
+}
+
+/// Puts whether the receiver took the last file: its name, a blank and its text. If there is no
+/// name, does nothing.
+fn put_closed<R: Abort>(
+    page: &mut Page,
+    outputs: &mut FileOutputs<MemoryDisk<'_, R>>,
+    words: &[u8],
+) {
+    let (name, text) = cut(words, b" ");
+    if !name.is_empty() {
+        page.put_yes(outputs.close(name, text).is_ok());
+    }
+}
+
+/// Puts the lines of a receiver, and what was done.
+fn put_receiver<R: Abort>(page: &mut Page, outputs: &FileOutputs<MemoryDisk<'_, R>>) {
+    page.put_text(outputs.lines());
+    for step in outputs.disk().steps() {
+        put_step(page, step);
+    }
+}
+
+/// Hands over artifacts, and then closes the receiver, if a last file is named.
+fn put_before<R: Abort>(
+    page: &mut Page,
+    disk: MemoryDisk<'_, R>,
+    artifacts: &[Artifact],
+    last: &[u8],
+)
+    requires { disk.steps.items ≡ [] }
+{
+    let mut outputs = FileOutputs::new(page.alloc(), disk);
+    page.put_yes(put_all(&mut outputs, artifacts).is_ok());
+    put_closed(page, &mut outputs, last);
+    put_receiver(page, &outputs);
+}
+
+/// Closes a receiver, and then hands over artifacts.
+fn put_after<R: Abort>(
+    page: &mut Page,
+    disk: MemoryDisk<'_, R>,
+    artifacts: &[Artifact],
+    last: &[u8],
+)
+    requires { disk.steps.items ≡ [] }
+{
+    let (name, text) = cut(last, b" ");
+    let mut outputs = FileOutputs::new(page.alloc(), disk);
+    page.put_yes(outputs.close(name, text).is_ok());
+    page.put_yes(put_all(&mut outputs, artifacts).is_ok());
+    put_receiver(page, &outputs);
+}
+
+/// A row has four parts, with bars between them: the name of the one file that is found, a blank
+/// and its text; `full`, if no file can be filled, or `closed`, if the receiver is closed first;
+/// the artifacts, with semicolons between them; and the last file.
+#[derive(Drop)]
+struct Deeds<'a, R: Abort> {
+    rt: &'a R,
+}
+
+impl<R: Abort> RowCall for Deeds<'_, R> {
+    fn put(&self, page: &mut Page, given: &[u8]) {
+        let (file, rest) = cut(given, b"|");
+        let (word, rest) = cut(rest, b"|");
+        let (words, last) = cut(rest, b"|");
+        let artifacts = artifacts_of(page, words);
+        let disk = MemoryDisk::new(self.rt, page.alloc(), file, word == b"full".as_slice());
+        match word {
+            b"closed" => put_after(page, disk, artifacts.as_slice(), last),
+            _ => put_before(page, disk, artifacts.as_slice(), last),
+        }
+    }
+}
+
+const STEPS: &[u8] = b"\
+// a new file, with its directory, and one in the place of another, which keeps its permissions
+a x||file d/b y| => yes[config.status: creating d/b^J]directories d;made d/acrun-1.tmp;filled d/acrun-1.tmp[y];renamed d/acrun-1.tmp to d/b;
+a x||file a x| => yes[config.status: creating a^J]made acrun-1.tmp;filled acrun-1.tmp 493[x];renamed acrun-1.tmp to a;
+a x||record a y| => yes[]made acrun-1.tmp;filled acrun-1.tmp 420[y];renamed acrun-1.tmp to a;
+// A header or a cache that has its text already is left as it is.
+a x||header a x| => yes[config.status: a is unchanged^J]
+a x||header a y| => yes[config.status: creating a^J]made acrun-1.tmp;filled acrun-1.tmp 493[y];renamed acrun-1.tmp to a;
+d/a x||cache d/a x| => yes[]
+d/a x||cache d/a | => yes[]made d/acrun-1.tmp;filled d/acrun-1.tmp 493[];renamed d/acrun-1.tmp to d/a;
+// The new file of a put that is refused is removed, and nothing is done for what follows it.
+a x|full|header a x;file d/b y;file c z| => no[config.status: a is unchanged^J]directories d;made d/acrun-1.tmp;failed d/acrun-1.tmp;removed d/acrun-1.tmp;
+// The last file is made anew, and what was there is removed. From then on puts are refused.
+a x||file b y|log z => yesyes[config.status: creating b^J]made acrun-1.tmp;filled acrun-1.tmp[y];renamed acrun-1.tmp to b;made log;filled log[z];
+a x||file b y|a z => yesyes[config.status: creating b^J]made acrun-1.tmp;filled acrun-1.tmp[y];renamed acrun-1.tmp to b;removed a;made a;filled a[z];
+a x|closed|file b y|log z => yesno[]made log;filled log[z];
+a x|full|cache a x|log z => yesno[]made log;failed log;
+";
+
+#[test]
+fn steps_of_a_receiver(rt: HostRuntime) -> Result<(), Fail> {
+    try_rows(rt.alloc(), &Deeds { rt: &rt }, STEPS)
+}

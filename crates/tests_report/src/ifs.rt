@@ -1,0 +1,161 @@
+//! Statements of a shell that become calls.
+
+use port_shell::formed;
+use std::test::Fail;
+use test_rows::{Page, RowCall, try_rows};
+
+pub(crate) struct Forms;
+
+impl RowCall for Forms {
+    fn put(&self, page: &mut Page, given: &[u8]) {
+        let made = formed(page.alloc(), given);
+        if let Some(text) = page.given(made) {
+            if text.as_slice() == given {
+                page.put(b"the same");
+            } else {
+                page.put(text.as_slice());
+            }
+        }
+    }
+}
+
+/// A text with an `if`, and what becomes of it.
+const IFS: &[u8] = br##"
+if test a = b; then x=1; fi => AS_IF([test a = b], [x=1])
+if test a = b; then x=1; else x=2; fi => AS_IF([test a = b], [x=1], [x=2])
+if test a; then x=1; elif test -n "$b" && ! test -z "$c"; then :; else AC_DEFINE([X]); fi => AS_IF([test a], [x=1], [test -n "$b" && ! test -z "$c"], [:], [AC_DEFINE([X])])
+// on several lines
+if test a = b; then^J  x=1^Jfi => AS_IF([test a = b], [^J  x=1^J])
+if test a = b^Jthen x=1^J  else^J  x=2^J  fi => AS_IF([test a = b], [x=1^J  ], [^J  x=2^J  ])
+if^J  test a = b ; ^J then^J^Jx=1^J^Jfi => AS_IF([test a = b], [^J^Jx=1^J^J])
+if test a = b; then x=1; y=2 ; fi => AS_IF([test a = b], [x=1; y=2])
+if test a = b; then x=1;^Jfi => AS_IF([test a = b], [x=1;^J])
+if test a = b;then^Ix=1;fi => AS_IF([test a = b], [x=1])
+if test a = b; then^M^J  x=1^M^Jfi^M^J => AS_IF([test a = b], [^J  x=1^M^J])^M^J
+// nested
+if a; then^J if test b; then^J  x=1^J fi^Jfi => if a; then^J AS_IF([test b], [^J  x=1^J ])^Jfi
+if :; then^J if test b; then^J  x=1^J fi^Jfi => AS_IF([:], [^J AS_IF([test b], [^J  x=1^J ])^J])
+if :; then if true; then if false; then x=1; fi; fi; else if true; then x=2; fi; fi => AS_IF([:], [AS_IF([true], [AS_IF([false], [x=1])])], [AS_IF([true], [x=2])])
+AS_IF([:], [if :; then x=1; fi]) => AS_IF([:], [AS_IF([:], [x=1])])
+AC_ARG_ENABLE([x], [a help], [^J  if :; then x=1; fi^J], [if :; then x=2; fi]) => AC_ARG_ENABLE([x], [a help], [^J  AS_IF([:], [x=1])^J], [AS_IF([:], [x=2])])
+AC_CACHE_CHECK([for x], [x_cv_x], [if :; then x_cv_x=1; fi]) => AC_CACHE_CHECK([for x], [x_cv_x], [AS_IF([:], [x_cv_x=1])])
+// before and after it
+a=1; if :; then x=1; fi; b=2 => a=1; AS_IF([:], [x=1]); b=2
+  if :; then x=1; fi # a comment =>   AS_IF([:], [x=1]) # a comment
+if :; then x=1; fi#a => the same
+if :; then x=1; fi dnl a => the same
+if :; then x=1; fi | cat => the same
+if :; then x=1; fi > f => the same
+if :; then x=1; fi && y=1 => the same
+if :; then x=1; fi & => the same
+a && if :; then x=1; fi => the same
+a ||^J  if :; then x=1; fi => the same
+a | if :; then x=1; fi => the same
+! if :; then x=1; fi => the same
+echo if :; then x=1; fi => the same
+AC_SUBST([x]) if :; then x=1; fi => the same
+if if :; then x=1; fi; then y=1; fi => the same
+// comments
+if :; then # one^J  x=1 # two^J  # three^Jelse # four^J  x=2^Jfi => AS_IF([:], [# one^J  x=1 # two^J  # three^J], [# four^J  x=2^J])
+if :; then^J  # don't [x]^J  x=1^Jfi => AS_IF([:], [^J  # don't [x]^J  x=1^J])
+if :; then^J  # a [^J  x=1^Jfi => the same
+if :; then^J  dnl a ]^J  x=1^Jfi => the same
+if :; then^J  dnl it's^J  x=1^Jfi => AS_IF([:], [^J  dnl it's^J  x=1^J])
+if :; then x=1 # one; fi^Jfi => AS_IF([:], [x=1 # one; fi^J])
+if :; then x=1 dnl one; fi^Jfi => AS_IF([:], [x=1 dnl one; fi^J])
+if test a = b # one^Jthen x=1; fi => the same
+if test a = b; dnl one^Jthen x=1; fi => the same
+if test a = #b^Jthen x=1; fi => the same
+# if :; then x=1; fi => the same
+dnl if :; then x=1; fi => the same
+// what isn't of the profile
+if test -f a; then x=1; fi => the same
+if :; then x=`a`; fi => the same
+if :; then x=1; else mkdir a; fi => the same
+if :; then AC_NOPE; fi => the same
+if :; then AC_CONFIG_FILES([a]); fi => the same
+if :; then AC_OUTPUT; fi => the same
+if test a = AC_FOO; then x=1; fi => the same
+if test a = dnl; then x=1; fi => the same
+if test -n^J"$a"; then x=1; fi => the same
+if test a && \^J  test b; then x=1; fi => the same
+if :; then x=1 \^Jfi => the same
+if :; then x=1; fi; fi => AS_IF([:], [x=1]); fi
+if :; then; fi => the same
+if :; x=1; fi => the same
+if :; then x=[a]; fi => AS_IF([:], [x=[a]])
+if test a = [[b]]; then x=1; fi => AS_IF([test a = [[b]]], [x=1])
+if :; then x="fi; then"; fi => AS_IF([:], [x="fi; then"])
+if :; then x='; fi'; fi => AS_IF([:], [x='; fi'])
+if :; then x=a\;b; fi => AS_IF([:], [x=a\;b])
+if :; then x="dnl"; fi => the same
+if test 'a; then b' = "c; then d"; then x=1; fi => AS_IF([test 'a; then b' = "c; then d"], [x=1])
+// `-a` and `-o`
+if test "$a" = b -a -n "$c"; then x=1; fi => AS_IF([test "$a" = b && test -n "$c"], [x=1])
+if test "$a" = b -o -z "$c" -o $d != e; then x=1; else x=2; fi => AS_IF([test "$a" = b || test -z "$c" || test $d != e], [x=1], [x=2])
+if :; then x=1; elif test a -a "$b"; then x=2; fi => AS_IF([:], [x=1], [test a && test "$b"], [x=2])
+if test a -a b && test c -a d; then x=1; fi => AS_IF([test a && test b && test c && test d], [x=1])
+if test a -o b ||  test c; then x=1; fi => AS_IF([test a || test b ||  test c], [x=1])
+if test "a -a b" = c -a "d -o e" != "f && g"; then x=1; fi => AS_IF([test "a -a b" = c && test "d -o e" != "f && g"], [x=1])
+if test a  -a^Ib ; then x=1; fi => AS_IF([test a  && test^Ib], [x=1])
+if test x$a = x-a -a -z ${b}; then x=1; fi => AS_IF([test x$a = x-a && test -z ${b}], [x=1])
+if test $a = -a -a b; then x=1; fi => AS_IF([test $a = -a && test b], [x=1])
+if test a -o b -a c; then x=1; fi => the same
+if test a -a b || test c; then x=1; fi => the same
+if test a || test b -a c; then x=1; fi => the same
+if test a -a b && ! test c; then x=1; fi => the same
+if ! test a -a b; then x=1; fi => the same
+if test ! a -a b; then x=1; fi => the same
+if test a -a ! b; then x=1; fi => the same
+if test "!" -a b; then x=1; fi => the same
+if test \( a -a b \); then x=1; fi => the same
+if test "(" -a ")"; then x=1; fi => the same
+if test -n = -a b; then x=1; fi => the same
+if test -n -a b; then x=1; fi => the same
+if test a -a -f b; then x=1; fi => the same
+if test a -eq b -a c; then x=1; fi => the same
+if test a\ -a b; then x=1; fi => the same
+if test a = [b] -a c; then x=1; fi => the same
+if test a -a; then x=1; fi => the same
+if test -a b; then x=1; fi => the same
+if test a-a b; then x=1; fi => the same
+if test a -ab; then x=1; fi => the same
+if :; then x=1; else test a -a b; fi => the same
+// where it isn't done
+[if :; then x=1; fi] => the same
+[if] :; then x=1; fi => the same
+AC_NOPE([if :; then x=1; fi]) => the same
+AC_MSG_NOTICE([if :; then x=1; fi]) => the same
+AC_DEFINE([X], [if :; then x=1; fi]) => the same
+echo "^Jif :; then x=1; fi^J" => the same
+echo '^Jif :; then x=1; fi^J' => the same
+a=`^Jif :; then x=1; fi^J` => the same
+a=$(^Jif :; then x=1; fi^J) => the same
+(^Jif :; then x=1; fi^J) => the same
+{^Jif :; then x=1; fi^J} => the same
+f() {^Jif :; then x=1; fi^J} => the same
+f ()^Jif :; then x=1; fi => the same
+for i in a b; do^Jif :; then x=1; fi^Jdone => the same
+for i^Jdo^Jif :; then x=1; fi^Jdone => the same
+while a; do^Jif :; then x=1; fi^Jdone => the same
+until a^Jdo if :; then x=1; fi^Jdone => the same
+for i in a b; do^JAS_IF([:], [if :; then x=1; fi])^Jdone => the same
+cat <<A^Jif :; then x=1; fi^JA => the same
+cat <<-'A B'^Jif :; then x=1; fi^J^IA B^Jif :; then x=2; fi => cat <<-'A B'^Jif :; then x=1; fi^J^IA B^JAS_IF([:], [x=2])
+cat << \A <<B^JA^Jif :; then x=1; fi^JB^Jif :; then x=2; fi => cat << \A <<B^JA^Jif :; then x=1; fi^JB^JAS_IF([:], [x=2])
+cat <<A^JAS_IF([:], [if :; then x=1; fi])^JA => the same
+// after what is none of these
+for i in a b; do c; done^Jif :; then x=1; fi => for i in a b; do c; done^JAS_IF([:], [x=1])
+f() { a; }^Jif :; then x=1; fi => f() { a; }^JAS_IF([:], [x=1])
+(a; b)^Jif :; then x=1; fi => (a; b)^JAS_IF([:], [x=1])
+a=${b-if}; if :; then x=1; fi => a=${b-if}; AS_IF([:], [x=1])
+a="`b "c"`"; if :; then x=1; fi => a="`b "c"`"; AS_IF([:], [x=1])
+a=$((1 << 2)); if :; then x=1; fi => a=$((1 << 2)); AS_IF([:], [x=1])
+case a in b) c;; (d|if) e;; *) f; esac; if :; then x=1; fi => case a in b) c;; (d|if) e;; *) f; esac; AS_IF([:], [x=1])
+case $a in^J  b) if :; then x=1; fi ;;^J  c) f;;^J  *)^J    if :; then x=2; fi^Jesac => case $a in^J  b) AS_IF([:], [x=1]) ;;^J  c) f;;^J  *)^J    AS_IF([:], [x=2])^Jesac
+"##;
+
+#[test]
+fn ifs(rt: HostRuntime) -> Result<(), Fail> {
+    try_rows(rt.alloc(), &Forms, IFS)
+}

@@ -1,0 +1,62 @@
+//! The errors that are found by reading on after each.
+
+use lint_all::all_errors;
+use lint_findings::Finding;
+use std::test::Fail;
+use test_rows::{Page, RowCall, try_rows};
+
+/// Puts the code of an error and its text.
+fn put_error(page: &mut Page, text: &[u8], error: &Finding) {
+    page.put(b" ");
+    page.put(error.code.as_slice());
+    page.put(b" ");
+    page.put_number(error.start);
+    page.put_text(
+        text.get(error.start..error.end)
+            .unwrap_or(b"not in the text"),
+    );
+}
+
+fn put_errors(page: &mut Page, text: &[u8], errors: &[Finding]) {
+    for error in errors {
+        put_error(page, text, error);
+    }
+}
+
+struct AllErrors;
+
+impl RowCall for AllErrors {
+    fn put(&self, page: &mut Page, given: &[u8]) {
+        let made = all_errors(page.alloc(), given);
+        if let Some(errors) = page.given(made) {
+            put_errors(page, given, &errors);
+        }
+    }
+}
+
+const ROWS: &[u8] = br##"
+AC_INIT([a], [1])^JAC_OUTPUT =>
+// faults after the first, and after an unknown call
+AC_INIT([a], [1])^JAC_DEFINE^JAC_SUBST([a-b])^JAC_A^Jx y^JAC_OUTPUT =>  parse-4 18[AC_DEFINE] parse-5 37[[a-b]] parse-2 44[AC_A] parse-3 49[x y]
+AC_INIT([a], [1])^JAC_A^JAC_DEFINE^JAC_OUTPUT =>  parse-2 18[AC_A] parse-4 23[AC_DEFINE]
+// within statements
+AC_INIT([a], [1])^JAS_IF([ls], [mkdir b^J  AC_SUBST])^JAC_OUTPUT =>  parse-6.2 24[[ls]] parse-3 31[mkdir b] parse-4 41[AC_SUBST]
+// no error for a word that ends a construct, but for the first fault
+AC_INIT([a], [1])^Jif b; then^J  c=1^Jelse^J  AC_A^Jfi^JAC_OUTPUT =>  parse-3 18[if b; then] parse-2 42[AC_A]
+AC_INIT([a], [1])^Jfi^Jls^JAC_OUTPUT =>  parse-3 18[fi] parse-3 21[ls]
+// the ends of a source
+x=1^JAC_SUBST([a-b]) =>  parse-8 0[x=1] parse-5 13[[a-b]] parse-9 19[]
+AC_INIT([a], [1])^JAC_OUTPUT^Jls^Jx=1 =>  parse-10 28[ls] parse-10 31[x=1]
+// in a comment of m4, which is none of the shell; what is marked ends before a bracket
+AC_INIT([a], [1])^Ja='#[31m'dnl ; AC_])^JAC_OUTPUT =>  parse-3 33[AC_]
+// quotes alone
+AC_INIT([a], [1])^JAC_DEFINE^J]^JAC_SUBST =>  parse-1.3 28[]]
+// one error for the line ends of a file
+AC_INIT([a], [1])^Jls^M^JAC_DEFINE^M^Jmkdir b^M^JAC_OUTPUT =>  parse-3 18[ls^M] parse-4 22[AC_DEFINE]
+AC_INIT([a], [1])^JAC_CHECK_FUNCS ([b])^JAC_OUTPUT =>  parse-4 18[AC_CHECK_FUNCS]
+"##;
+
+#[test]
+fn found_by_reading_on(rt: HostRuntime) -> Result<(), Fail> {
+    try_rows(rt.alloc(), &AllErrors, ROWS)
+}

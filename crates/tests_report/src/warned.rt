@@ -1,0 +1,85 @@
+//! Warnings about what a shell or Autoconf reads otherwise.
+
+use ac_calls::calls_of;
+use ac_tree::Source;
+use acparse::parse;
+use lint_findings::Finding;
+use lint_warnings::{warn_of_calls, warn_of_source};
+use std::alloc::{AllocError, Global};
+use std::test::Fail;
+use test_rows::{Page, RowCall, try_rows};
+
+/// Puts the code of a warning, its line and its text.
+fn put_warning(page: &mut Page, text: &[u8], warning: &Finding) {
+    page.put(b" ");
+    page.put(warning.code.as_slice());
+    page.put(b" ");
+    page.put_text(
+        text.get(warning.start..warning.end)
+            .unwrap_or(b"not in the text"),
+    );
+}
+
+fn put_warnings(page: &mut Page, text: &[u8], warnings: &[Finding]) {
+    for warning in warnings {
+        put_warning(page, text, warning);
+    }
+}
+
+/// Returns the source that a text is, if it is read.
+fn source_of(alloc: Global, text: &[u8]) -> Option<Source> {
+    parse(alloc, text).ok()
+}
+
+/// Returns the warnings about a source.
+fn warnings_of(alloc: Global, text: &[u8]) -> Result<Vec<Finding>, AllocError> {
+    let calls = calls_of(alloc, text)?;
+    let mut found = Vec::new(alloc);
+    warn_of_calls(alloc, text, calls.as_slice(), &mut found)?;
+    if let Some(source) = source_of(alloc, text) {
+        warn_of_source(alloc, text, calls.as_slice(), &source, &mut found)?;
+    }
+    Ok(found)
+}
+
+struct Warnings;
+
+impl RowCall for Warnings {
+    fn put(&self, page: &mut Page, given: &[u8]) {
+        let made = warnings_of(page.alloc(), given);
+        if let Some(warnings) = page.given(made) {
+            put_warnings(page, given, &warnings);
+        }
+    }
+}
+
+const ROWS: &[u8] = br##"
+AC_INIT([a], [1])^JAC_OUTPUT =>
+// variables that a configure script sets: each once, and none that is set, declared or only named in a comment
+AC_INIT([a], [1])^JAS_IF([test "$GCC" = yes], [x="${GCC}$host_os"])^JAC_OUTPUT =>  script-variable [GCC] script-variable [host_os]
+AC_INIT([a], [1])^JGCC=1^JAC_ARG_VAR([host], [b])^J# $build^Jx="$GCC$host$PACKAGE_NAME$other"^JAC_OUTPUT =>
+AC_INIT([a], [1])^JAC_SUBST([PACKAGE])^JAC_SUBST([VERSION], [2])^JAC_SUBST([EXEEXT])^JAC_OUTPUT =>  script-variable [AC_SUBST]
+AC_INIT([a], [1])^JAC_PROG_CC^JAC_CHECK_FUNCS([f])^Jx="$ac_cv_func_f $ac_cv_func_g"^JAC_OUTPUT =>  script-variable [ac_cv_func_g] not-resumable [x="$ac_cv_func_f $ac_cv_func_g"]
+AC_INIT([a], [1])^JAS_CASE([$build_cpu], [b], [c=1])^JAC_MSG_NOTICE([$as_me])^JAC_OUTPUT =>  script-variable [build_cpu] script-variable [as_me]
+// in a source that is refused, it isn't known what is set
+AC_INIT([a], [1])^JAC_A^Jx="$GCC"^JAC_OUTPUT =>
+// the home directory, and quotes after a dollar sign
+AC_INIT([a], [1])^Jx=a:~/b y=a~ z='~' w=\~^JAC_OUTPUT =>  tilde [~]
+AC_INIT([a], [1])^JAC_SUBST([x], [~/b])^JAC_OUTPUT =>  tilde [~]
+AC_INIT([a], [1])^JAC_MSG_NOTICE([a=~/b $'c'])^J# x=~ don't^Jdnl x=~^Jx="a:~"^JAC_OUTPUT =>
+AC_INIT([a], [1])^Jx=$'a'^Jy="$" z='$'^JAC_OUTPUT =>  dollar-quote [$']
+// words of tests that are variables alone
+AC_INIT([a], [1])^JAS_IF([test $a != b || test -n "$c"], [], [test x$d = x, :], [])^JAC_OUTPUT =>  unquoted-word [$a]
+AC_INIT([a], [1])^JAS_IF([test -z ${a}$b], [AS_IF([test c = $d], [e=$f])])^JAC_OUTPUT =>  unquoted-word [${a}$b]
+AC_INIT([a], [1])^JAS_IF([test "$a" = "b $c"], [d=$e], [f=$g])^JAC_OUTPUT =>
+AC_INIT([a], [1])^Jif test $a = b; then^JAC_OUTPUT =>  unquoted-word [$a]
+// declarations of headers that Autoconf's default includes have
+AC_INIT([a], [1])^JAC_PROG_CC^JAC_CHECK_TYPES([size_t, uint8_t], [], [], [#include <stdint.h>])^JAC_OUTPUT =>
+AC_INIT([a], [1])^JAC_PROG_CC^JAC_CHECK_TYPES([size_t, uint8_t])^JAC_CHECK_TYPE([intmax_t])^JAC_OUTPUT =>  fewer-includes [AC_CHECK_TYPES]
+AC_INIT([a], [1])^JAC_PROG_CC^JAC_CHECK_DECLS([getopt, struct stat, puts, PRIu8])^JAC_OUTPUT =>  fewer-includes [AC_CHECK_DECLS] fewer-includes [AC_CHECK_DECLS] fewer-includes [AC_CHECK_DECLS]
+"##;
+
+#[test]
+fn found_warnings(rt: HostRuntime) -> Result<(), Fail> {
+    try_rows(rt.alloc(), &Warnings, ROWS)
+}

@@ -1,0 +1,210 @@
+//! Children whose pipe or end fails where a test says so, or which can't be looked at.
+
+use crate::ended_children::put_ready;
+use std::alloc::Allocator;
+use std::cell::Cell;
+use std::fs::{Metadata, OpenOptions};
+use std::io::{self, Empty, ErrorKind, Sink};
+use std::os::unix::process::ExitStatusExt;
+use std::process::{Child, Command, ExitStatus, OpenProcess, Processes, Stdio};
+use std::rt::Files;
+use std::test::Fail;
+use test_crews::children::{Work, job_of, put_children};
+use test_crews::streams::{Pipe, pipe_of};
+use test_rows::{Page, RowCall, cut, number_of, try_rows};
+
+/// Ends with a status as `waitpid` gives it, or fails if the text of the status is empty; its waits are counted. If it is looked
+/// at, it has ended (`y`), it has not (`n`), or the look fails.
+#[derive(Drop)]
+struct Process<'a> {
+    status: &'a [u8],
+    waits: &'a Cell<u64>,
+    look: u8,
+}
+
+impl Process<'_> {
+    fn ended(&self) -> ExitStatus {
+        ExitStatus::from_raw(number_of(self.status).min(65_535) as i32)
+    }
+}
+
+impl<'a> OpenProcess for Process<'a> {
+    type Stdin = Sink;
+
+    type Stdout = Empty;
+
+    type Stderr = Pipe;
+
+    fn id(&self) -> u32 {
+        1
+    }
+
+    fn wait(&mut self) -> io::Result<ExitStatus> {
+        self.waits.set(self.waits.get().saturating_add(1));
+        if self.status.is_empty() {
+            return Err(io::Error::from(ErrorKind::Other));
+        }
+        Ok(self.ended())
+    }
+
+    fn try_wait(&mut self) -> io::Result<Option<ExitStatus>> {
+        match self.look {
+            b'y' => Ok(Some(self.ended())),
+            b'n' => Ok(None),
+            _ => Err(io::Error::from(ErrorKind::Other)),
+        }
+    }
+}
+
+/// The system, but each child that is started has this pipe and this status, and the next of these looks.
+#[derive(Drop)]
+struct System<'a> {
+    rt: &'a HostRuntime,
+    pipe: &'a [u8],
+    status: &'a [u8],
+    waits: &'a Cell<u64>,
+    looks: &'a [u8],
+    started: Cell<usize>,
+}
+
+impl<'a> Processes for System<'a> {
+    type Started = Process<'a>;
+
+    fn spawn<B: Allocator + Clone>(
+        &self,
+        _command: &Command<B>,
+        _stdin: &Stdio,
+        _stdout: &Stdio,
+        _stderr: &Stdio,
+    ) -> io::Result<Child<Process<'a>>> {
+        let number = self.started.get();
+        self.started.set(number.saturating_add(1));
+        let process = Process {
+            status: self.status,
+            waits: self.waits,
+            look: *self.looks.get(number).unwrap_or(&b'e'),
+        };
+        Ok(Child::from_parts(process, None, None, pipe_of(self.pipe, b'a')))
+    }
+}
+
+impl<'a> Files for System<'a> {
+    type File = <HostRuntime as Files>::File;
+
+    type Dir = <HostRuntime as Files>::Dir;
+
+    fn open_file(&self, how: &OpenOptions, path: &str) -> io::Result<Self::File> {
+        self.rt.open_file(how, path)
+    }
+
+    fn open_dir(&self, path: &str) -> io::Result<Self::Dir> {
+        self.rt.open_dir(path)
+    }
+
+    fn metadata(&self, path: &str) -> io::Result<Metadata> {
+        self.rt.metadata(path)
+    }
+
+    fn symlink_metadata(&self, path: &str) -> io::Result<Metadata> {
+        self.rt.symlink_metadata(path)
+    }
+
+    fn copy(&self, from: &str, to: &str) -> io::Result<u64> {
+        self.rt.copy(from, to)
+    }
+
+    fn rename(&self, from: &str, to: &str) -> io::Result<()> {
+        self.rt.rename(from, to)
+    }
+
+    fn remove_file(&self, path: &str) -> io::Result<()> {
+        self.rt.remove_file(path)
+    }
+
+    fn create_dir(&self, path: &str) -> io::Result<()> {
+        self.rt.create_dir(path)
+    }
+
+    fn remove_dir(&self, path: &str) -> io::Result<()> {
+        self.rt.remove_dir(path)
+    }
+
+    fn remove_dir_all<B: Allocator>(&self, alloc: B, path: &str) -> io::Result<()> {
+        self.rt.remove_dir_all(alloc, path)
+    }
+}
+
+/// A child: its pipe, if it has one, and its status as `waitpid` gives it, if a wait doesn't fail. The answer says also how
+/// often it was waited for. If there are looks, so many children are started, and one that has ended is taken first.
+#[derive(Drop)]
+struct Ends<'a> {
+    rt: &'a HostRuntime,
+}
+
+impl RowCall for Ends<'_> {
+    fn put(&self, page: &mut Page, given: &[u8]) {
+        let (pipe, rest) = cut(given, b"|");
+        let (status, looks) = cut(rest, b"|");
+        let waits = Cell::new(0);
+        let system = System {
+            rt: self.rt,
+            pipe,
+            status,
+            waits: &waits,
+            looks,
+            started: Cell::new(0),
+        };
+        let job = job_of(page, b"true", b"");
+        let work = Work {
+            count: looks.len().max(1),
+            job: &job,
+        };
+        if looks.is_empty() {
+            put_children(page, system, &work);
+        } else {
+            put_ready(page, system, &work);
+        }
+        page.put(b", waits ");
+        page.put_shown(&waits.get());
+    }
+}
+
+const ENDS: &[u8] = b"\
+0 1|1792 =>  0:7:, waits 1
+3 5|1792 =>  0:7:aaaaaaaaaaaaaaa, waits 1
+1023 1|1792 =>  0:7:1023 bytes aaaaaaaaaaaaaaaa .. aaaaaaaaaaaaaaaa, waits 1
+1024 1|1792 =>  0:7:1024 bytes aaaaaaaaaaaaaaaa .. aaaaaaaaaaaaaaaa, waits 1
+1025 1|1792 =>  0:7:1024 bytes aaaaaaaaaaaaaaaa .. aaaaaaaaaaaaaaaa, waits 1
+16 4096|1792 =>  0:7:65536 bytes aaaaaaaaaaaaaaaa .. aaaaaaaaaaaaaaaa, waits 1
+17 4096|1792 =>  0:7:65536 bytes aaaaaaaaaaaaaaaa .. aaaaaaaaaaaaaaaa, waits 1
+1025 4096|1792 =>  0:7:65536 bytes aaaaaaaaaaaaaaaa .. aaaaaaaaaaaaaaaa, waits 1
+2000 1 1025|1792 =>  0:7:1024 bytes aaaaaaaaaaaaaaaa .. aaaaaaaaaaaaaaaa, waits 1
+3 5 0 1|1792 =>  0:7:aaaaaaaaaaaaaaa, waits 1
+3 5 0 1023|1792 =>  0:7:aaaaaaaaaaaaaaa, waits 1
+// a read that fails past what is kept, at the last read, in place of the end, and where there is no pipe
+5 9 1|1792 =>  0:E, waits 1
+5 9 3|1792 =>  0:E, waits 1
+30 4096 20|1792 =>  0:E, waits 1
+2000 1 1024|1792 =>  0:E, waits 1
+5 9 6|1792 =>  0:E, waits 1
+3 5 0 1024|1792 =>  0:E, waits 1
+|1792 =>  0:E, waits 1
+// exit statuses, signals, the second with a core, and a wait that fails
+1 4|0 =>  0:0:aaaa, waits 1
+1 4|256 =>  0:1:aaaa, waits 1
+1 4|32512 =>  0:127:aaaa, waits 1
+1 4|65280 =>  0:255:aaaa, waits 1
+1 4|9 =>  0:256:aaaa, waits 1
+1 4|139 =>  0:256:aaaa, waits 1
+1 4| =>  0:E, waits 1
+// The first that has ended is taken first, and a look that fails is none at one that has. If none has, the oldest is taken.
+0 1|0|nyy =>  1:0: 2:0: 0:0:, waits 1
+0 1|0|ney =>  2:0: 0:0: 1:0:, waits 2
+0 1|0|een =>  0:0: 1:0: 2:0:, waits 3
+0 1|256|nyy =>  1:1: 2:1: 0:1:, waits 1
+";
+
+#[test]
+fn children_that_fail(rt: HostRuntime) -> Result<(), Fail> {
+    try_rows(rt.alloc(), &Ends { rt: &rt }, ENDS)
+}

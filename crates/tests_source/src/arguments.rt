@@ -1,0 +1,438 @@
+//! Forms of arguments, and the text between calls.
+
+use crate::told::{Next, Told, put_made, put_next};
+use ac_args::ParseFault;
+use ac_args::arguments::{cache_name, is_given, line, name, text, title};
+use ac_args::feature::feature_variable;
+use ac_args::helping::{help, sole_call};
+use ac_args::numbers::{language, status, version};
+use ac_args::outputs::outputs;
+use ac_args::program::{includes, program, programs, source_text};
+use ac_args::shell::{here_text, patterns, test, word};
+use ac_statement::fault::{quote_fault, shell_fault};
+use ac_statement::idle::is_idle;
+use ac_statement::inside::{call_items, inside};
+use ac_statement::placement::{LIST_START, is_statement, line_start_of};
+use ac_statement::texts::arg_at;
+use ac_tree::{Help, HelpList, OptionKind, is_feature, option_variable};
+use m4quote::{Arg, Item, QuoteFault, read_items};
+use output_list::{Output, OutputList};
+use shellword::ShellFault;
+use std::test::Fail;
+use test_rows::{Named, Page, RowCall, try_rows};
+
+// ---- texts, names and numbers
+
+/// A reader of an argument that is a text, a name or a number.
+enum Reader {
+    Text,
+    Line,
+    Title,
+    Name,
+    CacheName,
+    Feature,
+    Package,
+    Program,
+    Programs,
+    Version,
+    Status,
+    Language,
+    Word,
+    Here,
+    Source,
+    Includes,
+    Test,
+    Patterns,
+    Inside,
+    Help,
+}
+
+const READERS: [(&[u8], Reader); 20] = [
+    (b"text", Reader::Text),
+    (b"line", Reader::Line),
+    (b"title", Reader::Title),
+    (b"name", Reader::Name),
+    (b"cache_name", Reader::CacheName),
+    (b"feature", Reader::Feature),
+    (b"package", Reader::Package),
+    (b"program", Reader::Program),
+    (b"programs", Reader::Programs),
+    (b"version", Reader::Version),
+    (b"status", Reader::Status),
+    (b"language", Reader::Language),
+    (b"word", Reader::Word),
+    (b"here", Reader::Here),
+    (b"source", Reader::Source),
+    (b"includes", Reader::Includes),
+    (b"test", Reader::Test),
+    (b"patterns", Reader::Patterns),
+    (b"inside", Reader::Inside),
+    (b"help", Reader::Help),
+];
+
+impl RowCall for Reader {
+    fn put(&self, page: &mut Page, given: &[u8]) {
+        let alloc = page.alloc();
+        let arg = Arg { text: given, at: 0 };
+        match self {
+            Reader::Text => put_made(page, text(alloc, arg)),
+            Reader::Line => put_made(page, line(alloc, arg)),
+            Reader::Title => put_made(page, title(alloc, arg)),
+            Reader::Name => put_made(page, name(alloc, arg)),
+            Reader::Feature => put_made(page, feature_variable(alloc, OptionKind::Feature, arg)),
+            Reader::Package => put_made(page, feature_variable(alloc, OptionKind::Package, arg)),
+            Reader::Version => put_made(page, version(alloc, arg)),
+            Reader::Status => put_made(page, status(alloc, arg)),
+            Reader::Language => put_made(page, language(alloc, arg)),
+            _ => self.put_further(page, arg),
+        }
+    }
+}
+
+impl Reader {
+    fn put_further(&self, page: &mut Page, arg: Arg<'_>) {
+        let alloc = page.alloc();
+        match self {
+            Reader::Program => put_made(page, program(alloc, arg)),
+            Reader::Programs => put_made(page, programs(alloc, arg)),
+            Reader::Word => put_made(page, word(alloc, arg)),
+            Reader::Here => put_made(page, here_text(alloc, arg)),
+            Reader::Source => put_made(page, source_text(alloc, arg)),
+            Reader::Includes => put_made(page, includes(alloc, arg)),
+            Reader::Test => put_made(page, test(alloc, arg)),
+            Reader::Patterns => put_made(page, patterns(alloc, arg)),
+            Reader::Inside => put_made(page, inside(alloc, arg)),
+            Reader::CacheName => put_made(page, cache_name(alloc, arg)),
+            _ => put_made(page, help(alloc, arg)),
+        }
+    }
+}
+
+/// The includes are those of the page on AC_INCLUDES_DEFAULT in docs/language.md.
+const READER_ROWS: &[u8] = br#"
+// texts
+text [ a ] => [ a ]
+text [[a]^J] => [a^J]
+text [a => 1.1 at 0
+line [ a ] => [ a ]
+line [a^J] => 5 at 0
+title [ a ] => [a]
+title [a^Jb] => 5 at 0
+// names
+name [ a ] => [a]
+name [a-b] => 5 at 0
+cache_name [ v_cv_x ] => [v_cv_x]
+cache_name _cv_ => [_cv_]
+cache_name [v_cx_x] => 5 at 0
+cache_name [1_cv_x] => 5 at 0
+cache_name [v_cv_x y] => 5 at 0
+cache_name  => 5 at 0
+feature [a-b+c.d] => [enable_a_b_c_d]
+feature  => 5 at 0
+package [ x ] => [with_x]
+package [x y] => 5 at 0
+program [ gcc-12 ] => [gcc-12]
+program [a b] => 5 at 0
+programs [ gcc cc^Ic99 ] => [gcc][cc][c99]
+programs [ ] => 5 at 0
+programs [a $b] => 5 at 0
+// numbers
+version [2.71] => accepted
+version 2.72 => 14 at 0
+version 2. => 5 at 0
+status [007] => 7
+status  => 1
+status 256 => 5 at 0
+language [ C ] => accepted
+language [C++] => 5 at 0
+// shell texts
+word [a$b] => a$[b]
+word [a b] => 6.1 at 0
+here [a $b] => a $[b]
+here [`] => 6.1 at 0
+source [int x = $n;] => int x = $[n];
+source [a^J AC_INCLUDES_DEFAULT^Jb] => a^J#include <stddef.h>^J#include <stdio.h>^J#include <stdlib.h>^J#include <string.h>^J#include <sys/types.h>^Jb
+source [`] => 6.1 at 0
+// includes; none are the default ones
+includes  =>
+includes [[]] =>
+includes [@&t@] =>
+includes [ ^J] =>  with  ^J
+includes [ $a^J] =>  with  $[a]^J
+includes [AC_INCLUDES_DEFAULT] =>  with #include <stddef.h>^J#include <stdio.h>^J#include <stdlib.h>^J#include <string.h>^J#include <sys/types.h>^J
+includes [-] => 5 at 0
+includes [ -^J] => 5 at 0
+includes [--] =>  with --
+includes [`] => 6.1 at 0
+includes [a => 1.1 at 0
+test [test a != b] => yes
+test [a = b] => 6.2 at 0
+patterns [a|b*] => 2 [a] [b]*
+patterns [a|] => 6.3 at 0
+// statements
+inside  [a=1] dnl x => [a=1] at 2
+inside a=1 => [a=1] at 0
+inside [a][b] => 3 at 0
+// help: entries
+help [AS_HELP_STRING([--enable-x],[range @<:@0,1)])] => [--enable-x] [range [0,1)]
+help AS_HELP_STRING([--enable-x],[range @<:@0,1)]) => [--enable-x] [range [0,1)]
+help [AS_HELP_STRING([--x],[end with @:>@])] => [--x] [end with ]]
+help [AS_HELP_STRING(--x, use @%:@ marks)] => [--x] [use # marks]
+help AS_HELP_STRING([--x],[y]) dnl [z]^J => [--x] [y]
+// help: texts of their own making
+help [AS_HELP@&t@_STRING([a],[b])] => [AS_HELP_STRING(a,b)]
+help [AS_HELP_STRING[]][[]] => [AS_HELP_STRING]
+help [a][b] [x [y]] => [ab x y]
+help [AC_FOO(] => [AC_FOO(]
+// AS_HELP_STRING beside something else, and with one text
+help [@%:@ AS_HELP_STRING([a],[b])] => 3 at 0
+help [x] AS_HELP_STRING([a],[b]) => 3 at 0
+help [AS_HELP_STRING([a])] => 4 at 1
+"#;
+
+#[test]
+fn readers(rt: HostRuntime) -> Result<(), Fail> {
+    try_rows(rt.alloc(), &Named(&READERS), READER_ROWS)
+}
+
+// ---- what takes no argument alone
+
+/// A call of another form.
+enum Other {
+    Given,
+    Option,
+    Calls,
+    Idle,
+    Stands,
+    Files,
+    Added,
+    HelpTwice,
+    Errors,
+    Offsets,
+}
+
+const OTHERS: [(&[u8], Other); 10] = [
+    (b"given", Other::Given),
+    (b"option", Other::Option),
+    (b"calls", Other::Calls),
+    (b"idle", Other::Idle),
+    (b"stands", Other::Stands),
+    (b"files", Other::Files),
+    (b"added", Other::Added),
+    (b"twice", Other::HelpTwice),
+    (b"errors", Other::Errors),
+    (b"offsets", Other::Offsets),
+];
+
+/// Puts whether the first of two arguments is given, the second, which is empty, and a third.
+fn put_given(page: &mut Page, arg: Arg<'_>) {
+    let args = [arg, Arg { text: b"[]", at: 0 }];
+    for i in 0..3 {
+        put_made(page, is_given(page.alloc(), arg_at(&args, i)));
+    }
+}
+
+/// Puts whether a text can name a feature, and the variables of a feature and a package of that name.
+fn put_option(page: &mut Page, given: &[u8]) {
+    page.put_yes(is_feature(given));
+    put_made(
+        page,
+        option_variable(page.alloc(), OptionKind::Feature, given),
+    );
+    put_made(
+        page,
+        option_variable(page.alloc(), OptionKind::Package, given),
+    );
+}
+
+/// How many items are looked through for a call in an argument, and if AC_X is called alone among them, with how many
+/// arguments and where.
+fn put_calls(page: &mut Page, items: &[Item<'_>]) {
+    page.put_number(items.len());
+    if let Some((args, at)) = sole_call(b"AC_X", items) {
+        page.put(b" with ");
+        page.put_number(args.len());
+        page.put(b" at ");
+        page.put_number(at);
+    }
+}
+
+/// Returns whether the first call among items is in the place of a statement.
+fn stands(items: &[Item<'_>]) -> bool {
+    let mut line_start = LIST_START;
+    for (i, item) in items.iter().enumerate() {
+        if let Item::Call { name, args, at } = item {
+            let rest = items.get(i.saturating_add(1)..).unwrap_or(&[]);
+            return is_statement(line_start, name, args.as_slice(), *at, rest);
+        }
+        line_start = line_start_of(item);
+    }
+    false
+}
+
+/// What is told of the calls among items.
+impl Next<Vec<Item<'_>>> for Other {
+    fn put_of(&self, page: &mut Page, items: &Vec<Item<'_>>) {
+        match self {
+            Other::Calls => put_calls(page, items),
+            _ => page.put_yes(stands(items)),
+        }
+    }
+}
+
+/// Returns the files that an argument names.
+fn files_of(page: &mut Page, given: &[u8]) -> OutputList {
+    let none = OutputList::new(page.alloc());
+    match outputs(page.alloc(), &none, &none, Arg { text: given, at: 0 }) {
+        Ok(files) => files,
+        Err(_) => none,
+    }
+}
+
+/// The files that an argument names after the file `old` and the header `header`.
+fn put_files(page: &mut Page, arg: Arg<'_>) {
+    let own = files_of(page, b"old");
+    let other = files_of(page, b"header");
+    put_made(page, outputs(page.alloc(), &own, &other, arg));
+}
+
+/// Adds files to a list twice: all at once, and one after another.
+fn add_files(page: &mut Page, files: &mut OutputList, added: &[Output]) {
+    page.given(files.push_copies(page.alloc(), added));
+    for file in added {
+        if let Some(copy) = page.given(file.copy(page.alloc())) {
+            page.given(files.push(copy));
+        }
+    }
+}
+
+/// A list of files to which those of another are added, and one more.
+fn put_added(page: &mut Page, given: &[u8]) {
+    let old = files_of(page, given);
+    let mut files = OutputList::new(page.alloc());
+    page.put_yes(files.is_empty());
+    add_files(page, &mut files, old.as_slice());
+    page.put_yes(files.is_empty());
+    page.put_yes(files.has(b"old"));
+    page.put_yes(files.has(b"old.in"));
+    files.tell(page);
+}
+
+/// Adds a copy to a list of help.
+fn add_copy(page: &mut Page, list: &mut HelpList, help: &Help) {
+    if let Some(copy) = page.given(help.copy(page.alloc())) {
+        page.given(list.push(copy));
+    }
+}
+
+/// A list that has the help twice.
+impl Next<Help> for Other {
+    fn put_of(&self, page: &mut Page, help: &Help) {
+        let mut list = HelpList::new(page.alloc());
+        add_copy(page, &mut list, help);
+        add_copy(page, &mut list, help);
+        for help in list.as_slice() {
+            help.tell(page);
+            page.put(b";");
+        }
+    }
+}
+
+/// Every kind of error, as docs/formats.md numbers them.
+const ERRORS: [ParseFault; 15] = [
+    ParseFault::Quote(QuoteFault::UnclosedParen(9)),
+    ParseFault::UnknownMacro(9),
+    ParseFault::UnknownStatement(9),
+    ParseFault::ArgCount(9),
+    ParseFault::BadName(9),
+    ParseFault::Shell(ShellFault::BadTest(1), 9),
+    ParseFault::NotAtTop(9),
+    ParseFault::NoInit,
+    ParseFault::NoOutput,
+    ParseFault::AfterOutput(9),
+    ParseFault::CacheBody(9),
+    ParseFault::TooDeep(9),
+    ParseFault::TooMany(9),
+    ParseFault::NewerVersion(9),
+    ParseFault::OutOfMemory,
+];
+
+fn put_errors(page: &mut Page) {
+    for fault in &ERRORS {
+        page.put_shown(fault);
+        page.put(b";");
+    }
+}
+
+/// Puts whether an error of shell text and one of quotes keep their kinds and offsets.
+fn put_kept(page: &mut Page) {
+    let shell = ShellFault::BadWord(2);
+    page.put_yes(shell_fault(5, shell) == ParseFault::Shell(shell, 5));
+    let quote = QuoteFault::StrayClose(3);
+    page.put_yes(quote_fault(quote) == ParseFault::Quote(quote));
+}
+
+impl RowCall for Other {
+    fn put(&self, page: &mut Page, given: &[u8]) {
+        let alloc = page.alloc();
+        let arg = Arg { text: given, at: 0 };
+        match self {
+            Other::Given => put_given(page, arg),
+            Other::Option => put_option(page, given),
+            Other::Calls => put_next(page, call_items(alloc, arg), self),
+            Other::Idle => put_made(page, is_idle(alloc, given)),
+            Other::Stands => put_next(page, read_items(alloc, given), self),
+            Other::Files => put_files(page, arg),
+            Other::Added => put_added(page, given),
+            Other::HelpTwice => put_next(page, help(alloc, arg), self),
+            Other::Errors => put_errors(page),
+            Other::Offsets => put_kept(page),
+        }
+    }
+}
+
+const OTHER_ROWS: &[u8] = br#"
+// arguments that are given
+given [ a ] => yesnono
+given [] => nonono
+// options
+option a+b-c.d_1 => yes[enable_a_b_c_d_1][with_a_b_c_d_1]
+option a,b => no[enable_a,b][with_a,b]
+// calls
+calls [AC_X([a],[b])] => 1 with 2 at 1
+calls  AC_X dnl x => 3 with 0 at 1
+calls [AC_Y([a])] => 1
+calls [AC_X([a]) b] => 2
+calls [a => 1.1 at 0
+// text that says nothing
+idle  # x^J => yes
+idle [# x] => yes
+idle # x^Ja => no
+idle : => no
+// calls in the place of statements
+stands AC_X => yes
+stands  AC_X([a])^Ja => yes
+stands a=1; AC_X # b => yes
+stands a=1^JAC_X;a=2 => yes
+stands AC_X AC_Y => yes
+stands a AC_X => no
+stands AC_X([a]) b => no
+// files
+files [a b:c] => 2 a:a.in b:c
+files [old] => 5 at 0
+files [header] => 5 at 0
+files [a a] => 5 at 0
+files [ ] => 5 at 0
+added old => yesnoyesno2 old:old.in old:old.in
+// lists of help
+twice AS_HELP_STRING([a],[b]) => [a] [b];[a] [b];
+twice [c] => [c];[c];
+// errors
+errors => 1.2 at 9;2 at 9;3 at 9;4 at 9;5 at 9;6.2 at 9;7 at 9;8;9;10 at 9;11 at 9;12 at 9;13 at 9;14 at 9;memory;
+offsets => yesyes
+"#;
+
+#[test]
+fn others(rt: HostRuntime) -> Result<(), Fail> {
+    try_rows(rt.alloc(), &Named(&OTHERS), OTHER_ROWS)
+}

@@ -1,0 +1,246 @@
+//! options: precious variables and caches.
+
+use crate::command_lines::arguments_of;
+use crate::sources::read_source;
+use crate::told::{Next, put_next};
+use acparse::Source;
+use cachefile::{CacheFault, OldCache, read_cache};
+use deftable::{Bytes, Notes, Vars};
+use options::{OptionFault, PreciousFault, Settings, check_precious, check_precious_of, read_args};
+use std::alloc::Global;
+use std::test::Fail;
+use test_rows::{Named, Page, RowCall, cut, try_rows};
+
+/// The source of all rows: its precious variables are CC, LD and AR, in this order.
+const SOURCE: &[u8] =
+    b"AC_INIT([x],[1])AC_ARG_VAR([CC],[c])AC_ARG_VAR([LD],[l])AC_ARG_VAR([AR],[a])AC_OUTPUT";
+
+/// The variables whose values are told.
+const NAMES: [&str; 4] = ["CC", "LD", "AR", "v_cv_a"];
+
+// The calls, in functions without their clauses.
+
+fn open(alloc: Global, source: &Source, arguments: &[Bytes]) -> Result<Settings, OptionFault> {
+    read_args(alloc, source, arguments, &[])
+}
+
+fn read(alloc: Global, text: &[u8]) -> Result<OldCache, CacheFault> {
+    read_cache(alloc, text)
+}
+
+fn check(
+    alloc: Global,
+    source: &Source,
+    vars: &mut Vars,
+    cache: &OldCache,
+) -> Result<Notes, PreciousFault> {
+    check_precious(alloc, source, vars, cache)
+}
+
+fn check_list(
+    alloc: Global,
+    source: &Source,
+    vars: &mut Vars,
+    cache: &OldCache,
+) -> Result<Notes, PreciousFault> {
+    check_precious_of(alloc, source.precious(), vars, cache)
+}
+
+/// Puts the value of each of those variables, or a dash if it is not set.
+fn put_values(page: &mut Page, vars: &Vars) {
+    for name in NAMES {
+        match vars.get(name.as_bytes()) {
+            Some(value) => page.put_text(value.as_slice()),
+            None => page.put(b"-"),
+        }
+    }
+}
+
+fn put_notes(page: &mut Page, notes: &Notes) {
+    for note in notes.as_slice() {
+        page.put(b" ");
+        page.put(note.text.as_slice());
+    }
+}
+
+/// A call.
+pub enum Reader {
+    /// The check, over a source.
+    Source,
+    /// The check, over the precious variables of a source.
+    List,
+    /// The same, and then the cache is poured.
+    Poured,
+    /// The check, over a source with 1,000 precious variables.
+    Wide,
+    /// An error.
+    Memory,
+}
+
+pub const READERS: [(&[u8], Reader); 5] = [
+    (b"source", Reader::Source),
+    (b"list", Reader::List),
+    (b"poured", Reader::Poured),
+    (b"wide", Reader::Wide),
+    (b"memory", Reader::Memory),
+];
+
+impl Reader {
+    fn check(
+        &self,
+        page: &Page,
+        source: &Source,
+        vars: &mut Vars,
+        cache: &OldCache,
+    ) -> Result<Notes, PreciousFault> {
+        match self {
+            Reader::Source => check(page.alloc(), source, vars, cache),
+            _ => check_list(page.alloc(), source, vars, cache),
+        }
+    }
+
+    /// Puts what the check gives, and the variables after it.
+    fn put_checked(&self, page: &mut Page, source: &Source, vars: &mut Vars, cache: &OldCache) {
+        match self.check(page, source, vars, cache) {
+            Ok(notes) => put_notes(page, &notes),
+            Err(fault) => page.put_shown(&fault),
+        }
+        page.put(b" ");
+        if let Reader::Poured = self {
+            page.given(cache.pour(vars));
+        }
+        put_values(page, vars);
+    }
+
+    fn put_settings(
+        &self,
+        page: &mut Page,
+        source: &Source,
+        mut settings: Settings,
+        cache: &OldCache,
+    ) {
+        self.put_checked(page, source, &mut settings.vars, cache);
+    }
+}
+
+/// Returns a source whose precious variables are V0 to V999.
+fn wide_source(page: &Page) -> Page {
+    let mut source = Page::new(page.alloc());
+    source.put(b"AC_INIT([x],[1])");
+    for i in 0..1000 {
+        source.put(b"AC_ARG_VAR([V");
+        source.put_number(i);
+        source.put(b"],[v])");
+    }
+    source.put(b"AC_OUTPUT");
+    source
+}
+
+/// A call, the arguments of a command line and the text of a cache.
+#[derive(Drop)]
+struct Given<'a> {
+    reader: &'a Reader,
+    arguments: &'a [Bytes],
+    cache: &'a [u8],
+}
+
+impl Next<Source> for Given<'_> {
+    fn put_of(&self, page: &mut Page, source: &Source) {
+        let over = Over {
+            reader: self.reader,
+            arguments: self.arguments,
+            source,
+        };
+        put_next(page, read(page.alloc(), self.cache), &over);
+    }
+}
+
+/// A call, the arguments of a command line and a source.
+#[derive(Drop)]
+struct Over<'a> {
+    reader: &'a Reader,
+    arguments: &'a [Bytes],
+    source: &'a Source,
+}
+
+impl Next<OldCache> for Over<'_> {
+    fn put_of(&self, page: &mut Page, cache: &OldCache) {
+        match open(page.alloc(), self.source, self.arguments) {
+            Ok(settings) => self.reader.put_settings(page, self.source, settings, cache),
+            Err(fault) => page.put_shown(&fault),
+        }
+    }
+}
+
+impl Reader {
+    fn put_over(&self, page: &mut Page, source: &[u8], line: &[u8]) {
+        let (words, cache) = cut(line, b",");
+        let arguments = arguments_of(page, words);
+        let given = Given {
+            reader: self,
+            arguments: &arguments,
+            cache,
+        };
+        put_next(page, read_source(page.alloc(), source), &given);
+    }
+}
+
+/// The arguments are before the first comma, with a bar between each two, and the text of the cache is after it.
+impl RowCall for Reader {
+    fn put(&self, page: &mut Page, line: &[u8]) {
+        if let Reader::Memory = self {
+            return page.put_shown(&PreciousFault::OutOfMemory);
+        }
+        match self {
+            Reader::Wide => self.put_over(page, wide_source(page).text(), line),
+            _ => self.put_over(page, SOURCE, line),
+        }
+    }
+}
+
+/// The faults are those of configure that Autoconf 2.71 makes; the text of the note is own.
+const ROWS: &[u8] = b"
+source CC=gcc -O,ac_cv_env_CC_set=set^Jac_cv_env_CC_value='gcc  -O' =>  configure: WARNING: blanks of CC have changed, old value used^J [gcc  -O]---
+source CC=cc,ac_cv_env_CC_set=set^Jac_cv_env_CC_value='gcc  -O' => 3 at 1 [cc]---
+source -q,ac_cv_env_CC_set=set^Jac_cv_env_CC_value='gcc  -O' => 1 at 1 ----
+source LD=,ac_cv_env_LD_set=^Jac_cv_env_LD_value= => 2 at 2 -[]--
+list CC=gcc -O,ac_cv_env_CC_set=set^Jac_cv_env_CC_value='gcc  -O' =>  configure: WARNING: blanks of CC have changed, old value used^J [gcc  -O]---
+list AR=ar,ac_cv_env_AR_set=set^Jac_cv_env_AR_value=xar => 3 at 3 --[ar]-
+// unchanged
+source -q, =>  ----
+source CC=cc,ac_cv_env_CC_set=set^Jac_cv_env_CC_value=cc =>  [cc]---
+source -q,ac_cv_env_CC_set=^Jac_cv_env_CC_value= =>  ----
+source CC=,ac_cv_env_CC_set=set^Jac_cv_env_CC_value= =>  []---
+source v_cv_a=1,v_cv_a=2 =>  ---[1]
+// A mark that the cache lacks is that of the run.
+source CC=cc, =>  [cc]---
+source CC=cc,ac_cv_env_LD_set=^Jac_cv_env_LD_value= =>  [cc]---
+source CC=cc,ac_cv_env_CC_set=set =>  [cc]---
+source CC=cc,ac_cv_env_CC_value=gcc => 3 at 1 [cc]---
+// A line that sets a mark only if it isn't set changes nothing.
+source CC=cc,ac_cv_env_CC_value=${ac_cv_env_CC_value=gcc} =>  [cc]---
+source CC=cc,test ${ac_cv_env_CC_set+y} || ac_cv_env_CC_set=^Jtest \"${ac_cv_env_CC_value+set}\" = set || ac_cv_env_CC_value=gcc =>  [cc]---
+// The last line that sets a mark counts.
+source CC=cc,ac_cv_env_CC_value=gcc^Jac_cv_env_CC_value=cc =>  [cc]---
+// Blanks are spaces, tabs and newlines; a carriage return is none.
+source CC=gcc\t-O^J-g,ac_cv_env_CC_value=' gcc -O -g ' =>  configure: WARNING: blanks of CC have changed, old value used^J [ gcc -O -g ]---
+source CC=gcc -O,ac_cv_env_CC_value=gcc\"\t\"-O =>  configure: WARNING: blanks of CC have changed, old value used^J [gcc\t-O]---
+source CC=,ac_cv_env_CC_value=' ' =>  configure: WARNING: blanks of CC have changed, old value used^J [ ]---
+source CC=a b,ac_cv_env_CC_value=ab => 3 at 1 [a b]---
+source CC=a b,ac_cv_env_CC_value='a b c' => 3 at 1 [a b]---
+source CC=a b,ac_cv_env_CC_value=a\rb => 3 at 1 [a b]---
+// The first fault counts, and then no variable gets a value back.
+source CC=a b|LD=1|AR=2,ac_cv_env_CC_value='a  b'^Jac_cv_env_LD_set=^Jac_cv_env_AR_value=3 => 2 at 2 [a b][1][2]-
+source CC=cc,ac_cv_env_AR_set=set^Jac_cv_env_LD_set=set => 1 at 2 [cc]---
+// Each has a note, in the order of the source.
+source AR=x y|CC=a b,ac_cv_env_AR_value='x  y'^Jac_cv_env_CC_value='a  b' =>  configure: WARNING: blanks of CC have changed, old value used^J configure: WARNING: blanks of AR have changed, old value used^J [a  b]-[x  y]-
+// The cache is poured after the check.
+source CC=cc,v_cv_a=1 =>  [cc]---
+poured CC=a b,v_cv_a=1^Jac_cv_env_CC_value='a  b' =>  configure: WARNING: blanks of CC have changed, old value used^J [a  b]--[1]
+memory => memory
+";
+
+#[test]
+fn precious_variables_are_checked(rt: HostRuntime) -> Result<(), Fail> {
+    try_rows(rt.alloc(), &Named(&READERS), ROWS)
+}

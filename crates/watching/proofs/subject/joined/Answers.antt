@@ -1,6 +1,0 @@
-use Rattle.std.proofs.Common.{[]}
-use Rattle.watching.proofs.Parts.{nothing_yet}
-use Rattle.watching.proofs.subject.joined.Goals as goal
-
-pub returns : goal.returns
-returns c = c.put_front-2.ensures _ (c.put_front.ensures [] (nothing_yet _ c.new-line.ensures))

@@ -1,5 +1,0 @@
-use Rattle.watching.proofs.Parts.{either_told}
-use Rattle.watching.proofs.subject.type_told.Goals as goal
-
-pub returns : goal.returns
-returns c = either_told _ _ _ _ _ c.or.ensures c.named-second.ensures c.named.ensures

@@ -1,8 +1,0 @@
-use Rattle.std.proofs.Common.{◌≡◌, ◌≤◌, map, drop}
-use Rattle.whycommand.specs.Lines as specs
-use Rattle.whycommand.specs.Views.{line_seen}
-use Rattle.whycommand.proofs.lines.answer_in.Given as goal
-
-abbrev pub invariant-loop-line : goal.invariant-loop-line
-invariant-loop-line l =
-    (specs.answer_in l.inner (map line_seen (drop l.line-index l.rest)) ≡ specs.answer_in 0 (map line_seen l.rest)) × (l.inner ≤ l.line-index)

@@ -1,6 +1,0 @@
-use Rattle.std.proofs.Common.{◌≡◌, drop}
-use Rattle.whycommand.specs.Origins as specs
-use Rattle.whycommand.proofs.origins.is_one_of.Given as goal
-
-abbrev pub invariant-loop-known : goal.invariant-loop-known
-invariant-loop-known l = specs.is_one_of l.name (drop l.known-index l.names) ≡ specs.is_one_of l.name l.names

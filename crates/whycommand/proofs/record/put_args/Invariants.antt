@@ -1,6 +1,0 @@
-use Rattle.std.proofs.Common.{◌≡◌, ◌++◌, flat_map, take}
-use Rattle.whycommand.specs.Quoting as specs
-use Rattle.whycommand.proofs.record.put_args.Given as goal
-
-abbrev pub invariant-loop-arg : goal.invariant-loop-arg
-invariant-loop-arg l = l.out.items ≡ l.fn.out.items ++ flat_map specs.argument_word (take l.arg-index l.args)

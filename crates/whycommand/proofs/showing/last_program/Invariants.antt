@@ -1,8 +1,0 @@
-use Rattle.std.proofs.Common.{◌≡◌, [], fold, map, take}
-use Rattle.whycommand.specs.Shown as specs
-use Rattle.whycommand.specs.Views.{line_seen}
-use Rattle.whycommand.proofs.showing.last_program.Given as goal
-
-abbrev pub invariant-loop-line : goal.invariant-loop-line
-invariant-loop-line l =
-    l.program.items ≡ fold (λ program line. specs.program_after program line.part line.text) [] (map line_seen (take l.line-index l.lines))

@@ -1,7 +1,0 @@
-use Rattle.std.proofs.Common.{◌≡◌, ◌++◌, flat_map, map, take}
-use Rattle.whycommand.specs.Shown as specs
-use Rattle.whycommand.specs.Views.{check_seen}
-use Rattle.whycommand.proofs.showing.put_checks.Given as goal
-
-abbrev pub invariant-loop-check : goal.invariant-loop-check
-invariant-loop-check l = l.out.items ≡ l.fn.out.items ++ flat_map (specs.check_text l.seen) (map check_seen (take l.check-index l.checks))

@@ -1,7 +1,0 @@
-use Rattle.std.proofs.Common.{◌≡◌, ◌++◌, flat_map, map, take}
-use Rattle.whycommand.specs.Shown as specs
-use Rattle.whycommand.specs.Views.{line_seen}
-use Rattle.whycommand.proofs.showing.put_lines.Given as goal
-
-abbrev pub invariant-loop-line : goal.invariant-loop-line
-invariant-loop-line l = l.out.items ≡ l.fn.out.items ++ flat_map specs.line_text (map line_seen (take l.line-index l.lines))

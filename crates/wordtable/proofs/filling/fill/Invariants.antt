@@ -1,7 +1,0 @@
-use Rattle.std.proofs.Common.{◌≡◌, ◌++◌, take}
-use Rattle.std.specs.List.{flat_map}
-use Rattle.wordtable.specs.Filling.{placed}
-use Rattle.wordtable.proofs.filling.fill.Given as goal
-
-abbrev pub invariant-loop-byte : goal.invariant-loop-byte
-invariant-loop-byte l = l.out.items ≡ l.initial.out.items ++ flat_map (placed l.parts) (take l.byte-index l.text)

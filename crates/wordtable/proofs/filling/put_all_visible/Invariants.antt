@@ -1,7 +1,0 @@
-use Rattle.std.proofs.Common.{◌≡◌, ◌++◌, take}
-use Rattle.std.specs.List.{flat_map}
-use Rattle.wordtable.specs.Filling.{visible}
-use Rattle.wordtable.proofs.filling.put_all_visible.Given as goal
-
-abbrev pub invariant-loop-byte : goal.invariant-loop-byte
-invariant-loop-byte l = l.out.items ≡ l.initial.out.items ++ flat_map visible (take l.byte-index l.text)
