@@ -12,8 +12,8 @@ use m4quote::{Arg, QuoteFault, used_text};
 use std::alloc::{AllocError, Global};
 use text_cut::trim;
 
-/// Returns the used text of an argument: its quotes are removed and its quadrigraphs replaced (Autoconf's manual, "The
-/// Autoconf Language").
+/// Returns the used text of an argument: its quotes are removed and its quadrigraphs replaced
+/// (Autoconf's manual, "The Autoconf Language").
 pub fn text(alloc: Global, arg: Arg<'_>) -> Result<Bytes, ParseFault>
     ensures { Gives (λ t. t) result (forms.text (span arg.entry)) }
 {
@@ -23,8 +23,8 @@ pub fn text(alloc: Global, arg: Arg<'_>) -> Result<Bytes, ParseFault>
     }
 }
 
-/// Returns whether an argument is given. An absent argument, and one whose used text is empty, are not. One with an error in
-/// its quotes is.
+/// Returns whether an argument is given. An absent argument, and one whose used text is empty, are
+/// not. One with an error in its quotes is.
 #[tactic(auto, unfolding(crate::specs::Arguments::is_given))]
 pub fn is_given(alloc: Global, arg: Arg<'_>) -> Result<bool, AllocError>
     ensures { IfOk result (λ b. b ≡ forms.is_given (span arg.entry)) }
@@ -61,7 +61,8 @@ pub fn name(alloc: Global, arg: Arg<'_>) -> Result<Name, ParseFault>
     }
 }
 
-/// Returns the name of a cached value: a shell name that contains `_cv_` (Autoconf's manual, "Cache Variable Names").
+/// Returns the name of a cached value: a shell name that contains `_cv_` (Autoconf's manual, "Cache
+/// Variable Names").
 ///
 /// # Errors
 ///

@@ -25,10 +25,11 @@ fn depth_after(depth: usize, byte: u8) -> usize
     }
 }
 
-/// Returns the parts of the text before, between and after the commas outside parentheses, in order (own).
+/// Returns the parts of the text before, between and after the commas outside parentheses, in order
+/// (own).
 ///
-/// There is one part more than there are such commas. A `)` where no parenthesis is open is an ordinary byte, and a
-/// parenthesis that is never closed holds the rest of the text.
+/// There is one part more than there are such commas. A `)` where no parenthesis is open is an
+/// ordinary byte, and a parenthesis that is never closed holds the rest of the text.
 pub(crate) fn comma_parts(alloc: Global, text: &[u8]) -> Result<Vec<&[u8]>, AllocError>
     ensures value { IfOk result (λ v. map (λ p. p.now) v.items ≡ specs.comma_parts text.now) }
 {
@@ -49,7 +50,8 @@ pub(crate) fn comma_parts(alloc: Global, text: &[u8]) -> Result<Vec<&[u8]>, Allo
 
 /// Returns the parts without the blanks at their ends, and without those that are then empty.
 fn filled<'a>(alloc: Global, parts: &[&'a [u8]]) -> Result<Vec<&'a [u8]>, AllocError>
-    ensures { IfOk result (λ v. map (λ e. e.now) v.items ≡ specs.filled (map (λ p. p.now) parts.now)) }
+    ensures { IfOk result (λ v.
+        map (λ e. e.now) v.items ≡ specs.filled (map (λ p. p.now) parts.now)) }
 {
     let mut entries = Vec::new(alloc);
     for part in parts {
@@ -61,8 +63,8 @@ fn filled<'a>(alloc: Global, parts: &[&'a [u8]]) -> Result<Vec<&'a [u8]>, AllocE
     Ok(entries)
 }
 
-/// Returns the entries of a text that are separated by commas outside parentheses: its parts without the blanks at their
-/// ends, except those that are then empty (own).
+/// Returns the entries of a text that are separated by commas outside parentheses: its parts
+/// without the blanks at their ends, except those that are then empty (own).
 pub(crate) fn comma_entries(alloc: Global, text: &[u8]) -> Result<Vec<&[u8]>, AllocError>
     ensures value { IfOk result (λ v. map (λ e. e.now) v.items ≡ specs.comma_entries text.now) }
 {

@@ -73,8 +73,9 @@ fn entries_in(alloc: Global, kind: Sought, at: usize, text: &[u8]) -> Result<Vec
     Ok(copies(alloc, entries.as_slice())?)
 }
 
-/// Returns the entries that an argument lists, in order (Autoconf's manual, "Generic Headers", "Generic Functions",
-/// "Generic Declarations" and "Generic Types"; the forms and the limit are own).
+/// Returns the entries that an argument lists, in order (Autoconf's manual, "Generic Headers",
+/// "Generic Functions", "Generic Declarations" and "Generic Types"; the forms and the limit are
+/// own).
 ///
 /// # Errors
 ///

@@ -36,8 +36,9 @@ fn are_type_bytes(text: &[u8]) -> bool
 
 /// Returns whether a text has the form of an entry of its kind (own).
 ///
-/// A header is not empty, and has no blank, `$`, `<`, `>`, `"`, backslash or backquote. A function and a declaration are C
-/// identifiers. A type is not empty, and has no newline, `$`, backslash or backquote.
+/// A header is not empty, and has no blank, `$`, `<`, `>`, `"`, backslash or backquote. A function
+/// and a declaration are C identifiers. A type is not empty, and has no newline, `$`, backslash or
+/// backquote.
 pub(crate) fn has_form(kind: Sought, text: &[u8]) -> bool
     ensures { result ≡ specs.has_form kind text.now }
 {
@@ -55,8 +56,8 @@ pub(crate) fn have_form(kind: Sought, texts: &[&[u8]]) -> bool
     texts.iter().all(|text| has_form(kind, text))
 }
 
-/// Splits a text at blanks or at commas outside parentheses, as lists of the kind are separated. No entry is empty, and each
-/// may have any form.
+/// Splits a text at blanks or at commas outside parentheses, as lists of the kind are separated. No
+/// entry is empty, and each may have any form.
 pub(crate) fn split(alloc: Global, kind: Sought, text: &[u8]) -> Result<Vec<&[u8]>, AllocError>
     ensures { IfOk result (λ v. map (λ e. e.now) v.items ≡ specs.split kind text.now) }
 {

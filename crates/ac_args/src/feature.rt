@@ -12,8 +12,8 @@ use deftable::Name;
 use m4quote::Arg;
 use std::alloc::Global;
 
-/// Returns the variable of the option that an argument names, such as `enable_shared` for the feature `shared`
-/// (Autoconf's manual, "Choosing Package Options" and "External Software").
+/// Returns the variable of the option that an argument names, such as `enable_shared` for the
+/// feature `shared` (Autoconf's manual, "Choosing Package Options" and "External Software").
 ///
 /// # Errors
 ///

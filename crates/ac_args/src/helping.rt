@@ -18,7 +18,9 @@ const HELP_STRING: &[u8] = b"AS_HELP_STRING";
 
 /// If the items are a single call of `name` and blanks, returns its arguments and its offset.
 pub fn sole_call<'a, 'b>(name: &[u8], items: &'b [Item<'a>]) -> Option<(&'b [Arg<'a>], usize)>
-    ensures { MatchOption result (words.sole_call name.now (views items.now) ≡ None) (λ r. words.sole_call name.now (views items.now) ≡ Some (record { args = map span r.0.now; at = r.1 })) }
+    ensures { MatchOption result (words.sole_call name.now (views items.now) ≡ None) (λ r.
+        words.sole_call name.now (views items.now)
+        ≡ Some (record { args = map span r.0.now; at = r.1 })) }
 {
     for i in 0..items.len() {
         match &items[i] {
@@ -78,7 +80,9 @@ fn own_text(alloc: Global, arg: Arg<'_>) -> Result<Help, ParseFault>
 
 /// Reads the help of an argument that has these items.
 fn help_among(alloc: Global, arg: Arg<'_>, items: &[Item<'_>]) -> Result<Help, ParseFault>
-    ensures { Gives (λ h. h) result (words.help_by (span arg.entry) (words.has_call words.help_string_name (views items.now)) (words.sole_call words.help_string_name (views items.now))) }
+    ensures { Gives (λ h. h) result (
+        words.help_by (span arg.entry) (words.has_call words.help_string_name (views items.now))
+        (words.sole_call words.help_string_name (views items.now))) }
 {
     if let Some((args, at)) = sole_call(HELP_STRING, items) {
         return help_string(alloc, args, at);
@@ -89,12 +93,13 @@ fn help_among(alloc: Global, arg: Arg<'_>, items: &[Item<'_>]) -> Result<Help, P
     own_text(alloc, arg)
 }
 
-/// Returns the help that an argument gives. If AS_HELP_STRING is called among its items (`call_items`), it is the entry
-/// that the call makes; else it is the argument's used text.
+/// Returns the help that an argument gives. If AS_HELP_STRING is called among its items
+/// (`call_items`), it is the entry that the call makes; else it is the argument's used text.
 ///
 /// # Errors
 ///
-/// - `UnknownStatement` at the argument, if it calls AS_HELP_STRING and has anything else but blanks and `dnl` lines.
+/// - `UnknownStatement` at the argument, if it calls AS_HELP_STRING and has anything else but
+///   blanks and `dnl` lines.
 /// - `ArgCount` at the name AS_HELP_STRING, if the call doesn't have two arguments.
 #[tactic(auto, unfolding(crate::specs::Help::help))]
 pub fn help(alloc: Global, arg: Arg<'_>) -> Result<Help, ParseFault>

@@ -38,8 +38,8 @@ fn lists_libraries(alloc: Global, text: &[u8]) -> Result<bool, AllocError>
     Ok(are_libraries(names.as_slice()))
 }
 
-/// Returns the name of a library, without the blanks at its ends: a text that is not empty, of letters, digits, `-`, `+`,
-/// `.` and `_` alone (own).
+/// Returns the name of a library, without the blanks at its ends: a text that is not empty, of
+/// letters, digits, `-`, `+`, `.` and `_` alone (own).
 ///
 /// # Errors
 ///
@@ -70,7 +70,8 @@ fn libraries_in(alloc: Global, text: &[u8], at: usize) -> Result<Vec<Bytes>, Par
     Ok(copies(alloc, names.as_slice())?)
 }
 
-/// Returns the libraries that an argument lists between blanks, any number of them (Autoconf's manual, "Library Files").
+/// Returns the libraries that an argument lists between blanks, any number of them (Autoconf's
+/// manual, "Library Files").
 ///
 /// # Errors
 ///

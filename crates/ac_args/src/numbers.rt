@@ -87,8 +87,8 @@ fn check_version(at: usize, numbers: &[&[u8]]) -> Result<(), ParseFault>
     Ok(())
 }
 
-/// Checks the version that AC_PREREQ requires: one to three numbers with dots between them. An absent number counts as
-/// 0 (Autoconf's manual, "Versioning").
+/// Checks the version that AC_PREREQ requires: one to three numbers with dots between them. An
+/// absent number counts as 0 (Autoconf's manual, "Versioning").
 ///
 /// # Errors
 ///

@@ -16,8 +16,8 @@ use text_cut::fields;
 /// The largest number of files of a source, and of headers (own).
 const MAX_OUTPUTS: usize = 1024;
 
-/// Checks that an output can follow `before`, the earlier ones of the source, and `outputs`, the earlier ones of the
-/// argument.
+/// Checks that an output can follow `before`, the earlier ones of the source, and `outputs`, the
+/// earlier ones of the argument.
 #[tactic(auto, unfolding(crate::specs::Outputs::wanted))]
 fn check_output(
     alloc: Global,
@@ -59,7 +59,8 @@ fn add_output(
     outputs: &mut OutputList,
     field: &[u8],
 ) -> Result<(), ParseFault>
-    ensures { Gives (λ _. outputs.new) result (specs.one_more at own.now other.now outputs.old field.now) }
+    ensures { Gives (λ _. outputs.new) result
+        (specs.one_more at own.now other.now outputs.old field.now) }
 {
     let output = output_in(alloc, field)?;
     check_output(alloc, at, own, other, outputs, &output)?;
@@ -76,7 +77,8 @@ fn add_fields(
     outputs: &mut OutputList,
     fields: &[&[u8]],
 ) -> Result<(), ParseFault>
-    ensures { Gives (λ _. outputs.new) result (specs.with_fields at own.now other.now outputs.old (map (λ f. f.now) fields.now)) }
+    ensures { Gives (λ _. outputs.new) result
+        (specs.with_fields at own.now other.now outputs.old (map (λ f. f.now) fields.now)) }
 {
     for field in fields {
         add_output(alloc, at, own, other, outputs, field)?;
@@ -103,14 +105,14 @@ fn outputs_in(
     Ok(outputs)
 }
 
-/// Returns the outputs that an argument lists between blanks, each as `NAME` or `NAME:TEMPLATE`. If no template is
-/// named, it is `NAME.in` (Autoconf's manual, "Configuration Files"). `own` has the earlier outputs of the same kind, and
-/// `other` those of other kinds, which share their names.
+/// Returns the outputs that an argument lists between blanks, each as `NAME` or `NAME:TEMPLATE`. If
+/// no template is named, it is `NAME.in` (Autoconf's manual, "Configuration Files"). `own` has the
+/// earlier outputs of the same kind, and `other` those of other kinds, which share their names.
 ///
 /// # Errors
 ///
-/// - `BadName` at the argument, if it lists none, if a name or a template is no path below the directory, or if an
-///   output is listed twice.
+/// - `BadName` at the argument, if it lists none, if a name or a template is no path below the
+///   directory, or if an output is listed twice.
 /// - `TooMany` at the argument, if there are more than 1,024 outputs of the same kind.
 #[tactic(auto, unfolding(crate::specs::Outputs::outputs))]
 pub fn outputs(

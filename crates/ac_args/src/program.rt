@@ -54,8 +54,8 @@ fn lists_programs(alloc: Global, text: &[u8]) -> Result<bool, AllocError>
     Ok(are_programs(names.as_slice()))
 }
 
-/// Returns the name of a program, without the blanks at its ends: a text that is not empty and has no blank, `$`,
-/// backslash and backquote (own).
+/// Returns the name of a program, without the blanks at its ends: a text that is not empty and has
+/// no blank, `$`, backslash and backquote (own).
 ///
 /// # Errors
 ///
@@ -106,10 +106,11 @@ fn is_default_line(line: &[u8]) -> bool
     trim(line) == b"AC_INCLUDES_DEFAULT".as_slice()
 }
 
-/// Appends a line, with a newline unless it is the last. A line that is AC_INCLUDES_DEFAULT becomes the default
-/// includes.
+/// Appends a line, with a newline unless it is the last. A line that is AC_INCLUDES_DEFAULT becomes
+/// the default includes.
 fn put_line(out: &mut Vec<u8>, line: &[u8], is_last: bool) -> Result<(), AllocError>
-    ensures { OnOk result (out.new.items ≡ out.old.items ++ words.line_or_includes is_last line.now) }
+    ensures { OnOk result (
+        out.new.items ≡ out.old.items ++ words.line_or_includes is_last line.now) }
 {
     if is_default_line(line) {
         return out.extend_from_slice(default_includes());
@@ -121,7 +122,8 @@ fn put_line(out: &mut Vec<u8>, line: &[u8], is_last: bool) -> Result<(), AllocEr
     Ok(())
 }
 
-/// Returns the text with the default includes in the place of each line that is AC_INCLUDES_DEFAULT.
+/// Returns the text with the default includes in the place of each line that is
+/// AC_INCLUDES_DEFAULT.
 #[tactic(auto, unfolding(crate::specs::Programs::with_includes))]
 fn with_includes(alloc: Global, text: &[u8]) -> Result<Vec<u8>, AllocError>
     ensures { IfOk result (λ v. v.items ≡ words.with_includes text.now) }
@@ -146,8 +148,9 @@ fn source_in(alloc: Global, at: usize, text: &[u8]) -> Result<HereText, ParseFau
     }
 }
 
-/// Returns the text of a program that is compiled, or a fragment of one, as here text. A line that is
-/// AC_INCLUDES_DEFAULT alone becomes the default includes (Autoconf's manual, "Generating Sources").
+/// Returns the text of a program that is compiled, or a fragment of one, as here text. A line that
+/// is AC_INCLUDES_DEFAULT alone becomes the default includes (Autoconf's manual, "Generating
+/// Sources").
 ///
 /// # Errors
 ///
@@ -178,8 +181,9 @@ fn includes_in(alloc: Global, at: usize, text: &[u8]) -> Result<Option<HereText>
     Ok(Some(here))
 }
 
-/// Returns the includes that an argument gives, as here text, or `None` if its text is empty, which means the default
-/// includes. A line that is AC_INCLUDES_DEFAULT alone becomes the default includes (Autoconf's manual, "Generic Headers").
+/// Returns the includes that an argument gives, as here text, or `None` if its text is empty, which
+/// means the default includes. A line that is AC_INCLUDES_DEFAULT alone becomes the default
+/// includes (Autoconf's manual, "Generic Headers").
 ///
 /// # Errors
 ///

@@ -1,4 +1,5 @@
-//! Readers of arguments that are shell text. If the used text can't be read, the error is `Shell` at the argument.
+//! Readers of arguments that are shell text. If the used text can't be read, the error is `Shell`
+//! at the argument.
 
 ghost use Rattle.std.specs.Prelude.{◌≡◌};
 ghost use Rattle.m4quote.specs.Entry.{span};
@@ -47,7 +48,8 @@ pub fn test(alloc: Global, arg: Arg<'_>) -> Result<Test, ParseFault>
     }
 }
 
-/// Returns the used text as a list of patterns (POSIX, Shell Command Language, "Case Conditional Construct").
+/// Returns the used text as a list of patterns (POSIX, Shell Command Language, "Case Conditional
+/// Construct").
 #[tactic(auto, unfolding(crate::specs::Shell::patterns))]
 pub fn patterns(alloc: Global, arg: Arg<'_>) -> Result<Patterns, ParseFault>
     ensures { Gives (λ p. p) result (forms.patterns (span arg.entry)) }

@@ -25,7 +25,8 @@ pub struct CallAt {
     pub start: usize,
     /// The offset after the name.
     pub name_end: usize,
-    /// The offset after the call: after its closing parenthesis, or after its name if it has no arguments.
+    /// The offset after the call: after its closing parenthesis, or after its name if it has no
+    /// arguments.
     pub end: usize,
     /// The arguments, without the blanks before each.
     pub args: Vec<Extent>,
@@ -73,7 +74,8 @@ pub(crate) fn call_at(
     at: usize,
 ) -> Result<CallAt, AllocError>
     requires { specs.IsPlaced name.now (map span args.now) at }
-    ensures { IfOk result (λ c. specs.macro_call_of c ≡ specs.call_at name.now (map span args.now) at) }
+    ensures { IfOk result (λ c.
+        specs.macro_call_of c ≡ specs.call_at name.now (map span args.now) at) }
 {
     let extents = extents(alloc, args)?;
     let name_end = at + name.len();

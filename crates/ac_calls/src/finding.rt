@@ -33,7 +33,8 @@ fn items_at<'a>(alloc: Global, text: &'a [u8], at: usize) -> Result<Vec<Item<'a>
     }
 }
 
-/// Appends the calls of a statement argument. Lists nest at most `room` deep in it, counting its own.
+/// Appends the calls of a statement argument. Lists nest at most `room` deep in it, counting its
+/// own.
 #[cycle(calls)]
 #[tactic(auto, unfolding(crate::specs::Calls::in_argument))]
 fn find_in_argument(
@@ -42,7 +43,9 @@ fn find_in_argument(
     arg: Arg<'_>,
     out: &mut Vec<CallAt>,
 ) -> Result<(), AllocError>
-    ensures { OnOk result (map specs.macro_call_of out.new.items ≡ map specs.macro_call_of out.old.items ++ specs.in_argument room (span arg.entry)) }
+    ensures { OnOk result (
+        map specs.macro_call_of out.new.items
+        ≡ map specs.macro_call_of out.old.items ++ specs.in_argument room (span arg.entry)) }
 {
     if room == 0 {
         return Ok(());
@@ -62,7 +65,10 @@ fn find_in_text(
     inner: Arg<'_>,
     out: &mut Vec<CallAt>,
 ) -> Result<(), AllocError>
-    ensures { OnOk result (map specs.macro_call_of out.new.items ≡ map specs.macro_call_of out.old.items ++ specs.in_text (specs.in_argument room) (span inner.entry)) }
+    ensures { OnOk result (
+        map specs.macro_call_of out.new.items
+        ≡ map specs.macro_call_of out.old.items
+        ++ specs.in_text (specs.in_argument room) (span inner.entry)) }
 {
     let items = items_at(alloc, inner.text, inner.at)?;
     find_in_items(alloc, room, &items, out)
@@ -77,7 +83,10 @@ fn find_in_arg(
     arg: Arg<'_>,
     out: &mut Vec<CallAt>,
 ) -> Result<(), AllocError>
-    ensures { OnOk result (map specs.macro_call_of out.new.items ≡ map specs.macro_call_of out.old.items ++ (if holds then specs.in_argument room (span arg.entry) else [])) }
+    ensures { OnOk result (
+        map specs.macro_call_of out.new.items
+        ≡ map specs.macro_call_of out.old.items
+        ++ (if holds then specs.in_argument room (span arg.entry) else [])) }
 {
     if holds {
         find_in_argument(alloc, room, arg, out)
@@ -95,7 +104,11 @@ fn find_in_args(
     args: &[Arg<'_>],
     out: &mut Vec<CallAt>,
 ) -> Result<(), AllocError>
-    ensures { OnOk result (map specs.macro_call_of out.new.items ≡ map specs.macro_call_of out.old.items ++ specs.in_args (specs.in_argument room) (holding.holds_statements row.named (length args.now)) 0 (map span args.now)) }
+    ensures { OnOk result (
+        map specs.macro_call_of out.new.items
+        ≡ map specs.macro_call_of out.old.items
+        ++ specs.in_args (specs.in_argument room)
+        (holding.holds_statements row.named (length args.now)) 0 (map span args.now)) }
 {
     for i in 0..args.len() {
         let holds = holds_statements(row.named, args.len(), i);
@@ -113,7 +126,10 @@ fn find_in_macro(
     args: &[Arg<'_>],
     out: &mut Vec<CallAt>,
 ) -> Result<(), AllocError>
-    ensures { OnOk result (map specs.macro_call_of out.new.items ≡ map specs.macro_call_of out.old.items ++ specs.in_macro (specs.in_argument room) row (map span args.now)) }
+    ensures { OnOk result (
+        map specs.macro_call_of out.new.items
+        ≡ map specs.macro_call_of out.old.items
+        ++ specs.in_macro (specs.in_argument room) row (map span args.now)) }
 {
     match row {
         None => Ok(()),
@@ -132,7 +148,11 @@ fn find_in_call(
     out: &mut Vec<CallAt>,
 ) -> Result<(), AllocError>
     requires { specs.IsPlaced name.now (map span args.now) at }
-    ensures { OnOk result (map specs.macro_call_of out.new.items ≡ map specs.macro_call_of out.old.items ++ specs.call_at name.now (map span args.now) at ∷ specs.in_macro (specs.in_argument room) (row_named name.now) (map span args.now)) }
+    ensures { OnOk result (
+        map specs.macro_call_of out.new.items
+        ≡ map specs.macro_call_of out.old.items ++ specs.call_at name.now (map span args.now) at
+        ∷ specs.in_macro (specs.in_argument room) (row_named name.now)
+        (map span args.now)) }
 {
     let call = call_at(alloc, name, args, at)?;
     out.push(call)?;
@@ -148,7 +168,10 @@ fn find_in_item(
     out: &mut Vec<CallAt>,
 ) -> Result<(), AllocError>
     requires { specs.IsItemPlaced (view item.now) }
-    ensures { OnOk result (map specs.macro_call_of out.new.items ≡ map specs.macro_call_of out.old.items ++ specs.in_item (specs.in_argument room) (view item.now)) }
+    ensures { OnOk result (
+        map specs.macro_call_of out.new.items
+        ≡ map specs.macro_call_of out.old.items
+        ++ specs.in_item (specs.in_argument room) (view item.now)) }
 {
     match item {
         Item::Bare { .. } => Ok(()),
@@ -165,7 +188,10 @@ fn find_in_items(
     out: &mut Vec<CallAt>,
 ) -> Result<(), AllocError>
     requires { specs.ArePlaced (views items.now) }
-    ensures { OnOk result (map specs.macro_call_of out.new.items ≡ map specs.macro_call_of out.old.items ++ specs.in_items (specs.in_argument room) (views items.now)) }
+    ensures { OnOk result (
+        map specs.macro_call_of out.new.items
+        ≡ map specs.macro_call_of out.old.items
+        ++ specs.in_items (specs.in_argument room) (views items.now)) }
 {
     for i in 0..items.len() {
         find_in_item(alloc, room, &items[i], out)?;
@@ -189,9 +215,13 @@ fn find_all(alloc: Global, text: &[u8]) -> Result<Vec<CallAt>, AllocError>
 /// A call in an argument comes after the call of the argument.
 pub fn calls_of(alloc: Global, text: &[u8]) -> Result<Vec<CallAt>, AllocError>
     // The calls that are returned are exactly those of the source.
-    ensures found { IfOk result (λ v. (c : specs.MacroCall) → Contains (map specs.macro_call_of v.items) c ↔ IsCallOf text.now c) }
-    // Each is in the source, and each begins after the name of the one before it. So each is returned once.
-    ensures in_order { IfOk result (λ v. specs.AreInOrder 0 (length text.now) (map specs.macro_call_of v.items)) }
+    ensures found { IfOk result (λ v.
+        (c : specs.MacroCall)
+        → Contains (map specs.macro_call_of v.items) c ↔ IsCallOf text.now c) }
+    // Each is in the source, and each begins after the name of the one before it. So each is
+    // returned once.
+    ensures in_order { IfOk result (λ v.
+        specs.AreInOrder 0 (length text.now) (map specs.macro_call_of v.items)) }
     // The same as a function of the text.
     ensures exact { IfOk result (λ v. map specs.macro_call_of v.items ≡ specs.calls_in text.now) }
 {

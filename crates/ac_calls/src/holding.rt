@@ -5,7 +5,8 @@ ghost use Rattle.ac_calls.specs.Holding as specs;
 
 use ac_macros::{ChoiceMacro, Macro, Named, QuestionMacro};
 
-/// Returns whether the argument of AS_IF or AS_CASE at index `i` holds statements, if there are `count` arguments.
+/// Returns whether the argument of AS_IF or AS_CASE at index `i` holds statements, if there are
+/// `count` arguments.
 fn holds_case(m: ChoiceMacro, count: usize, i: usize) -> bool
     requires { i < count }
     ensures { result ≡ specs.holds_case m count i }
@@ -26,7 +27,8 @@ fn first_action(m: QuestionMacro) -> usize
     }
 }
 
-/// Returns whether the argument of a macro at index `i` holds statements, if there are `count` arguments.
+/// Returns whether the argument of a macro at index `i` holds statements, if there are `count`
+/// arguments.
 pub(crate) fn holds_statements(named: Named, count: usize, i: usize) -> bool
     requires { i < count }
     ensures { result ≡ specs.holds_statements named count i }

@@ -1,5 +1,5 @@
-//! Readers of macros that look for headers, functions, declarations and types (Autoconf's manual, "Generic Headers",
-//! "Generic Functions", "Generic Declarations" and "Generic Types").
+//! Readers of macros that look for headers, functions, declarations and types (Autoconf's manual,
+//! "Generic Headers", "Generic Functions", "Generic Declarations" and "Generic Types").
 
 ghost use Rattle.std.specs.Prelude.{◌≡◌, map};
 ghost use Rattle.m4quote.specs.Entry.{span};
@@ -15,7 +15,8 @@ use ac_tree::{Question, Sought};
 use m4quote::Arg;
 use std::alloc::Global;
 
-/// AC_CHECK_HEADER(header, ..), AC_CHECK_FUNC, AC_CHECK_DECL and AC_CHECK_TYPE, before their includes are read.
+/// AC_CHECK_HEADER(header, ..), AC_CHECK_FUNC, AC_CHECK_DECL and AC_CHECK_TYPE, before their
+/// includes are read.
 #[tactic(auto, unfolding(crate::specs::Checks::checks))]
 pub(crate) fn checks(
     alloc: Global,
@@ -32,7 +33,8 @@ pub(crate) fn checks(
     })
 }
 
-/// AC_CHECK_HEADERS(headers, ..), AC_CHECK_FUNCS, AC_CHECK_DECLS and AC_CHECK_TYPES, before their includes are read.
+/// AC_CHECK_HEADERS(headers, ..), AC_CHECK_FUNCS, AC_CHECK_DECLS and AC_CHECK_TYPES, before their
+/// includes are read.
 #[tactic(auto, unfolding(crate::specs::Checks::checks_each))]
 pub(crate) fn checks_each(
     alloc: Global,
@@ -49,8 +51,8 @@ pub(crate) fn checks_each(
     })
 }
 
-/// Returns the question of a call with its includes, which are read from the fourth argument, or with its other libraries,
-/// which are read from the fifth.
+/// Returns the question of a call with its includes, which are read from the fourth argument, or
+/// with its other libraries, which are read from the fifth.
 ///
 /// # Errors
 ///

@@ -14,8 +14,8 @@ use deftable::Texts;
 use m4quote::Arg;
 use std::alloc::Global;
 
-/// AC_CHECK_LIB(library, function, ..), before its other libraries are read. Whether it adds the library is known after its
-/// actions.
+/// AC_CHECK_LIB(library, function, ..), before its other libraries are read. Whether it adds the
+/// library is known after its actions.
 #[tactic(auto, unfolding(crate::specs::Libraries::check_lib))]
 pub(crate) fn check_lib(alloc: Global, args: &[Arg<'_>]) -> Result<Question, ParseFault>
     ensures { Gives (λ q. q) result (rows.check_lib (map span args.now)) }

@@ -7,7 +7,8 @@ use ac_tree::{Message, OptionKind, OutputKind, Sought, Try};
 pub enum ActMacro {
     /// AC_PREREQ.
     Prereq,
-    /// AC_CONFIG_SRCDIR, AC_CONFIG_AUX_DIR, AC_CONFIG_MACRO_DIR and AC_CONFIG_MACRO_DIRS, whose arguments are not read.
+    /// AC_CONFIG_SRCDIR, AC_CONFIG_AUX_DIR, AC_CONFIG_MACRO_DIR and AC_CONFIG_MACRO_DIRS, whose
+    /// arguments are not read.
     Ignored,
     /// AC_LANG.
     Lang,
@@ -67,11 +68,13 @@ pub enum ChoiceMacro {
 pub enum QuestionMacro {
     /// AC_ARG_ENABLE and AC_ARG_WITH: whether an option is given.
     Given(OptionKind),
-    /// AC_COMPILE_IFELSE, AC_LINK_IFELSE, AC_PREPROC_IFELSE and AC_RUN_IFELSE: whether a program passes.
+    /// AC_COMPILE_IFELSE, AC_LINK_IFELSE, AC_PREPROC_IFELSE and AC_RUN_IFELSE: whether a program
+    /// passes.
     Tries(Try),
     /// AC_CHECK_HEADER, AC_CHECK_FUNC, AC_CHECK_DECL and AC_CHECK_TYPE: whether an entry is found.
     Checks(Sought),
-    /// AC_CHECK_HEADERS, AC_CHECK_FUNCS, AC_CHECK_DECLS and AC_CHECK_TYPES: whether each entry of a list is found.
+    /// AC_CHECK_HEADERS, AC_CHECK_FUNCS, AC_CHECK_DECLS and AC_CHECK_TYPES: whether each entry of a
+    /// list is found.
     ChecksEach(Sought),
     /// AC_CHECK_LIB: whether a library has a function.
     Library,
@@ -79,17 +82,20 @@ pub enum QuestionMacro {
     Libraries,
 }
 
-/// A macro whose calls are statements. Macros are grouped by which of their arguments hold statements.
+/// A macro whose calls are statements. Macros are grouped by which of their arguments hold
+/// statements.
 #[derive(Clone, Copy)]
 pub enum Macro {
     /// No argument holds statements.
     Plain(PlainMacro),
-    /// Every second argument holds statements, and the last if it is left over. The word of AS_CASE comes before them.
+    /// Every second argument holds statements, and the last if it is left over. The word of AS_CASE
+    /// comes before them.
     Choice(ChoiceMacro),
-    /// The two arguments after those of the question hold statements: the first for yes, the second for no. Includes
-    /// and other libraries come after them.
+    /// The two arguments after those of the question hold statements: the first for yes, the second
+    /// for no. Includes and other libraries come after them.
     Question(QuestionMacro),
-    /// AC_CACHE_CHECK: the third argument holds the commands (Autoconf's manual, "Caching Results").
+    /// AC_CACHE_CHECK: the third argument holds the commands (Autoconf's manual, "Caching
+    /// Results").
     Check,
 }
 
@@ -98,8 +104,8 @@ pub enum Macro {
 pub enum ArgumentMacro {
     /// AS_HELP_STRING, in the help arguments of AC_ARG_ENABLE and AC_ARG_WITH.
     HelpString,
-    /// AC_LANG_PROGRAM, in the first argument of AC_COMPILE_IFELSE, AC_LINK_IFELSE, AC_PREPROC_IFELSE and
-    /// AC_RUN_IFELSE.
+    /// AC_LANG_PROGRAM, in the first argument of AC_COMPILE_IFELSE, AC_LINK_IFELSE,
+    /// AC_PREPROC_IFELSE and AC_RUN_IFELSE.
     LangProgram,
     /// AC_LANG_SOURCE, in the same arguments.
     LangSource,

@@ -6,7 +6,8 @@ ghost use Rattle.ac_macros.specs.PackageName as package_names;
 use deftable::Bytes;
 use std::alloc::{AllocError, Global};
 
-/// Returns a byte of the archive's name: a letter in lower case, a digit or `_`, and `-` for any other byte.
+/// Returns a byte of the archive's name: a letter in lower case, a digit or `_`, and `-` for any
+/// other byte.
 fn tar_byte(byte: u8) -> u8
     ensures { result ≡ package_names.tar_byte byte }
 {

@@ -1,4 +1,5 @@
-//! Which calls are allowed before, between and after AC_INIT and AC_OUTPUT, and at top level or not.
+//! Which calls are allowed before, between and after AC_INIT and AC_OUTPUT, and at top level or
+//! not.
 
 ghost use Rattle.std.specs.Prelude.{◌≡◌};
 ghost use Rattle.ac_statement.specs.Reading.{Gives};
@@ -22,15 +23,16 @@ fn may_begin(m: Macro) -> bool
     is_init(m) || matches!(m, Macro::Plain(Acts(ActMacro::Prereq)))
 }
 
-/// Checks that a call is allowed here. `top` is true if the call is in the file's own list of statements, `own_list` if
-/// its macro is allowed only there, and `at` is the offset of the macro's name (own).
+/// Checks that a call is allowed here. `top` is true if the call is in the file's own list of
+/// statements, `own_list` if its macro is allowed only there, and `at` is the offset of the macro's
+/// name (own).
 ///
 /// # Errors
 ///
 /// - `NoInit`, if the call is before AC_INIT, and is neither AC_PREREQ nor AC_INIT.
 /// - `AfterOutput` at the name, if the call is after AC_OUTPUT.
-/// - `NotAtTop` at the name, if the call is between them, and is a second AC_INIT, or is not at top level though
-///   `own_list` is true.
+/// - `NotAtTop` at the name, if the call is between them, and is a second AC_INIT, or is not at top
+///   level though `own_list` is true.
 #[tactic(auto, unfolding(crate::specs::Placement::placed))]
 pub fn check_place(
     top: bool,
@@ -71,8 +73,8 @@ pub fn as_statement(stage: Stage, at: usize, m: Named) -> Result<Macro, ParseFau
     }
 }
 
-/// Returns the error of something at `at` that is no statement: `NoInit` before AC_INIT, `AfterOutput` after AC_OUTPUT,
-/// and else `UnknownStatement`.
+/// Returns the error of something at `at` that is no statement: `NoInit` before AC_INIT,
+/// `AfterOutput` after AC_OUTPUT, and else `UnknownStatement`.
 pub fn bare_fault(stage: Stage, at: usize) -> ParseFault
     ensures { result ≡ places.bare_fault stage at }
 {

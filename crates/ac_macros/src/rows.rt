@@ -205,7 +205,8 @@ fn msg_error(alloc: Global, args: &[Arg<'_>]) -> Result<Effect, ParseFault>
     Ok(Effect::Stop { text, status })
 }
 
-/// AC_MSG_CHECKING(feature), AC_MSG_RESULT(results), AC_MSG_NOTICE(message) and AC_MSG_WARN(problem)
+/// AC_MSG_CHECKING(feature), AC_MSG_RESULT(results), AC_MSG_NOTICE(message) and
+/// AC_MSG_WARN(problem)
 #[tactic(auto, unfolding(crate::specs::Rows::message_of))]
 fn message_of(alloc: Global, message: Message, args: &[Arg<'_>]) -> Result<Effect, ParseFault>
     ensures { Gives (λ e. e) result (rows.message_of message (map span args.now)) }
@@ -266,8 +267,8 @@ fn declaring(
     }
 }
 
-/// Returns what a call with these arguments declares and does, given what the statements before it declare. `at` is the
-/// offset of the macro's name.
+/// Returns what a call with these arguments declares and does, given what the statements before it
+/// declare. `at` is the offset of the macro's name.
 ///
 /// # Errors
 ///
@@ -328,13 +329,15 @@ fn given(
 /// Returns a question of a macro that declares nothing.
 #[tactic(auto, unfolding(crate::specs::Rows::undeclared))]
 fn undeclared(asked: Result<Question, ParseFault>) -> Result<(Declares, Question), ParseFault>
-    ensures { (r : Result questions.Question faults.ParseFault) → Gives (λ q. q) asked r → Gives (λ q. q) result (rows.undeclared r) }
+    ensures { (r : Result questions.Question faults.ParseFault) → Gives (λ q. q) asked r
+        → Gives (λ q. q) result (rows.undeclared r) }
 {
     asked.map(|question| (Declares::Nothing, question))
 }
 
-/// Returns what a call with these arguments declares, and its question, given what the statements before it declare. Its
-/// includes or other libraries are not read yet: `checks::complete` reads them.
+/// Returns what a call with these arguments declares, and its question, given what the statements
+/// before it declare. Its includes or other libraries are not read yet: `checks::complete` reads
+/// them.
 ///
 /// # Errors
 ///

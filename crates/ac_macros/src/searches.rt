@@ -1,4 +1,5 @@
-//! Readers of macros that look for programs (Autoconf's manual, "Generic Programs" and "C Compiler").
+//! Readers of macros that look for programs (Autoconf's manual, "Generic Programs" and "C
+//! Compiler").
 
 ghost use Rattle.std.specs.Prelude.{◌≡◌, map, IfOk};
 ghost use Rattle.m4quote.specs.Entry.{span};

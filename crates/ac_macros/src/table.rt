@@ -32,8 +32,8 @@ pub struct Row {
 /// Any number of arguments: the size in bytes of the largest source, so more than any call has.
 const ANY: usize = 1_048_576;
 
-/// The table: a name, what it means, the least and the most arguments, and whether its calls are allowed only at top
-/// level.
+/// The table: a name, what it means, the least and the most arguments, and whether its calls are
+/// allowed only at top level.
 #[rattlefmt::skip]
 const TABLE: [(&[u8], Named, usize, usize, bool); 45] = [
     (b"AC_INIT", Statement(Plain(Declares(DeclaringMacro::Init))), 2, 5, true),
@@ -83,8 +83,8 @@ const TABLE: [(&[u8], Named, usize, usize, bool); 45] = [
     (b"AC_LANG_SOURCE", Argument(ArgumentMacro::LangSource), 1, 1, false),
 ];
 
-/// Returns all rows: a name, what it means, the least and the most arguments, and whether its calls are allowed only at
-/// top level.
+/// Returns all rows: a name, what it means, the least and the most arguments, and whether its calls
+/// are allowed only at top level.
 #[tactic(auto, unfolding(crate::specs::Table::rows))]
 pub fn rows() -> &'static [(&'static [u8], Named, usize, usize, bool)]
     ensures { map (λ e. (e.0.now, e.1, e.2, e.3, e.4)) result.now ≡ table.rows }
@@ -94,7 +94,8 @@ pub fn rows() -> &'static [(&'static [u8], Named, usize, usize, bool)]
 
 /// Returns the first row of the name.
 fn find(rows: &[(&[u8], Named, usize, usize, bool)], name: &[u8]) -> Option<Row>
-    ensures { result ≡ table.row_among name.now (map (λ e. (e.0.now, e.1, e.2, e.3, e.4)) rows.now) }
+    ensures { result
+        ≡ table.row_among name.now (map (λ e. (e.0.now, e.1, e.2, e.3, e.4)) rows.now) }
 {
     for row in rows {
         if row.0 == name {
@@ -137,8 +138,8 @@ fn is_output_of_text(alloc: Global, m: Named, args: &[Arg<'_>]) -> Result<bool, 
     }
 }
 
-/// Returns whether a row's macro takes these arguments: the row allows their number, and the one of AC_OUTPUT is empty.
-/// An argument with an error in its quotes isn't empty.
+/// Returns whether a row's macro takes these arguments: the row allows their number, and the one of
+/// AC_OUTPUT is empty. An argument with an error in its quotes isn't empty.
 #[tactic(auto, unfolding(crate::specs::Table::takes))]
 pub fn takes(alloc: Global, row: Row, args: &[Arg<'_>]) -> Result<bool, AllocError>
     ensures { IfOk result (λ b. b ≡ table.takes row (map span args.now)) }

@@ -1,4 +1,5 @@
-//! Readers of macros that try programs (Autoconf's manual, "Running the Compiler" and "Generating Sources").
+//! Readers of macros that try programs (Autoconf's manual, "Running the Compiler" and "Generating
+//! Sources").
 
 ghost use Rattle.std.specs.Prelude.{◌≡◌, map};
 ghost use Rattle.m4quote.specs.Entry.{span};

@@ -18,7 +18,8 @@ use std::alloc::{AllocError, Global};
 /// Returns whether the statements keep the rules, and adds what they test.
 #[cycle(list)]
 fn keeps_all(own: Option<&[u8]>, tested: &mut Tested, list: &[Stmt]) -> Result<bool, AllocError>
-    ensures value { IfOk result (λ b. b ≡ decide.resumable (option_map (λ x. x.now) own.entry) tested.old (script_of list.now)) }
+    ensures value { IfOk result (λ b.
+        b ≡ decide.resumable (option_map (λ x. x.now) own.entry) tested.old (script_of list.now)) }
     ensures grown { OnOk result (Extends tested.old tested.new) }
 {
     for statement in list {
@@ -32,7 +33,8 @@ fn keeps_all(own: Option<&[u8]>, tested: &mut Tested, list: &[Stmt]) -> Result<b
 /// Returns whether the statements keep the rules. What they test is forgotten.
 #[cycle(list)]
 fn keeps_apart(own: Option<&[u8]>, tested: &mut Tested, list: &[Stmt]) -> Result<bool, AllocError>
-    ensures value { IfOk result (λ b. b ≡ decide.resumable (option_map (λ x. x.now) own.entry) tested.old (script_of list.now)) }
+    ensures value { IfOk result (λ b.
+        b ≡ decide.resumable (option_map (λ x. x.now) own.entry) tested.old (script_of list.now)) }
     ensures unchanged { OnOk result (tested.new ≡ tested.old) }
 {
     let length = tested.len();
@@ -44,7 +46,11 @@ fn keeps_apart(own: Option<&[u8]>, tested: &mut Tested, list: &[Stmt]) -> Result
 /// Returns whether a case keeps the rules.
 #[cycle(list)]
 fn keeps_case(own: Option<&[u8]>, tested: &mut Tested, case: &Case) -> Result<bool, AllocError>
-    ensures value { IfOk result (λ b. b ≡ decide.reads_when tested.old case.now.when && decide.resumable (option_map (λ x. x.now) own.entry) tested.old (script_of case.now.body.items)) }
+    ensures value { IfOk result (λ b.
+        b
+        ≡ decide.reads_when tested.old case.now.when
+        && decide.resumable (option_map (λ x. x.now) own.entry) tested.old
+        (script_of case.now.body.items)) }
     ensures unchanged { OnOk result (tested.new ≡ tested.old) }
 {
     if !reads_when(tested, &case.when) {
@@ -56,7 +62,10 @@ fn keeps_case(own: Option<&[u8]>, tested: &mut Tested, case: &Case) -> Result<bo
 /// Returns whether all cases keep the rules.
 #[cycle(list)]
 fn keeps_cases(own: Option<&[u8]>, tested: &mut Tested, cases: &[Case]) -> Result<bool, AllocError>
-    ensures value { IfOk result (λ b. b ≡ decide.resumable_in (option_map (λ x. x.now) own.entry) tested.old (cases_of cases.now)) }
+    ensures value { IfOk result (λ b.
+        b
+        ≡ decide.resumable_in (option_map (λ x. x.now) own.entry) tested.old
+        (cases_of cases.now)) }
     ensures unchanged { OnOk result (tested.new ≡ tested.old) }
 {
     for case in cases {
@@ -74,7 +83,8 @@ fn first_of(names: &[Bytes]) -> &[Bytes]
     &names[..names.len().min(1)]
 }
 
-/// Returns whether the cases of a choice keep the rules, whose question tests these names, and adds the names.
+/// Returns whether the cases of a choice keep the rules, whose question tests these names, and adds
+/// the names.
 #[cycle(list)]
 fn keeps_asked(
     own: Option<&[u8]>,
@@ -82,8 +92,12 @@ fn keeps_asked(
     names: &[Bytes],
     cases: &[Case],
 ) -> Result<bool, AllocError>
-    ensures value { IfOk result (λ b. (rest : Script)
-        → decide.resumable_in (option_map (λ x. x.now) own.entry) (first_alone names.now ++ tested.old) (cases_of cases.now) && decide.resumable (option_map (λ x. x.now) own.entry) (names.now ++ tested.old) rest
+    ensures value { IfOk result (λ b.
+        (rest : Script)
+        → decide.resumable_in (option_map (λ x. x.now) own.entry)
+        (first_alone names.now ++ tested.old) (cases_of cases.now)
+        && decide.resumable (option_map (λ x. x.now) own.entry) (names.now ++ tested.old)
+        rest
         ≡ b && decide.resumable (option_map (λ x. x.now) own.entry) tested.new rest) }
     ensures grown { OnOk result (Extends tested.old tested.new) }
 {
@@ -105,8 +119,10 @@ fn keeps_question(
     question: &Question,
     cases: &[Case],
 ) -> Result<bool, AllocError>
-    ensures value { IfOk result (λ b. (rest : Script)
-        → decide.resumable (option_map (λ x. x.now) own.entry) tested.old (Choice declares.now (Asked question.now) (cases_of cases.now) rest)
+    ensures value { IfOk result (λ b.
+        (rest : Script)
+        → decide.resumable (option_map (λ x. x.now) own.entry) tested.old
+        (Choice declares.now (Asked question.now) (cases_of cases.now) rest)
         ≡ b && decide.resumable (option_map (λ x. x.now) own.entry) tested.new rest) }
     ensures grown { OnOk result (Extends tested.old tested.new) }
 {
@@ -126,8 +142,10 @@ fn keeps_choice(
     subject: &Subject,
     cases: &[Case],
 ) -> Result<bool, AllocError>
-    ensures value { IfOk result (λ b. (rest : Script)
-        → decide.resumable (option_map (λ x. x.now) own.entry) tested.old (Choice declares.now subject.now (cases_of cases.now) rest)
+    ensures value { IfOk result (λ b.
+        (rest : Script)
+        → decide.resumable (option_map (λ x. x.now) own.entry) tested.old
+        (Choice declares.now subject.now (cases_of cases.now) rest)
         ≡ b && decide.resumable (option_map (λ x. x.now) own.entry) tested.new rest) }
     ensures grown { OnOk result (Extends tested.old tested.new) }
 {
@@ -152,8 +170,10 @@ fn keeps_check(
     name: &[u8],
     commands: &[Stmt],
 ) -> Result<bool, AllocError>
-    ensures value { IfOk result (λ b. (rest : Script)
-        → decide.resumable (option_map (λ x. x.now) own.entry) tested.old (Check message.now name.now (script_of commands.now) rest)
+    ensures value { IfOk result (λ b.
+        (rest : Script)
+        → decide.resumable (option_map (λ x. x.now) own.entry) tested.old
+        (Check message.now name.now (script_of commands.now) rest)
         ≡ b && decide.resumable (option_map (λ x. x.now) own.entry) tested.new rest) }
     ensures grown { OnOk result (Extends tested.old tested.new) }
 {
@@ -174,8 +194,10 @@ fn keeps_simple(
     declares: &Declares,
     effect: &Effect,
 ) -> Result<bool, AllocError>
-    ensures value { IfOk result (λ b. (rest : Script)
-        → decide.resumable (option_map (λ x. x.now) own.entry) tested.old (Then declares.now effect.now rest)
+    ensures value { IfOk result (λ b.
+        (rest : Script)
+        → decide.resumable (option_map (λ x. x.now) own.entry) tested.old
+        (Then declares.now effect.now rest)
         ≡ b && decide.resumable (option_map (λ x. x.now) own.entry) tested.new rest) }
     ensures grown { OnOk result (Extends tested.old tested.new) }
 {
@@ -190,8 +212,10 @@ fn keeps_simple(
 /// Returns whether a statement keeps the rules, and adds what it tests.
 #[cycle(list)]
 fn keeps(own: Option<&[u8]>, tested: &mut Tested, statement: &Stmt) -> Result<bool, AllocError>
-    ensures value { IfOk result (λ b. (rest : Script)
-        → decide.resumable (option_map (λ x. x.now) own.entry) tested.old (stmt_then statement.now rest)
+    ensures value { IfOk result (λ b.
+        (rest : Script)
+        → decide.resumable (option_map (λ x. x.now) own.entry) tested.old
+        (stmt_then statement.now rest)
         ≡ b && decide.resumable (option_map (λ x. x.now) own.entry) tested.new rest) }
     ensures grown { OnOk result (Extends tested.old tested.new) }
 {
@@ -210,7 +234,8 @@ fn keeps(own: Option<&[u8]>, tested: &mut Tested, statement: &Stmt) -> Result<bo
     }
 }
 
-/// Returns whether a source with these statements can be resumed. It takes time in proportion to the length of the source.
+/// Returns whether a source with these statements can be resumed. It takes time in proportion to
+/// the length of the source.
 pub fn is_resumable(alloc: Global, statements: &[Stmt]) -> Result<bool, AllocError>
     ensures { IfOk result (λ b. b ≡ decide.is_resumable (script_of statements.now)) }
 {

@@ -66,7 +66,8 @@ fn reads_condition(tested: &Tested, condition: &Condition) -> bool
 }
 
 fn reads_elements(tested: &Tested, elements: &[(Joint, Element)]) -> bool
-    ensures { result ≡ list_all (λ next. decide.reads_condition tested.now next.1.condition) elements.now }
+    ensures { result
+        ≡ list_all (λ next. decide.reads_condition tested.now next.1.condition) elements.now }
 {
     elements
         .iter()
@@ -74,7 +75,9 @@ fn reads_elements(tested: &Tested, elements: &[(Joint, Element)]) -> bool
 }
 
 fn reads_first(tested: &Tested, first: &Element, rest: &[(Joint, Element)]) -> bool
-    ensures { result ≡ decide.reads_condition tested.now first.now.condition && list_all (λ next. decide.reads_condition tested.now next.1.condition) rest.now }
+    ensures { result
+        ≡ decide.reads_condition tested.now first.now.condition
+        && list_all (λ next. decide.reads_condition tested.now next.1.condition) rest.now }
 {
     reads_condition(tested, &first.condition) && reads_elements(tested, rest)
 }

@@ -19,8 +19,8 @@ fn is_command_of(name: &[u8], own: Option<&[u8]>) -> bool
     }
 }
 
-/// Returns whether the name may be assigned: it is no cache name, or the statement is a command of the AC_CACHE_CHECK of this
-/// name.
+/// Returns whether the name may be assigned: it is no cache name, or the statement is a command of
+/// the AC_CACHE_CHECK of this name.
 fn may_assign(own: Option<&[u8]>, name: &[u8]) -> bool
     ensures { result ≡ decide.may_assign (option_map (λ x. x.now) own.entry) name.now }
 {
@@ -29,7 +29,9 @@ fn may_assign(own: Option<&[u8]>, name: &[u8]) -> bool
 
 /// Returns whether the name may be assigned, if there is one.
 fn may_assign_if_any(own: Option<&[u8]>, name: Option<&Name>) -> bool
-    ensures { result ≡ decide.may_assign_if_any (option_map (λ x. x.now) own.entry) (option_map (λ n. n.now) name.entry) }
+    ensures { result
+        ≡ decide.may_assign_if_any (option_map (λ x. x.now) own.entry)
+        (option_map (λ n. n.now) name.entry) }
 {
     match name {
         None => true,
@@ -46,7 +48,8 @@ fn may_try(own: Option<&[u8]>, tries: bool) -> bool
 
 /// Returns whether what is used keeps the rules.
 pub(crate) fn may_use(own: Option<&[u8]>, tested: &Tested, uses: &Uses<'_>) -> bool
-    ensures { result ≡ decide.may_use (option_map (λ x. x.now) own.entry) tested.now (used uses.now) }
+    ensures { result
+        ≡ decide.may_use (option_map (λ x. x.now) own.entry) tested.now (used uses.now) }
 {
     may_try(own, uses.tries)
         && may_assign_if_any(own, uses.assigns)

@@ -12,6 +12,9 @@ ghost use Rattle.ac_statement.specs.Standing.{StandsFor};
 /// `inside` as a function agrees with `StandsFor`, the relation that states the rules.
 pub fn inside_laws()
     ensures text { (arg s : Span) → (inside arg ≡ Ok s) ↔ StandsFor arg s }
-    // If `inside` fails, the argument's quotes have an error, or the error is an unknown statement at its offset.
-    ensures fault { (arg : Span) (f : ParseFault) → inside arg ≡ Err f → ((q : QuoteFault) × IsFirstFault arg.at arg.text q × (f ≡ Quote q)) ⊎ (f ≡ UnknownStatement arg.at) }
+    // If `inside` fails, the argument's quotes have an error, or the error is an unknown statement
+    // at its offset.
+    ensures fault { (arg : Span) (f : ParseFault) → inside arg ≡ Err f
+        → ((q : QuoteFault) × IsFirstFault arg.at arg.text q × (f ≡ Quote q))
+        ⊎ (f ≡ UnknownStatement arg.at) }
 {}

@@ -12,8 +12,8 @@ use std::alloc::{AllocError, AllocFailed};
 use std::error::Error;
 use std::fmt;
 
-/// What is wrong with a source: the first error, in the order of reading, and its offset in bytes from the start of the
-/// file. It prints as its number and offset.
+/// What is wrong with a source: the first error, in the order of reading, and its offset in bytes
+/// from the start of the file. It prints as its number and offset.
 #[derive(Clone, Copy, Debug, PartialEq, Eq)]
 pub enum ParseFault {
     /// Quotes, parentheses, a NUL byte, the nesting or the size of the source.
@@ -36,7 +36,8 @@ pub enum ParseFault {
     NoOutput,
     /// Something other than blanks and comments after AC_OUTPUT.
     AfterOutput(usize),
-    /// Commands of AC_CACHE_CHECK that hold something other than assignments to its name, choices and tries.
+    /// Commands of AC_CACHE_CHECK that hold something other than assignments to its name, choices
+    /// and tries.
     CacheBody(usize),
     /// Statement lists that nest too deep.
     TooDeep(usize),

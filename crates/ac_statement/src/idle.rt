@@ -7,7 +7,8 @@ use m4quote::{QuoteFault, bare_value};
 use std::alloc::{AllocError, Global};
 use text_cut::is_blank;
 
-/// Returns whether a comment is open after this byte, or `None` if the byte is neither a blank nor in a comment.
+/// Returns whether a comment is open after this byte, or `None` if the byte is neither a blank nor
+/// in a comment.
 fn after_byte(in_comment: bool, byte: u8) -> Option<bool>
     ensures { result ≡ words.after_byte in_comment byte }
 {
@@ -36,8 +37,8 @@ fn is_idle_value(value: &[u8]) -> bool
     true
 }
 
-/// Returns whether bare text has no effect: its value has blanks and comments alone (POSIX, Shell Command Language, "Token
-/// Recognition"). If its quotes have an error, it doesn't count as such.
+/// Returns whether bare text has no effect: its value has blanks and comments alone (POSIX, Shell
+/// Command Language, "Token Recognition"). If its quotes have an error, it doesn't count as such.
 #[tactic(auto, unfolding(crate::specs::Idle::is_idle))]
 pub fn is_idle(alloc: Global, text: &[u8]) -> Result<bool, AllocError>
     ensures { IfOk result (λ b. b ≡ words.is_idle text.now) }

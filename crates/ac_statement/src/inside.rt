@@ -26,7 +26,8 @@ fn depth_after(depth: usize, byte: u8) -> usize
     }
 }
 
-/// Returns whether the one bracket that is open before the text is closed by its last byte, and not earlier.
+/// Returns whether the one bracket that is open before the text is closed by its last byte, and not
+/// earlier.
 fn closes_at_end(text: &[u8]) -> bool
     ensures { result ≡ words.closes_at_end 1 text.now }
 {
@@ -68,7 +69,8 @@ pub fn are_blank(items: &[Item<'_>]) -> bool
 
 /// If exactly one item is not blank text, and it is bare text, returns it with its offset.
 fn only_text<'a>(items: &[Item<'a>]) -> Option<(&'a [u8], usize)>
-    ensures { MatchOption result (words.only_text (views items.now) ≡ None) (λ r. words.only_text (views items.now) ≡ Some (record { text = r.0.now; at = r.1 })) }
+    ensures { MatchOption result (words.only_text (views items.now) ≡ None)
+        (λ r. words.only_text (views items.now) ≡ Some (record { text = r.0.now; at = r.1 })) }
 {
     for i in 0..items.len() {
         match &items[i] {
@@ -97,7 +99,8 @@ fn blank_len(text: &[u8]) -> usize
 /// If the bare text is one quoted run with blanks around it, returns the inside of the run.
 fn run_inside<'a>(text: &'a [u8], at: usize) -> Option<Arg<'a>>
     requires { at + length text.now < 2 ^ 64 }
-    ensures { MatchOption result (words.run_inside (record { text = text.now; at = at }) ≡ None) (λ r. words.run_inside (record { text = text.now; at = at }) ≡ Some (span r)) }
+    ensures { MatchOption result (words.run_inside (record { text = text.now; at = at }) ≡ None)
+        (λ r. words.run_inside (record { text = text.now; at = at }) ≡ Some (span r)) }
 {
     let blanks = blank_len(text);
     let run = trim(&text[blanks..]);
@@ -174,8 +177,10 @@ fn items_of<'a>(alloc: Global, arg: Arg<'a>) -> Result<Vec<Item<'a>>, ParseFault
 
 /// If the items are one quoted run with blanks around it, returns the inside of the run.
 fn only_run<'a>(items: &[Item<'a>]) -> Option<Arg<'a>>
-    requires { (s : Span) → words.only_text (views items.now) ≡ Some s → s.at + length s.text < 2 ^ 64 }
-    ensures { MatchOption result (words.inside_of (words.only_text (views items.now)) ≡ None) (λ r. words.inside_of (words.only_text (views items.now)) ≡ Some (span r)) }
+    requires { (s : Span) → words.only_text (views items.now) ≡ Some s
+        → s.at + length s.text < 2 ^ 64 }
+    ensures { MatchOption result (words.inside_of (words.only_text (views items.now)) ≡ None)
+        (λ r. words.inside_of (words.only_text (views items.now)) ≡ Some (span r)) }
 {
     match only_text(items) {
         Some((text, at)) => run_inside(text, at),
@@ -183,9 +188,9 @@ fn only_run<'a>(items: &[Item<'a>]) -> Option<Arg<'a>>
     }
 }
 
-/// Returns the statements that an argument denotes, as a text: the inside of one quoted run with blanks and `dnl` lines
-/// around it, or the argument itself if no bracket is outside its calls. `inside_laws` states this in the words of
-/// `specs/Standing` (own).
+/// Returns the statements that an argument denotes, as a text: the inside of one quoted run with
+/// blanks and `dnl` lines around it, or the argument itself if no bracket is outside its calls.
+/// `inside_laws` states this in the words of `specs/Standing` (own).
 ///
 /// # Errors
 ///
@@ -204,9 +209,9 @@ pub fn inside<'a>(alloc: Global, arg: Arg<'a>) -> Result<Arg<'a>, ParseFault>
     Ok(arg)
 }
 
-/// Returns the items of an argument that holds one call, quoted or not: those of the inside, if the argument is one
-/// quoted run with blanks and `dnl` lines around it, else the argument's own. Unlike in `inside`, brackets may be
-/// anywhere (own).
+/// Returns the items of an argument that holds one call, quoted or not: those of the inside, if the
+/// argument is one quoted run with blanks and `dnl` lines around it, else the argument's own.
+/// Unlike in `inside`, brackets may be anywhere (own).
 #[tactic(auto, unfolding(crate::specs::Inside::call_items))]
 pub fn call_items<'a>(alloc: Global, arg: Arg<'a>) -> Result<Vec<Item<'a>>, ParseFault>
     ensures { Gives (λ v. views v.items) result (words.call_items (span arg.entry)) }

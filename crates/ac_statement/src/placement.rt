@@ -33,7 +33,8 @@ fn end_space_len(text: &[u8]) -> usize
         .count()
 }
 
-/// Returns whether the text, after its leading spaces and tabs, begins with a newline, `;` or `#`, or is empty.
+/// Returns whether the text, after its leading spaces and tabs, begins with a newline, `;` or `#`,
+/// or is empty.
 fn begins_line(text: &[u8]) -> bool
     ensures { result ≡ words.begins_line text.now }
 {
@@ -41,7 +42,8 @@ fn begins_line(text: &[u8]) -> bool
     n == text.len() || matches!(text[n], b'\n' | b';' | b'#')
 }
 
-/// Returns whether the text, before its trailing spaces and tabs, ends with a newline or `;`, or is empty.
+/// Returns whether the text, before its trailing spaces and tabs, ends with a newline or `;`, or is
+/// empty.
 fn ends_line(text: &[u8]) -> bool
     ensures { result ≡ words.ends_line text.now }
 {
@@ -112,8 +114,8 @@ fn is_free_after(name: &[u8], args: &[Arg<'_>], at: usize, items: &[Item<'_>]) -
     }
 }
 
-/// Returns whether a call is a statement: it is on a line of its own, or `;` separates it from what precedes and follows it
-/// (own).
+/// Returns whether a call is a statement: it is on a line of its own, or `;` separates it from what
+/// precedes and follows it (own).
 #[tactic(auto, unfolding(crate::specs::Stand::is_statement))]
 pub fn is_statement(
     line_start: LineStart,
@@ -122,7 +124,8 @@ pub fn is_statement(
     at: usize,
     after: &[Item<'_>],
 ) -> bool
-    ensures { result ≡ words.is_statement line_start name.now (map span args.now) at (views after.now) }
+    ensures { result
+        ≡ words.is_statement line_start name.now (map span args.now) at (views after.now) }
 {
     (line_start.free || !reaches(line_start, at)) && is_free_after(name, args, at, after)
 }

@@ -25,8 +25,8 @@ pub enum Stage {
 /// How far a source is after statements, and what they declare.
 pub struct Declarations {
     pub stage: Stage,
-    /// The output variables of AC_SUBST, AC_ARG_VAR, AC_CHECK_PROG, AC_CHECK_PROGS, AC_PATH_PROG and AC_PROG_CC, each once,
-    /// in the order of their first mention.
+    /// The output variables of AC_SUBST, AC_ARG_VAR, AC_CHECK_PROG, AC_CHECK_PROGS, AC_PATH_PROG
+    /// and AC_PROG_CC, each once, in the order of their first mention.
     pub substituted: SubstList,
     /// The precious variables of AC_ARG_VAR and AC_PROG_CC, in the same way.
     pub precious: SubstList,

@@ -28,8 +28,9 @@ fn are_feature_bytes(name: &[u8]) -> bool
     name.iter().all(|byte| is_feature_byte(*byte))
 }
 
-/// Returns whether a text can name a feature or a package: it is not empty, and has only letters, digits, `-`, `+`, `.`
-/// and `_` (Autoconf's manual, "Choosing Package Options"; that it is not empty is own).
+/// Returns whether a text can name a feature or a package: it is not empty, and has only letters,
+/// digits, `-`, `+`, `.` and `_` (Autoconf's manual, "Choosing Package Options"; that it is not
+/// empty is own).
 pub fn is_feature(name: &[u8]) -> bool
     ensures { result ≡ words.is_feature name.now }
 {
@@ -49,8 +50,8 @@ fn variable_byte(byte: u8) -> u8
     }
 }
 
-/// Returns the variable that an option sets: `enable_` or `with_`, and the name with `_` for each `-`, `+` and `.`
-/// (Autoconf's manual, "Choosing Package Options" and "External Software").
+/// Returns the variable that an option sets: `enable_` or `with_`, and the name with `_` for each
+/// `-`, `+` and `.` (Autoconf's manual, "Choosing Package Options" and "External Software").
 pub fn option_variable(alloc: Global, kind: OptionKind, name: &[u8]) -> Result<Bytes, AllocError>
     ensures { IfOk result (λ v. v ≡ words.option_variable kind name.now) }
 {

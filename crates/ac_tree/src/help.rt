@@ -7,8 +7,8 @@ use deftable::Bytes;
 use std::alloc::{AllocError, Global};
 use std::marker::Model;
 
-/// The help that a source gives for an option or a variable (Autoconf's manual, "Making Your Help Strings Look
-/// Pretty").
+/// The help that a source gives for an option or a variable (Autoconf's manual, "Making Your Help
+/// Strings Look Pretty").
 #[derive(Drop)]
 pub enum Help {
     /// The option or the variable, and its purpose: `AS_HELP_STRING(left, right)`, and AC_ARG_VAR.

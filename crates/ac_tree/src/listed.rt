@@ -25,8 +25,8 @@ pub enum Sought {
     Type,
 }
 
-/// The entries of a list, in order: at least one, and at most 256. One that is listed twice is there twice. Contracts see the
-/// list of their texts.
+/// The entries of a list, in order: at least one, and at most 256. One that is listed twice is
+/// there twice. Contracts see the list of their texts.
 pub struct Entries {
     entries: Vec<Bytes>,
 }

@@ -15,8 +15,8 @@ pub enum Try {
     Run,
 }
 
-/// The text of a program that is tried. In a prologue and in a whole text, each line AC_INCLUDES_DEFAULT has been
-/// replaced by the default includes.
+/// The text of a program that is tried. In a prologue and in a whole text, each line
+/// AC_INCLUDES_DEFAULT has been replaced by the default includes.
 #[derive(Drop)]
 pub enum Program {
     /// AC_LANG_PROGRAM: the text before `main`, and the text of its body.

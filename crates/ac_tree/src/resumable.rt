@@ -2,7 +2,8 @@
 
 ghost use Rattle.ac_tree.specs.Decide.{ResumableIsDecided};
 
-/// States that the function which decides whether a source can be resumed answers what the rules say.
+/// States that the function which decides whether a source can be resumed answers what the rules
+/// say.
 pub fn resumable_is_decided()
     ensures { ResumableIsDecided }
 {}

@@ -13,7 +13,8 @@ use deftable::SubstList;
 use output_list::OutputList;
 use std::marker::Model;
 
-/// A configure.ac that was read. Contracts see its statements; its lists are those that the statements declare.
+/// A configure.ac that was read. Contracts see its statements; its lists are those that the
+/// statements declare.
 pub struct Source {
     statements: Vec<Stmt>,
     lists: Declarations,
@@ -49,7 +50,8 @@ impl Model for Source {
 }
 
 impl Source {
-    /// Makes a source from its statements, the lists that they declare, and whether it can be resumed.
+    /// Makes a source from its statements, the lists that they declare, and whether it can be
+    /// resumed.
     pub fn new(statements: Vec<Stmt>, lists: Declarations, resumes: bool) -> Source
         requires declared { lists ≡ lists_of (script_of statements.items) }
         requires decided { resumes ≡ decide.is_resumable (script_of statements.items) }
@@ -69,8 +71,8 @@ impl Source {
         self.statements.as_slice()
     }
 
-    /// Returns whether the source can be resumed: if a run is cut, and is started again with the cache that it saved, it
-    /// ends as an uncut run does.
+    /// Returns whether the source can be resumed: if a run is cut, and is started again with the
+    /// cache that it saved, it ends as an uncut run does.
     pub fn is_resumable(&self) -> bool
         ensures rules { (result ≡ true) ↔ IsResumable (script_of self.now) }
         ensures exact { result ≡ decide.is_resumable (script_of self.now) }
@@ -78,9 +80,9 @@ impl Source {
         self.resumes
     }
 
-    /// Returns the output variables of AC_SUBST, AC_ARG_VAR, AC_CHECK_PROG, AC_CHECK_PROGS, AC_PATH_PROG and
-    /// AC_PROG_CC, each once, in the order of their first mention. Statements in cases that a run does not take count
-    /// too.
+    /// Returns the output variables of AC_SUBST, AC_ARG_VAR, AC_CHECK_PROG, AC_CHECK_PROGS,
+    /// AC_PATH_PROG and AC_PROG_CC, each once, in the order of their first mention. Statements in
+    /// cases that a run does not take count too.
     pub fn substituted(&self) -> &SubstList
         ensures { result.now ≡ (lists_of (script_of self.now)).substituted }
     {
@@ -94,21 +96,24 @@ impl Source {
         &self.lists.precious
     }
 
-    /// Returns the variables of the features that AC_ARG_ENABLE declares, `enable_NAME`, in the same way.
+    /// Returns the variables of the features that AC_ARG_ENABLE declares, `enable_NAME`, in the
+    /// same way.
     pub fn features(&self) -> &SubstList
         ensures { result.now ≡ (lists_of (script_of self.now)).features }
     {
         &self.lists.features
     }
 
-    /// Returns the variables of the packages that AC_ARG_WITH declares, `with_NAME`, in the same way.
+    /// Returns the variables of the packages that AC_ARG_WITH declares, `with_NAME`, in the same
+    /// way.
     pub fn packages(&self) -> &SubstList
         ensures { result.now ≡ (lists_of (script_of self.now)).packages }
     {
         &self.lists.packages
     }
 
-    /// Returns the help entries of AC_ARG_ENABLE, AC_ARG_WITH and AC_ARG_VAR, one for each call, in order.
+    /// Returns the help entries of AC_ARG_ENABLE, AC_ARG_WITH and AC_ARG_VAR, one for each call, in
+    /// order.
     pub fn help(&self) -> &HelpList
         ensures { result.now ≡ (lists_of (script_of self.now)).help }
     {

@@ -17,7 +17,8 @@ pub enum OutputKind {
     Header,
 }
 
-/// What a statement adds to the lists of its source. Texts are used texts: unquoted, with quadrigraphs replaced.
+/// What a statement adds to the lists of its source. Texts are used texts: unquoted, with
+/// quadrigraphs replaced.
 #[derive(Drop)]
 pub enum Declares {
     /// Nothing.
@@ -77,8 +78,8 @@ pub enum ProgramValue {
 /// What a statement with no statements in it does. Texts are used texts.
 #[derive(Drop)]
 pub enum Effect {
-    /// Nothing. Some macros only declare, and others have no effect in a run: AC_PREREQ, AC_CONFIG_SRCDIR, AC_CONFIG_AUX_DIR,
-    /// AC_CONFIG_MACRO_DIR, AC_CONFIG_MACRO_DIRS, AC_LANG.
+    /// Nothing. Some macros only declare, and others have no effect in a run: AC_PREREQ,
+    /// AC_CONFIG_SRCDIR, AC_CONFIG_AUX_DIR, AC_CONFIG_MACRO_DIR, AC_CONFIG_MACRO_DIRS, AC_LANG.
     Nothing,
     /// `NAME=WORD`, and AC_SUBST with a value: a shell variable gets the value of a word.
     Assign {
@@ -113,23 +114,24 @@ pub enum Effect {
         tarname: Bytes,
         url: Bytes,
     },
-    /// AC_CHECK_PROG and AC_PATH_PROG: a variable, the program to look for, and the variable's values if the program is found
-    /// and if it isn't.
+    /// AC_CHECK_PROG and AC_PATH_PROG: a variable, the program to look for, and the variable's
+    /// values if the program is found and if it isn't.
     Search {
         variable: Name,
         program: Bytes,
         value: ProgramValue,
         otherwise: Option<HereText>,
     },
-    /// AC_CHECK_PROGS and AC_PROG_CC: a variable, which gets the name of the first program that is found, and its value if
-    /// none is.
+    /// AC_CHECK_PROGS and AC_PROG_CC: a variable, which gets the name of the first program that is
+    /// found, and its value if none is.
     Searches {
         variable: Name,
         programs: Texts,
         otherwise: Option<HereText>,
     },
-    /// AC_CHECK_HEADERS, AC_CHECK_FUNCS and AC_CHECK_DECLS without actions: the entries, for which all children are asked at
-    /// once, and the includes of their programs, if they are not the default ones.
+    /// AC_CHECK_HEADERS, AC_CHECK_FUNCS and AC_CHECK_DECLS without actions: the entries, for which
+    /// all children are asked at once, and the includes of their programs, if they are not the
+    /// default ones.
     Batch {
         listed: Listed,
         entries: Entries,
@@ -142,41 +144,42 @@ pub enum Effect {
 /// What a macro asks, if it has statements for each answer.
 #[derive(Drop)]
 pub enum Question {
-    /// AC_ARG_ENABLE and AC_ARG_WITH: whether the option's variable is set. If it is, the variable `enableval` or
-    /// `withval` gets its value from here on.
+    /// AC_ARG_ENABLE and AC_ARG_WITH: whether the option's variable is set. If it is, the variable
+    /// `enableval` or `withval` gets its value from here on.
     Given {
         kind: OptionKind,
         variable: Name,
     },
-    /// AC_COMPILE_IFELSE, AC_LINK_IFELSE, AC_PREPROC_IFELSE, AC_RUN_IFELSE: whether a program passes.
+    /// AC_COMPILE_IFELSE, AC_LINK_IFELSE, AC_PREPROC_IFELSE, AC_RUN_IFELSE: whether a program
+    /// passes.
     Tries {
         kind: Try,
         program: Program,
     },
-    /// AC_CHECK_HEADER, AC_CHECK_FUNC, AC_CHECK_DECL and AC_CHECK_TYPE: whether the entry is found. The includes are those
-    /// of its programs, if they are not the default ones.
+    /// AC_CHECK_HEADER, AC_CHECK_FUNC, AC_CHECK_DECL and AC_CHECK_TYPE: whether the entry is found.
+    /// The includes are those of its programs, if they are not the default ones.
     Checks {
         sought: Sought,
         entry: Bytes,
         includes: Option<HereText>,
     },
-    /// AC_CHECK_HEADERS, AC_CHECK_FUNCS and AC_CHECK_DECLS with actions, and AC_CHECK_TYPES: whether each entry is found, one
-    /// after the other. What is found is defined.
+    /// AC_CHECK_HEADERS, AC_CHECK_FUNCS and AC_CHECK_DECLS with actions, and AC_CHECK_TYPES:
+    /// whether each entry is found, one after the other. What is found is defined.
     ChecksEach {
         sought: Sought,
         entries: Entries,
         includes: Option<HereText>,
     },
-    /// AC_CHECK_LIB: whether a library has a function. The other libraries are linked after it. If it has the function and
-    /// `adds` is true, the result is defined and LIBS gets the library.
+    /// AC_CHECK_LIB: whether a library has a function. The other libraries are linked after it. If
+    /// it has the function and `adds` is true, the result is defined and LIBS gets the library.
     Library {
         library: Bytes,
         function: Bytes,
         others: Option<HereText>,
         adds: bool,
     },
-    /// AC_SEARCH_LIBS: whether a function can be linked with no further library, or with one of these. LIBS gets the first
-    /// one that has it.
+    /// AC_SEARCH_LIBS: whether a function can be linked with no further library, or with one of
+    /// these. LIBS gets the first one that has it.
     Libraries {
         function: Bytes,
         libraries: Texts,

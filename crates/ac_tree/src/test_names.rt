@@ -1,4 +1,5 @@
-//! The names of tests, under which their values are cached (Autoconf's manual, "Cache Variable Names").
+//! The names of tests, under which their values are cached (Autoconf's manual, "Cache Variable
+//! Names").
 
 ghost use Rattle.std.specs.Prelude.{◌≡◌, IfOk};
 ghost use Rattle.ac_tree.specs.TestNames as names;

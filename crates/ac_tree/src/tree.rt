@@ -42,14 +42,15 @@ pub enum Stmt {
         declares: Declares,
         effect: Effect,
     },
-    /// AS_IF, AS_CASE, or a macro that asks a question: what it declares, and then the statements of the first case whose
-    /// condition holds, if any.
+    /// AS_IF, AS_CASE, or a macro that asks a question: what it declares, and then the statements
+    /// of the first case whose condition holds, if any.
     Choose {
         declares: Declares,
         subject: Subject,
         cases: Vec<Case>,
     },
-    /// AC_CACHE_CHECK: the message, the name that the value is cached under, and the commands that set it.
+    /// AC_CACHE_CHECK: the message, the name that the value is cached under, and the commands that
+    /// set it.
     CacheCheck {
         message: HereText,
         name: Name,

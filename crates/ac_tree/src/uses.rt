@@ -126,7 +126,14 @@ fn each(alloc: Global, sought: Sought, entries: &[Bytes]) -> Result<Texts, Alloc
 
 /// Looks for a program, by tests that may leave their names unset.
 fn searching_by<'a>(variable: &'a Name, reads: Reads<'a>, tests: Texts) -> Uses<'a>
-    ensures { used result ≡ record { assigns = Some variable.now; reads = texts_read reads.entry; tests = tests; alone = true; tries = false } }
+    ensures { used result
+        ≡ record {
+          assigns = Some variable.now;
+          reads = texts_read reads.entry;
+          tests = tests;
+          alone = true;
+          tries = false;
+        } }
 {
     Uses {
         assigns: Some(variable),
@@ -144,7 +151,8 @@ fn searching<'a>(
     name: Bytes,
     reads: Reads<'a>,
 ) -> Result<Uses<'a>, AllocError>
-    ensures { IfOk result (λ u. used u ≡ rules.searching variable.now name (texts_read reads.entry)) }
+    ensures { IfOk result (λ u.
+        used u ≡ rules.searching variable.now name (texts_read reads.entry)) }
 {
     let tests = one(alloc, name)?;
     Ok(searching_by(variable, reads, tests))
@@ -168,7 +176,8 @@ fn testing_each<'a>(
     entries: &[Bytes],
     text: &'a Option<HereText>,
 ) -> Result<Uses<'a>, AllocError>
-    ensures { IfOk result (λ u. used u ≡ rules.testing (map (names.sought_name sought) entries.now) text.now) }
+    ensures { IfOk result (λ u.
+        used u ≡ rules.testing (map (names.sought_name sought) entries.now) text.now) }
 {
     each(alloc, sought, entries).map(|tests| testing(tests, text))
 }
@@ -239,7 +248,14 @@ fn program_texts<'a>(program: &'a Program) -> Reads<'a>
 
 /// Tries a program.
 fn trying<'a>(alloc: Global, program: &'a Program) -> Uses<'a>
-    ensures { used result ≡ record { assigns = None; reads = program_texts program.now; tests = []; alone = false; tries = true } }
+    ensures { used result
+        ≡ record {
+          assigns = None;
+          reads = program_texts program.now;
+          tests = [];
+          alone = false;
+          tries = true;
+        } }
 {
     Uses {
         assigns: None,

@@ -16,8 +16,8 @@ use m4quote::Arg;
 use shellword::HereText;
 use std::alloc::Global;
 
-/// Returns the statement of a question about each entry of a list: a batch, if there are no cases and one child decides an
-/// entry.
+/// Returns the statement of a question about each entry of a list: a batch, if there are no cases
+/// and one child decides an entry.
 fn asked_each(
     declares: Declares,
     sought: Sought,
@@ -25,7 +25,8 @@ fn asked_each(
     includes: Option<HereText>,
     cases: Vec<Case>,
 ) -> Stmt
-    ensures { script_of (result ∷ []) ≡ asked.asked_by declares (ChecksEach sought entries includes) (cases_of cases.items) }
+    ensures { script_of (result ∷ [])
+        ≡ asked.asked_by declares (ChecksEach sought entries includes) (cases_of cases.items) }
 {
     match sought {
         Sought::Entry(listed) => {
@@ -51,7 +52,8 @@ fn choose_each(
     includes: Option<HereText>,
     cases: Vec<Case>,
 ) -> Stmt
-    ensures { script_of (result ∷ []) ≡ Choice declares (Asked (ChecksEach sought entries includes)) (cases_of cases.items) Done }
+    ensures { script_of (result ∷ [])
+        ≡ Choice declares (Asked (ChecksEach sought entries includes)) (cases_of cases.items) Done }
 {
     let question = Question::ChecksEach {
         sought,
@@ -88,7 +90,8 @@ fn asked_library(
     others: Option<HereText>,
     cases: Vec<Case>,
 ) -> Stmt
-    ensures { script_of (result ∷ []) ≡ asked.asked_by declares (Library library function others true) (cases_of cases.items) }
+    ensures { script_of (result ∷ [])
+        ≡ asked.asked_by declares (Library library function others true) (cases_of cases.items) }
 {
     let adds = !has_yes(cases.as_slice());
     let question = Question::Library {
@@ -132,7 +135,8 @@ pub(crate) fn asked_with(
     cases: Vec<Case>,
     args: &[Arg<'_>],
 ) -> Result<Stmt, ParseFault>
-    ensures { Gives (λ s. script_of (s ∷ [])) result (asked.asked_with declares question (cases_of cases.items) (map span args.now)) }
+    ensures { Gives (λ s. script_of (s ∷ [])) result
+        (asked.asked_with declares question (cases_of cases.items) (map span args.now)) }
 {
     complete(alloc, question, args).map(|question| asked_by(declares, question, cases))
 }

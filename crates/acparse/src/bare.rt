@@ -41,7 +41,8 @@ fn set_alone(name: &[u8], assignments: &[Assignment]) -> bool
 /// Checks that a list may hold these assignments.
 #[tactic(auto, unfolding(crate::specs::Bare::may_assign))]
 fn check_assignments(list_kind: ListKind<'_>, assignments: &[Assignment]) -> Result<(), ParseFault>
-    ensures { Gives (λ x. x) result (words.may_assign (list_kind_of list_kind.entry) assignments.now) }
+    ensures { Gives (λ x. x) result
+        (words.may_assign (list_kind_of list_kind.entry) assignments.now) }
 {
     match list_kind {
         ListKind::Top => Ok(()),
@@ -78,7 +79,8 @@ fn assignments(
     at: usize,
     text: &[u8],
 ) -> Result<Assignments, ParseFault>
-    ensures { Gives words.assigned result (words.assigned_in (list_kind_of list_kind.entry) at text.now) }
+    ensures { Gives words.assigned result
+        (words.assigned_in (list_kind_of list_kind.entry) at text.now) }
 {
     let assignments = value_assignments(alloc, at, text)?;
     check_assignments(list_kind, assignments.as_slice()).map(|()| assignments)
@@ -86,7 +88,9 @@ fn assignments(
 
 /// Appends assignments to statements.
 fn push_all(assignments: Vec<Assignment>, out: &mut Vec<Stmt>) -> Result<(), AllocError>
-    ensures { OnOk result (script_of out.new.items ≡ joined (script_of out.old.items) (words.assigned assignments.items)) }
+    ensures { OnOk result (
+        script_of out.new.items
+        ≡ joined (script_of out.old.items) (words.assigned assignments.items)) }
 {
     for assignment in assignments {
         let Assignment { name, value } = assignment;
@@ -110,8 +114,8 @@ fn check_idle(alloc: Global, stage: Stage, at: usize, text: &[u8]) -> Result<(),
     }
 }
 
-/// Appends the statements of bare text at `at`: the assignments in its value, if the list may hold them. Before AC_INIT and after AC_OUTPUT, it
-/// may have blanks and comments alone.
+/// Appends the statements of bare text at `at`: the assignments in its value, if the list may hold
+/// them. Before AC_INIT and after AC_OUTPUT, it may have blanks and comments alone.
 #[tactic(auto, unfolding(crate::specs::Bare::bare_of))]
 pub(crate) fn read_bare(
     alloc: Global,
@@ -121,7 +125,9 @@ pub(crate) fn read_bare(
     text: &[u8],
     out: &mut Vec<Stmt>,
 ) -> Result<(), ParseFault>
-    ensures { Gives (λ _. script_of out.new.items) result (following (script_of out.old.items) (words.bare_of (list_kind_of list_kind.entry) stage at text.now)) }
+    ensures { Gives (λ _. script_of out.new.items) result (
+        following (script_of out.old.items) (
+        words.bare_of (list_kind_of list_kind.entry) stage at text.now)) }
 {
     match stage {
         Stage::Open => {

@@ -35,8 +35,8 @@ use deftable::Name;
 use m4quote::{Arg, Item, read_items_at};
 use std::alloc::{AllocError, Global};
 
-/// Returns the macro of a call, if the call is a statement between what precedes it (`line_start`) and the items after it
-/// (`following`), and the list may hold it.
+/// Returns the macro of a call, if the call is a statement between what precedes it (`line_start`)
+/// and the items after it (`following`), and the list may hold it.
 #[tactic(auto, unfolding(crate::specs::Profile::checked))]
 fn check_call(
     alloc: Global,
@@ -48,7 +48,9 @@ fn check_call(
     at: usize,
     following: &[Item<'_>],
 ) -> Result<Macro, ParseFault>
-    ensures { Gives (λ m. m) result (profile.checked (list_kind_of list_kind.entry) stage line_start name.now (map span args.now) at (views following.now)) }
+    ensures { Gives (λ m. m) result (
+        profile.checked (list_kind_of list_kind.entry) stage line_start name.now (map span args.now)
+        at (views following.now)) }
 {
     let Some(row) = row_named(name) else {
         return Err(ParseFault::UnknownMacro(at));
@@ -106,7 +108,8 @@ fn case_args<'a, 'b>(m: ChoiceMacro, args: &'b [Arg<'a>]) -> &'b [Arg<'a>]
     }
 }
 
-/// Returns a case with these statements, or `None` if its argument is absent or empty and has no statement.
+/// Returns a case with these statements, or `None` if its argument is absent or empty and has no
+/// statement.
 fn case_if(when: When, given: bool, body: Vec<Stmt>) -> Option<Case>
     ensures { cases_of (option_to_list result) ≡ profile.case_if when given (script_of body.items) }
 {
@@ -142,7 +145,8 @@ fn after_first<'a, 'b>(args: &'b [Arg<'a>]) -> &'b [Arg<'a>]
 
 /// Appends a case, if there is one.
 fn with_last(mut cases: Vec<Case>, last: Option<Case>) -> Result<Vec<Case>, AllocError>
-    ensures { IfOk result (λ v. cases_of v.items ≡ followed (cases_of cases.items) (cases_of (option_to_list last))) }
+    ensures { IfOk result (λ v.
+        cases_of v.items ≡ followed (cases_of cases.items) (cases_of (option_to_list last))) }
 {
     match last {
         None => Ok(cases),
@@ -155,14 +159,16 @@ fn with_last(mut cases: Vec<Case>, last: Option<Case>) -> Result<Vec<Case>, Allo
 
 /// Returns the two cases, without those that are absent.
 fn both(alloc: Global, first: Option<Case>, other: Option<Case>) -> Result<Vec<Case>, AllocError>
-    ensures { IfOk result (λ v. cases_of v.items ≡ followed (cases_of (option_to_list first)) (cases_of (option_to_list other))) }
+    ensures { IfOk result (λ v.
+        cases_of v.items
+        ≡ followed (cases_of (option_to_list first)) (cases_of (option_to_list other))) }
 {
     let one = with_last(Vec::new(alloc), first)?;
     with_last(one, other)
 }
 
-/// Reads the statements of a statement argument, whose list is of this kind. Lists nest at most `room` deep in it,
-/// counting its own.
+/// Reads the statements of a statement argument, whose list is of this kind. Lists nest at most
+/// `room` deep in it, counting its own.
 #[cycle(list)]
 #[tactic(auto, unfolding(crate::specs::Profile::body_of))]
 fn read_body(
@@ -172,7 +178,8 @@ fn read_body(
     known: &mut Declarations,
     arg: Arg<'_>,
 ) -> Result<Vec<Stmt>, ParseFault>
-    ensures value { Gives (λ v. script_of v.items) result (profile.body_of room (list_kind_of list_kind.entry) known.old (span arg.entry)) }
+    ensures value { Gives (λ v. script_of v.items) result
+        (profile.body_of room (list_kind_of list_kind.entry) known.old (span arg.entry)) }
     ensures after { IfOk result (λ v. known.new ≡ after_all known.old (script_of v.items)) }
 {
     if room == 0 {
@@ -197,8 +204,11 @@ fn read_default(
     args: &[Arg<'_>],
 ) -> Result<Option<Case>, ParseFault>
     requires { length args.now ≤ 1 }
-    ensures value { Gives (λ o. cases_of (option_to_list o)) result (profile.cases_in (profile.body_of room (list_kind_of list_kind.entry)) m known.old (map span args.now)) }
-    ensures after { IfOk result (λ o. known.new ≡ after_cases known.old (cases_of (option_to_list o))) }
+    ensures value { Gives (λ o. cases_of (option_to_list o)) result (
+        profile.cases_in (profile.body_of room (list_kind_of list_kind.entry)) m known.old
+        (map span args.now)) }
+    ensures after { IfOk result (λ o.
+        known.new ≡ after_cases known.old (cases_of (option_to_list o))) }
 {
     match args {
         [] => Ok(None),
@@ -222,7 +232,9 @@ fn read_case(
     condition: Arg<'_>,
     arg: Arg<'_>,
 ) -> Result<Case, ParseFault>
-    ensures value { Gives (λ k. cases_of (k ∷ [])) result (profile.case_of (profile.body_of room (list_kind_of list_kind.entry)) m known.old (span condition.entry) (span arg.entry)) }
+    ensures value { Gives (λ k. cases_of (k ∷ [])) result (
+        profile.case_of (profile.body_of room (list_kind_of list_kind.entry)) m known.old
+        (span condition.entry) (span arg.entry)) }
     ensures after { IfOk result (λ k. known.new ≡ after_all known.old (script_of k.body.items)) }
 {
     let when = when(alloc, m, condition)?;
@@ -239,7 +251,9 @@ fn read_cases(
     m: ChoiceMacro,
     args: &[Arg<'_>],
 ) -> Result<Vec<Case>, ParseFault>
-    ensures value { Gives (λ v. cases_of v.items) result (profile.cases_in (profile.body_of room (list_kind_of list_kind.entry)) m known.old (map span args.now)) }
+    ensures value { Gives (λ v. cases_of v.items) result (
+        profile.cases_in (profile.body_of room (list_kind_of list_kind.entry)) m known.old
+        (map span args.now)) }
     ensures after { IfOk result (λ v. known.new ≡ after_cases known.old (cases_of v.items)) }
 {
     let mut cases = Vec::new(alloc);
@@ -264,7 +278,9 @@ fn read_choice(
     m: ChoiceMacro,
     args: &[Arg<'_>],
 ) -> Result<Stmt, ParseFault>
-    ensures value { Gives (λ s. script_of (s ∷ [])) result (profile.choice_of (profile.body_of room (list_kind_of list_kind.entry)) m known.old (map span args.now)) }
+    ensures value { Gives (λ s. script_of (s ∷ [])) result (
+        profile.choice_of (profile.body_of room (list_kind_of list_kind.entry)) m known.old
+        (map span args.now)) }
     ensures after { IfOk result (λ s. known.new ≡ after_all known.old (script_of (s ∷ []))) }
 {
     let subject = subject(alloc, m, args)?;
@@ -293,8 +309,11 @@ fn read_action(
     yes: bool,
     args: &[Arg<'_>],
 ) -> Result<Option<Case>, ParseFault>
-    ensures value { Gives (λ o. cases_of (option_to_list o)) result (profile.action_in (profile.body_of room (list_kind_of list_kind.entry)) (profile.answer yes) known.old (map span args.now)) }
-    ensures after { IfOk result (λ o. known.new ≡ after_cases known.old (cases_of (option_to_list o))) }
+    ensures value { Gives (λ o. cases_of (option_to_list o)) result (
+        profile.action_in (profile.body_of room (list_kind_of list_kind.entry)) (profile.answer yes)
+        known.old (map span args.now)) }
+    ensures after { IfOk result (λ o.
+        known.new ≡ after_cases known.old (cases_of (option_to_list o))) }
 {
     match args {
         [] => Ok(None),
@@ -319,7 +338,9 @@ fn read_answers(
     known: &mut Declarations,
     args: &[Arg<'_>],
 ) -> Result<Vec<Case>, ParseFault>
-    ensures value { Gives (λ v. cases_of v.items) result (profile.answers_in (profile.body_of room (list_kind_of list_kind.entry)) known.old (map span args.now)) }
+    ensures value { Gives (λ v. cases_of v.items) result (
+        profile.answers_in (profile.body_of room (list_kind_of list_kind.entry)) known.old
+        (map span args.now)) }
     ensures after { IfOk result (λ v. known.new ≡ after_cases known.old (cases_of v.items)) }
 {
     let first = read_action(alloc, room, list_kind, known, true, args)?;
@@ -352,7 +373,9 @@ fn read_question(
     m: QuestionMacro,
     args: &[Arg<'_>],
 ) -> Result<Stmt, ParseFault>
-    ensures value { Gives (λ s. script_of (s ∷ [])) result (profile.asked_of (profile.body_of room (list_kind_of list_kind.entry)) m known.old (map span args.now)) }
+    ensures value { Gives (λ s. script_of (s ∷ [])) result (
+        profile.asked_of (profile.body_of room (list_kind_of list_kind.entry)) m known.old
+        (map span args.now)) }
     ensures after { IfOk result (λ s. known.new ≡ after_all known.old (script_of (s ∷ []))) }
 {
     let (declares, question) = ask(alloc, known, m, args)?;
@@ -379,7 +402,8 @@ fn read_check(
     known: &mut Declarations,
     args: &[Arg<'_>],
 ) -> Result<Stmt, ParseFault>
-    ensures value { Gives (λ s. script_of (s ∷ [])) result (profile.check_of (profile.body_of room) known.old (map span args.now)) }
+    ensures value { Gives (λ s. script_of (s ∷ [])) result
+        (profile.check_of (profile.body_of room) known.old (map span args.now)) }
     ensures after { IfOk result (λ s. known.new ≡ after_all known.old (script_of (s ∷ []))) }
 {
     let message = here_text(alloc, arg_at(args, 0))?;
@@ -397,7 +421,9 @@ fn read_plain(
     at: usize,
     args: &[Arg<'_>],
 ) -> Result<Stmt, ParseFault>
-    ensures value { Gives (λ s. script_of (s ∷ [])) result (profile.call_of list_kinds.Top (profile.body_of 0) known.old (Plain m) at (map span args.now)) }
+    ensures value { Gives (λ s. script_of (s ∷ [])) result (
+        profile.call_of list_kinds.Top (profile.body_of 0) known.old (Plain m) at
+        (map span args.now)) }
     ensures after { IfOk result (λ s. known.new ≡ after_all known.old (script_of (s ∷ []))) }
 {
     let (declares, effect) = plain(alloc, known, m, at, args)?;
@@ -415,7 +441,9 @@ fn read_call(
     at: usize,
     args: &[Arg<'_>],
 ) -> Result<Stmt, ParseFault>
-    ensures value { Gives (λ s. script_of (s ∷ [])) result (profile.call_of (list_kind_of list_kind.entry) (profile.body_of room) known.old m at (map span args.now)) }
+    ensures value { Gives (λ s. script_of (s ∷ [])) result (
+        profile.call_of (list_kind_of list_kind.entry) (profile.body_of room) known.old m at
+        (map span args.now)) }
     ensures after { IfOk result (λ s. known.new ≡ after_all known.old (script_of (s ∷ []))) }
 {
     match m {
@@ -426,7 +454,8 @@ fn read_call(
     }
 }
 
-/// Appends the statements of an item between what precedes it (`line_start`) and the items after it (`following`).
+/// Appends the statements of an item between what precedes it (`line_start`) and the items after it
+/// (`following`).
 #[cycle(list)]
 fn read_item(
     alloc: Global,
@@ -438,8 +467,11 @@ fn read_item(
     following: &[Item<'_>],
     out: &mut Vec<Stmt>,
 ) -> Result<(), ParseFault>
-    ensures { MatchResult result (λ _. Adds known.old known.new (script_of out.old.items) (script_of out.new.items) (profile.item_of (list_kind_of list_kind.entry) (profile.body_of room) known.old line_start (view item.now) (views following.now)))
-        (λ e. Fails e (profile.item_of (list_kind_of list_kind.entry) (profile.body_of room) known.old line_start (view item.now) (views following.now))) }
+    ensures { MatchResult result (λ _.
+        Adds known.old known.new (script_of out.old.items) (script_of out.new.items) (
+        profile.item_of (
+        list_kind_of
+        list_kind.entry) (profile.body_of room) known.old line_start (view item.now) (views following.now))) (λ e. Fails e (profile.item_of (list_kind_of list_kind.entry) (profile.body_of room) known.old line_start (view item.now) (views following.now))) }
 {
     match item {
         Item::Bare { text, at } => read_bare(alloc, list_kind, known.stage, *at, text, out),
@@ -470,7 +502,9 @@ pub(crate) fn read_statements(
     known: &mut Declarations,
     items: &[Item<'_>],
 ) -> Result<Vec<Stmt>, ParseFault>
-    ensures value { Gives (λ v. script_of v.items) result (profile.items_of (list_kind_of list_kind.entry) (profile.body_of room) known.old no_line_start (views items.now)) }
+    ensures value { Gives (λ v. script_of v.items) result (
+        profile.items_of (list_kind_of list_kind.entry) (profile.body_of room) known.old
+        no_line_start (views items.now)) }
     ensures after { IfOk result (λ v. known.new ≡ after_all known.old (script_of v.items)) }
 {
     let mut out = Vec::new(alloc);

@@ -49,7 +49,8 @@ fn read_whole(alloc: Global, known: &mut Declarations, text: &[u8]) -> Result<Ve
     Ok(statements)
 }
 
-/// Reads the statements of a whole source, and decides whether it can be resumed. `known` becomes what they declare.
+/// Reads the statements of a whole source, and decides whether it can be resumed. `known` becomes
+/// what they declare.
 fn read_decided(
     alloc: Global,
     known: &mut Declarations,
@@ -77,15 +78,16 @@ fn read_source(alloc: Global, text: &[u8]) -> Result<Source, ParseFault>
 ///
 /// # Errors
 ///
-/// The first error, with its offset in bytes from the start of the file (`ParseFault` lists them). If memory runs out
-/// first, `OutOfMemory`.
+/// The first error, with its offset in bytes from the start of the file (`ParseFault` lists them).
+/// If memory runs out first, `OutOfMemory`.
 pub fn parse(alloc: Global, text: &[u8]) -> Result<Source, ParseFault>
     // The statements that are returned are those of the source.
     ensures sound { IfOk result (λ s. IsSource text.now (script_of s)) }
     // Its lists are within their limits.
     ensures limits { IfOk result (λ s. HasShortLists (lists_of (script_of s))) }
     // The names and templates of its files and headers are paths, and no name occurs twice.
-    ensures outputs { IfOk result (λ s. AreOutputs (lists_of (script_of s)).files (lists_of (script_of s)).headers) }
+    ensures outputs { IfOk result (λ s.
+        AreOutputs (lists_of (script_of s)).files (lists_of (script_of s)).headers) }
     // Each AC_CACHE_CHECK has a cache name, and commands that set it and do nothing else.
     ensures commands { IfOk result (λ s. HasCommands (script_of s)) }
     // The variable of each program that is looked for is a shell name.
@@ -100,8 +102,9 @@ pub fn parse(alloc: Global, text: &[u8]) -> Result<Source, ParseFault>
     read_source(alloc, text)
 }
 
-/// Returns whether a source can be resumed: if a run is cut, and is started again with the cache that it saved, it ends as an
-/// uncut run does (`ac_tree::specs::Resumable` has the rules). `parse` has decided it.
+/// Returns whether a source can be resumed: if a run is cut, and is started again with the cache
+/// that it saved, it ends as an uncut run does (`ac_tree::specs::Resumable` has the rules). `parse`
+/// has decided it.
 pub fn is_resumable(source: &Source) -> bool
     // It is true exactly if the statements keep the rules.
     ensures rules { (result ≡ true) ↔ IsResumable (script_of source.now) }

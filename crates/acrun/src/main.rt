@@ -1,10 +1,11 @@
 //! The program: `runner`, called with the arguments, the environment and a crew of real children.
 //!
-//! If standard error is a terminal, or ACRUN_PROGRESS asks for lines, the crew shows its children there. The log of an earlier run is removed before the
-//! first child is started, so that a run that is interrupted leaves none that looks like its own.
+//! If standard error is a terminal, or ACRUN_PROGRESS asks for lines, the crew shows its children
+//! there. The log of an earlier run is removed before the first child is started, so that a run
+//! that is interrupted leaves none that looks like its own.
 //!
-//! The gate runs it with the words in `args` on the files in `data`: a whole run of a configure.ac over real children,
-//! with an environment, a cache, a file and a header that has its text already.
+//! The gate runs it with the words in `args` on the files in `data`: a whole run of a configure.ac
+//! over real children, with an environment, a cache, a file and a header that has its text already.
 #![tactic(auto)]
 
 use crew::ReadyCrew;
@@ -25,7 +26,8 @@ fn run(rt: HostRuntime) -> Result<u8, AllocError> {
     Ok(command(rt, rt.alloc(), words.as_slice(), env.as_slice(), &mut crew))
 }
 
-/// Ends the process with the exit status of the command. If memory runs out before the command is known, the status is 2.
+/// Ends the process with the exit status of the command. If memory runs out before the command is
+/// known, the status is 2.
 fn main(rt: HostRuntime) -> ExitCode {
     let status = match run(rt) {
         Ok(status) => status,

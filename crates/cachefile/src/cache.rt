@@ -87,25 +87,30 @@ fn read_text(alloc: Global, text: &[u8]) -> Result<OldCache, CacheFault>
 
 /// Reads a cache text.
 ///
-/// A line is empty but for spaces, tabs and a comment, or it has one of the forms `V=${V=W}`, `test ${V+y} || V=W`,
-/// `test "${V+set}" = set || V=W` and `V=W`. V is a cache name, and W a shell word without expansions. The first three set
-/// V only if it isn't set (own). The last line may lack its newline.
+/// A line is empty but for spaces, tabs and a comment, or it has one of the forms `V=${V=W}`,
+/// `test ${V+y} || V=W`, `test "${V+set}" = set || V=W` and `V=W`. V is a cache name, and W a shell
+/// word without expansions. The first three set V only if it isn't set (own). The last line may
+/// lack its newline.
 ///
 /// # Errors
 ///
 /// The errors come in this order:
 ///
 /// - `TooLarge`, if the text has more than 4,194,304 bytes;
-/// - `BadLine` or `BadName`, for the first line that has none of the forms or whose V is no cache name.
+/// - `BadLine` or `BadName`, for the first line that has none of the forms or whose V is no cache
+///   name.
 pub fn read_cache(alloc: Global, text: &[u8]) -> Result<OldCache, CacheFault>
     // What is returned are the settings of the text.
     ensures sound { IfOk result (λ cache. words.IsCache text.now (Ok cache)) }
     // If the text has settings, these are returned, unless memory runs out.
-    ensures complete { (settings : List Setting) → words.IsCache text.now (Ok settings) → Gives result (Ok settings) }
+    ensures complete { (settings : List Setting) → words.IsCache text.now (Ok settings)
+        → Gives result (Ok settings) }
     // An error other than out of memory is the first one of the text.
-    ensures error_sound { IfErr result (λ fault. fault ≢ OutOfMemory → words.IsCache text.now (Err fault)) }
+    ensures error_sound { IfErr result (λ fault.
+        fault ≢ OutOfMemory → words.IsCache text.now (Err fault)) }
     // If the text has an error, the first one is returned, unless memory runs out.
-    ensures error_complete { (fault : faults.CacheFault) → words.IsCache text.now (Err fault) → Gives result (Err fault) }
+    ensures error_complete { (fault : faults.CacheFault) → words.IsCache text.now (Err fault)
+        → Gives result (Err fault) }
     // The same as a function.
     ensures exact { Gives result (words.cache_of text.now) }
     // Each setting is of a cache name.
@@ -131,7 +136,8 @@ impl OldCache {
     /// If memory runs out, the settings of the first lines are made, and the others aren't.
     pub fn pour(&self, vars: &mut Vars) -> Result<(), AllocError>
         ensures ok { OnOk result (vars.new ≡ words.vars_after self.now vars.old) }
-        ensures err { OnErr result ((k : ℕ) × (vars.new ≡ words.vars_after (take k self.now) vars.old)) }
+        ensures err { OnErr result (
+            (k : ℕ) × (vars.new ≡ words.vars_after (take k self.now) vars.old)) }
     {
         for entry in &self.entries {
             entry.pour(vars)?;
@@ -139,10 +145,11 @@ impl OldCache {
         Ok(())
     }
 
-    /// Returns the value that `pour` would leave in `name`, or `None` if it would leave `name` unset. This takes time in
-    /// proportion to the number of settings.
+    /// Returns the value that `pour` would leave in `name`, or `None` if it would leave `name`
+    /// unset. This takes time in proportion to the number of settings.
     pub fn would<'a>(&'a self, vars: &'a Vars, name: &[u8]) -> Option<&'a [u8]>
-        ensures value { option_map (λ v. v.now) result ≡ table.value_of (words.vars_after self.now vars.now) name.now }
+        ensures value { option_map (λ v. v.now) result
+            ≡ table.value_of (words.vars_after self.now vars.now) name.now }
     {
         let mut value = value_of(vars, name);
         for entry in &self.entries {

@@ -67,7 +67,8 @@ impl Entry {
         name: &[u8],
         before: Option<&'a [u8]>,
     ) -> Option<&'a [u8]>
-        ensures { option_map (λ v. v.now) result ≡ words.value_after name.now (option_map (λ v. v.now) before.entry) self.now }
+        ensures { option_map (λ v. v.now) result
+            ≡ words.value_after name.now (option_map (λ v. v.now) before.entry) self.now }
     {
         if name != self.name() || (self.is_default && before.is_some()) {
             return before;

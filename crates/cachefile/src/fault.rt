@@ -10,8 +10,8 @@ use std::fmt;
 
 /// The first error of a cache text. The number is that of the line, which is 1 for the first.
 ///
-/// It is displayed as its number, followed by `at` and the number of the line if it has one. Out of memory is displayed as
-/// `memory`. `TooLarge` takes precedence over the other errors (own).
+/// It is displayed as its number, followed by `at` and the number of the line if it has one. Out of
+/// memory is displayed as `memory`. `TooLarge` takes precedence over the other errors (own).
 #[derive(Clone, Copy, Debug, PartialEq, Eq)]
 pub enum CacheFault {
     /// The line has none of the forms of a line.

@@ -84,7 +84,8 @@ fn default_entry(
     name: &[u8],
     word: &[u8],
 ) -> Result<Option<Entry>, AllocError>
-    ensures { IfOk result (λ e. e ≡ option_map (λ v. Defaults name.now v) (spelt.value_in braced word.now)) }
+    ensures { IfOk result (λ e.
+        e ≡ option_map (λ v. Defaults name.now v) (spelt.value_in braced word.now)) }
 {
     let Some(value) = value_in(alloc, braced, word)? else {
         return Ok(None);
@@ -141,7 +142,8 @@ fn assignment(alloc: Global, line: &[u8]) -> Result<Option<Entry>, AllocError>
     assigned_setting(alloc, name, text)
 }
 
-// Returns the entry of a line with a test, from the text at its first V; `middle` is what is between V and `V=W`.
+// Returns the entry of a line with a test, from the text at its first V; `middle` is what is
+// between V and `V=W`.
 #[tactic(auto, unfolding(crate::specs::Line::guarded_setting))]
 fn guarded_setting(alloc: Global, middle: &[u8], text: &[u8]) -> Result<Option<Entry>, AllocError>
     ensures { IfOk result (λ e. e ≡ words.guarded_setting middle.now text.now) }

@@ -36,7 +36,8 @@ fn insert(
     name: &[u8],
     value: &[u8],
 ) -> Result<(), AllocError>
-    ensures entries { OnOk result (sorted.new.entries ≡ words.with_placed sorted.old.entries (name.now, value.now)) }
+    ensures entries { OnOk result (
+        sorted.new.entries ≡ words.with_placed sorted.old.entries (name.now, value.now)) }
     ensures order { OnOk result (words.AreInOrder sorted.new.entries) }
 {
     let name = Bytes::from_slice(alloc, name)?;
@@ -52,8 +53,10 @@ fn save(
     name: &[u8],
     value: &[u8],
 ) -> Result<(), AllocError>
-    ensures entries { OnOk result (sorted.new.entries ≡ words.with_saved sorted.old.entries (name.now, value.now)) }
-    ensures order { OnOk result (words.AreInOrder sorted.old.entries → words.AreInOrder sorted.new.entries) }
+    ensures entries { OnOk result (
+        sorted.new.entries ≡ words.with_saved sorted.old.entries (name.now, value.now)) }
+    ensures order { OnOk result (
+        words.AreInOrder sorted.old.entries → words.AreInOrder sorted.new.entries) }
 {
     if is_saved(name, value) {
         return insert(alloc, sorted, name, value);
@@ -84,7 +87,8 @@ fn push_plain(text: &mut Vec<u8>, name: &[u8], word: &[u8]) -> Result<(), AllocE
 }
 
 fn push_guarded(text: &mut Vec<u8>, name: &[u8], word: &[u8]) -> Result<(), AllocError>
-    ensures { OnOk result (text.new.items ≡ text.old.items ++ words.guarded_line name.now word.now) }
+    ensures { OnOk result (
+        text.new.items ≡ text.old.items ++ words.guarded_line name.now word.now) }
 {
     text.extend_from_slice(b"test ${")?;
     text.extend_from_slice(name)?;
@@ -110,7 +114,8 @@ fn push_assignment(
     word: &[u8],
 ) -> Result<(), AllocError>
     requires { word.now ≡ word_of value.now }
-    ensures { OnOk result (text.new.items ≡ text.old.items ++ words.line_for (name.now, value.now)) }
+    ensures { OnOk result (
+        text.new.items ≡ text.old.items ++ words.line_for (name.now, value.now)) }
 {
     if is_mark(name) {
         return push_plain(text, name, word);
@@ -122,7 +127,8 @@ fn push_assignment(
 }
 
 fn push_line(alloc: Global, text: &mut Vec<u8>, name: &[u8], value: &[u8]) -> Result<(), AllocError>
-    ensures { OnOk result (text.new.items ≡ text.old.items ++ (words.line_for (name.now, value.now) ++ 10 ∷ [])) }
+    ensures { OnOk result (
+        text.new.items ≡ text.old.items ++ (words.line_for (name.now, value.now) ++ 10 ∷ [])) }
 {
     let word = word_text(alloc, value)?;
     push_assignment(text, name, value, word.as_slice())?;
@@ -130,7 +136,8 @@ fn push_line(alloc: Global, text: &mut Vec<u8>, name: &[u8], value: &[u8]) -> Re
 }
 
 fn write(alloc: Global, entries: BTreeMap<Bytes, Bytes>) -> Result<Bytes, AllocError>
-    ensures { IfOk result (λ t. t ≡ codes "# config.cache of configure\n" ++ words.lines_for entries.entries) }
+    ensures { IfOk result (λ t.
+        t ≡ codes "# config.cache of configure\n" ++ words.lines_for entries.entries) }
 {
     let mut text = Vec::from_slice(alloc, b"# config.cache of configure\n")?;
     'entries: for (name, value) in entries {
@@ -139,11 +146,12 @@ fn write(alloc: Global, entries: BTreeMap<Bytes, Bytes>) -> Result<Bytes, AllocE
     Ok(Bytes::from_vec(text))
 }
 
-/// Returns the cache text of the variables: a comment, and a line for each variable with a cache name, in the byte order
-/// of the names. A variable whose value has a newline is left out (own).
+/// Returns the cache text of the variables: a comment, and a line for each variable with a cache
+/// name, in the byte order of the names. A variable whose value has a newline is left out (own).
 ///
-/// A name that begins with `ac_cv_env_` is written `V=W`. If the value of another name has a brace, its line is
-/// `test ${V+y} || V=W`, and otherwise `V=${V=W}`. W is what `word_text` returns for the value.
+/// A name that begins with `ac_cv_env_` is written `V=W`. If the value of another name has a brace,
+/// its line is `test ${V+y} || V=W`, and otherwise `V=${V=W}`. W is what `word_text` returns for
+/// the value.
 pub fn cache_text(alloc: Global, vars: &Vars) -> Result<Bytes, AllocError>
     // It has a line for each variable that is saved, in order.
     ensures sound { IfOk result (words.IsCacheText vars.now) }

@@ -32,7 +32,8 @@ fn is_bare(braced: bool, byte: u8) -> bool
 // Returns what `step` does for a byte outside quotes.
 #[tactic(auto, unfolding(crate::specs::Word::step))]
 fn unquoted_step(braced: bool, byte: u8) -> Option<(Quoting, bool)>
-    ensures { option_map (λ s. (s.0, words.added s.1 byte)) result ≡ words.step braced Unquoted byte }
+    ensures { option_map (λ s. (s.0, words.added s.1 byte)) result
+        ≡ words.step braced Unquoted byte }
 {
     match byte {
         b'\'' => Some((Quoting::Single, false)),
@@ -46,7 +47,8 @@ fn unquoted_step(braced: bool, byte: u8) -> Option<(Quoting, bool)>
 // Returns how the byte after this one is quoted, and whether this one is part of the value.
 #[tactic(auto, unfolding(crate::specs::Word::step))]
 fn step(braced: bool, quoting: Quoting, byte: u8) -> Option<(Quoting, bool)>
-    ensures { option_map (λ s. (s.0, words.added s.1 byte)) result ≡ words.step braced quoting byte }
+    ensures { option_map (λ s. (s.0, words.added s.1 byte)) result
+        ≡ words.step braced quoting byte }
 {
     match quoting {
         Quoting::Unquoted => unquoted_step(braced, byte),
@@ -88,7 +90,8 @@ fn push_if(value: &mut Vec<u8>, is_added: bool, byte: u8) -> Result<(), AllocErr
     Ok(())
 }
 
-/// Returns the value of the word, or `None` if the text isn't one. A braced word is inside `${V=W}`.
+/// Returns the value of the word, or `None` if the text isn't one. A braced word is inside
+/// `${V=W}`.
 #[tactic(auto, using(crate::proofs::Loops::read_more, crate::proofs::Loops::read_stop, crate::proofs::Loops::read_end))]
 pub(crate) fn value_in(
     alloc: Global,
@@ -142,10 +145,12 @@ fn quoted(alloc: Global, value: &[u8]) -> Result<Bytes, AllocError>
     Ok(Bytes::from_vec(word))
 }
 
-/// Returns a shell word that stands for the value: the value itself if each byte is a letter, a digit or one of
-/// `_./:,+-`, and otherwise the value in single quotes, with `'\''` for each `'` (own).
+/// Returns a shell word that stands for the value: the value itself if each byte is a letter, a
+/// digit or one of `_./:,+-`, and otherwise the value in single quotes, with `'\''` for each `'`
+/// (own).
 ///
-/// The word of the empty value is empty. A value with a newline has a word too, but no line of a cache text can hold it.
+/// The word of the empty value is empty. A value with a newline has a word too, but no line of a
+/// cache text can hold it.
 #[tactic(auto, unfolding(crate::specs::Word::word_of))]
 pub fn word_text(alloc: Global, value: &[u8]) -> Result<Bytes, AllocError>
     ensures exact { IfOk result (λ w. w ≡ words.word_of value.now) }

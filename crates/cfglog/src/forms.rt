@@ -4,7 +4,8 @@ ghost use Rattle.std.specs.Prelude.{◌≡◌, ◌&&◌, length, drop, nat_lt};
 ghost use Rattle.std.specs.List.{list_all};
 ghost use Rattle.cfglog.specs.Log as log;
 
-/// What a line of a log is. A child has a command, then diagnostics, and then a status or what was refused.
+/// What a line of a log is. A child has a command, then diagnostics, and then a status or what was
+/// refused.
 #[derive(Clone, Copy, PartialEq, Eq)]
 pub enum LineKind {
     /// A line of a message.

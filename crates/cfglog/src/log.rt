@@ -37,7 +37,8 @@ fn written(alloc: Global, word: &[u8]) -> Result<Bytes, AllocError>
 
 /// Appends a word after a blank.
 fn put_word(alloc: Global, text: &mut Vec<u8>, word: &[u8]) -> Result<(), AllocError>
-    ensures { OnOk result (text.new.items ≡ text.old.items ++ (codes " " ++ texts.written word.now)) }
+    ensures { OnOk result (
+        text.new.items ≡ text.old.items ++ (codes " " ++ texts.written word.now)) }
 {
     let word = written(alloc, word)?;
     text.extend_from_slice(b" ")?;
@@ -46,7 +47,9 @@ fn put_word(alloc: Global, text: &mut Vec<u8>, word: &[u8]) -> Result<(), AllocE
 
 /// Appends words, each after a blank.
 fn put_words(alloc: Global, text: &mut Vec<u8>, words: &[Bytes]) -> Result<(), AllocError>
-    ensures { OnOk result (text.new.items ≡ text.old.items ++ flat_map (λ word. codes " " ++ texts.written word) words.now) }
+    ensures { OnOk result (
+        text.new.items
+        ≡ text.old.items ++ flat_map (λ word. codes " " ++ texts.written word) words.now) }
 {
     for word in words {
         put_word(alloc, text, word.as_slice())?;
@@ -65,7 +68,8 @@ fn put_command(alloc: Global, text: &mut Vec<u8>, words: &[Bytes]) -> Result<(),
 
 /// Appends a line of a program.
 fn put_line(text: &mut Vec<u8>, line: &[u8]) -> Result<(), AllocError>
-    ensures { OnOk result (text.new.items ≡ text.old.items ++ (codes "| " ++ texts.closed line.now)) }
+    ensures { OnOk result (
+        text.new.items ≡ text.old.items ++ (codes "| " ++ texts.closed line.now)) }
 {
     text.extend_from_slice(b"| ")?;
     put_closed(text, line)
@@ -73,7 +77,10 @@ fn put_line(text: &mut Vec<u8>, line: &[u8]) -> Result<(), AllocError>
 
 /// Appends the lines of a program.
 fn put_lines(text: &mut Vec<u8>, program: &[u8]) -> Result<(), AllocError>
-    ensures { OnOk result (text.new.items ≡ text.old.items ++ flat_map (λ line. codes "| " ++ texts.closed line) (lines_of program.now)) }
+    ensures { OnOk result (
+        text.new.items
+        ≡ text.old.items
+        ++ flat_map (λ line. codes "| " ++ texts.closed line) (lines_of program.now)) }
 {
     for line in program.lines_with_terminator() {
         put_line(text, line)?;
@@ -111,7 +118,8 @@ fn put_failure(
 
 /// Appends the line of a status.
 fn put_status(alloc: Global, text: &mut Vec<u8>, status: u32) -> Result<(), AllocError>
-    ensures { OnOk result (text.new.items ≡ text.old.items ++ (codes "status " ++ (decimal status ++ codes "\n"))) }
+    ensures { OnOk result (
+        text.new.items ≡ text.old.items ++ (codes "status " ++ (decimal status ++ codes "\n"))) }
 {
     let digits = format!(in alloc; "{status}")?;
     text.extend_from_slice(b"status ")?;
@@ -127,7 +135,9 @@ fn put_answer(
     status: u32,
     diagnostics: &[u8],
 ) -> Result<(), AllocError>
-    ensures { OnOk result (text.new.items ≡ text.old.items ++ texts.reply_text file.now (Answer status diagnostics.now)) }
+    ensures { OnOk result (
+        text.new.items
+        ≡ text.old.items ++ texts.reply_text file.now (Answer status diagnostics.now)) }
 {
     put_closed(text, diagnostics)?;
     put_status(alloc, text, status)?;
@@ -155,7 +165,10 @@ fn put_reply(
 
 /// Appends the lines of a child.
 fn put_child(alloc: Global, text: &mut Vec<u8>, job: &Job, reply: &Reply) -> Result<(), AllocError>
-    ensures { OnOk result (text.new.items ≡ text.old.items ++ (texts.command_line job.now.words ++ texts.reply_text job.now.file reply.now)) }
+    ensures { OnOk result (
+        text.new.items
+        ≡ text.old.items
+        ++ (texts.command_line job.now.words ++ texts.reply_text job.now.file reply.now)) }
 {
     put_command(alloc, text, job.words.as_slice())?;
     put_reply(alloc, text, &job.file, reply)
@@ -173,9 +186,10 @@ fn put_entry(alloc: Global, text: &mut Vec<u8>, entry: &Entry) -> Result<(), All
 
 /// Returns the text of the log: its entries in order, each in lines of its own (own).
 ///
-/// A piece gets a newline if it has none at its end. A child has the line of its command after `$ `, in which each word is
-/// quoted as a cache file has it; what it wrote to standard error; and `status N`, `start refused` or `wait refused`. If the
-/// status isn't 0 and the job had a file, `failed program was:` follows, and each line of the file after `| `.
+/// A piece gets a newline if it has none at its end. A child has the line of its command after
+/// `$ `, in which each word is quoted as a cache file has it; what it wrote to standard error; and
+/// `status N`, `start refused` or `wait refused`. If the status isn't 0 and the job had a file,
+/// `failed program was:` follows, and each line of the file after `| `.
 pub fn log_text(alloc: Global, entries: &[Entry]) -> Result<Vec<u8>, AllocError>
     ensures { IfOk result (λ text. text.items ≡ texts.log_of entries.now) }
 {

@@ -19,7 +19,8 @@ fn is_shown(stream: Stream, quiet: bool, of: Stream) -> bool
 
 /// Appends the text of a piece, if it is shown.
 fn put_note(text: &mut Vec<u8>, stream: Stream, quiet: bool, note: &Note) -> Result<(), AllocError>
-    ensures { OnOk result (text.new.items ≡ text.old.items ++ texts.note_text stream quiet note.now) }
+    ensures { OnOk result (
+        text.new.items ≡ text.old.items ++ texts.note_text stream quiet note.now) }
 {
     if is_shown(stream, quiet, note.stream) {
         text.extend_from_slice(note.text.as_slice())?;
@@ -29,8 +30,8 @@ fn put_note(text: &mut Vec<u8>, stream: Stream, quiet: bool, note: &Note) -> Res
 
 /// Returns the pieces for a stream, one after the other.
 ///
-/// If `quiet` is set, nothing is for standard output, as with `--quiet` (Autoconf's manual, "configure Invocation").
-/// Standard error is as it would be without it.
+/// If `quiet` is set, nothing is for standard output, as with `--quiet` (Autoconf's manual,
+/// "configure Invocation"). Standard error is as it would be without it.
 pub fn messages_text(
     alloc: Global,
     notes: &[Note],

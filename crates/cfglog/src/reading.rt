@@ -27,8 +27,10 @@ fn put_line<'a>(
     text: &'a [u8],
 ) -> Result<LineKind, AllocError>
     ensures part { IfOk result (λ part. part ≡ log.part_after before text.now) }
-    ensures line { IfOk result (λ part. map {B = LineKind × List ℕ} (λ line. (line.part, line.text.now)) lines.new.items
-        ≡ map {B = LineKind × List ℕ} (λ line. (line.part, line.text.now)) lines.old.items ++ (part, text.now) ∷ []) }
+    ensures line { IfOk result (λ part.
+        map {B = LineKind × List ℕ} (λ line. (line.part, line.text.now)) lines.new.items
+        ≡ map {B = LineKind × List ℕ} (λ line. (line.part, line.text.now)) lines.old.items
+        ++ (part, text.now) ∷ []) }
 {
     let part = part_after(before, text);
     lines.push(Line { part, text })?;
@@ -39,7 +41,9 @@ fn put_line<'a>(
 fn put_lines<'a>(lines: &mut Vec<Line<'a>>, text: &'a [u8]) -> Result<LineKind, AllocError>
     requires { lines.old.items ≡ [] }
     ensures last { IfOk result (λ part. part ≡ log.last_part Message (lines_of text.now)) }
-    ensures lines { IfOk result (λ _. map {B = LineKind × List ℕ} (λ line. (line.part, line.text.now)) lines.new.items ≡ log.lines_in text.now) }
+    ensures lines { IfOk result (λ _.
+        map {B = LineKind × List ℕ} (λ line. (line.part, line.text.now)) lines.new.items
+        ≡ log.lines_in text.now) }
 {
     let mut before = LineKind::Message;
     for line in text.lines_with_terminator() {
@@ -55,15 +59,18 @@ fn is_closed(text: &[u8]) -> bool
     text.is_empty() || text.ends_with(b"\n")
 }
 
-/// Returns the lines of a log, each with what it is, or `None` if the text is no log: its last line has no newline, or it ends
-/// within a child (own).
+/// Returns the lines of a log, each with what it is, or `None` if the text is no log: its last line
+/// has no newline, or it ends within a child (own).
 ///
 /// # Errors
 ///
 /// Fails only if memory runs out.
 pub fn read_log(alloc: Global, text: &[u8]) -> Result<Option<Vec<Line<'_>>>, AllocError>
-    ensures { IfOk result (λ read. MatchOption read (log.is_log text.now ≡ false)
-        (λ lines. (log.is_log text.now ≡ true) × (map {B = LineKind × List ℕ} (λ line. (line.part, line.text.now)) lines.items ≡ log.lines_in text.now))) }
+    ensures { IfOk result (λ read.
+        MatchOption read (log.is_log text.now ≡ false) (λ lines.
+        (log.is_log text.now ≡ true)
+        × (map {B = LineKind × List ℕ} (λ line. (line.part, line.text.now)) lines.items
+        ≡ log.lines_in text.now))) }
 {
     let mut lines = Vec::new(alloc);
     let last = put_lines(&mut lines, text)?;

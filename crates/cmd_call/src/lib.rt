@@ -1,9 +1,11 @@
-//! What the program is asked to do, what it reads for that, and how it prints. Nothing here runs a source.
+//! What the program is asked to do, what it reads for that, and how it prints. Nothing here runs a
+//! source.
 //!
-//! [`words`] and [`environment`] are what the process is given, and [`call_of`] says which command the words name. [`read_supplies`]
-//! and [`record_templates`] read what a command needs besides its source or its record. [`print_all`], [`print_lines`] and
-//! [`write_log`] leave what a run has for its user. Each error is one line on standard error, by a function `tell_..`, which
-//! returns [`FAULT`].
+//! [`words`] and [`environment`] are what the process is given, and [`call_of`] says which command
+//! the words name. [`read_supplies`] and [`record_templates`] read what a command needs besides its
+//! source or its record. [`print_all`], [`print_lines`] and [`write_log`] leave what a run has for
+//! its user. Each error is one line on standard error, by a function `tell_..`, which returns
+//! [`FAULT`].
 //!
 //! ```text
 //! call_of(["-j4", "configure", "-q"])  // Configure(4, ["-q"]), of which showing_of shows nothing
@@ -12,14 +14,14 @@
 //!
 //! "own" marks a rule that no manual gives.
 //!
-//! In `specs`, read `Calls` (what the program is asked to do), `Errors` (what a run prints on standard error), `Supplies` (what a run is given, as it
-//! is in files), `Logged` and `Progress`; `Lent` is small. In
-//! `src`, read `call`, `supplies`, `printing` and `errors`; `process` reads what the process is given, and `progress` says what the
-//! program shows of its children.
+//! In `specs`, read `Calls` (what the program is asked to do), `Errors` (what a run prints on
+//! standard error), `Supplies` (what a run is given, as it is in files), `Logged` and `Progress`;
+//! `Lent` is small. In `src`, read `call`, `supplies`, `printing` and `error_lines`; `process` reads
+//! what the process is given, and `progress` says what the program shows of its children.
 #![tactic(auto)]
 
 mod call;
-mod errors;
+mod error_lines;
 mod printing;
 mod process;
 mod progress;
@@ -28,7 +30,9 @@ mod terminal;
 mod writes;
 
 pub use call::{ProgramCall, call_of};
-pub use errors::{FAULT, tell_file, tell_memory, tell_named, tell_precious, tell_put, tell_usage};
+pub use error_lines::{
+    FAULT, tell_file, tell_memory, tell_named, tell_precious, tell_put, tell_usage,
+};
 pub use printing::{LOG, print_all, print_lines, tell_text, write_log};
 pub use process::{environment, words};
 pub use progress::{Showing, showing_of};

@@ -1,4 +1,5 @@
-//! What the program prints and writes of a run: its messages, the lines of its outputs, and its log.
+//! What the program prints and writes of a run: its messages, the lines of its outputs, and its
+//! log.
 
 ghost use Rattle.std.specs.Prelude.{◌≡◌, ℕ, true, [], ◌∷◌, ◌++◌, take, Ok, OnOk, IfOk, IsTrue, if◌then◌else◌};
 ghost use Rattle.std.specs.Io.KnownBytes.{Appends};
@@ -23,7 +24,8 @@ pub const LOG: &str = "config.log";
 #[tactic(auto, using(crate::proofs::Fronts::front_more, crate::proofs::Fronts::front_kept, crate::proofs::Fronts::front_none))]
 fn write_front<E: Write>(text: &[u8], errors: &mut E) -> Result<(), Stopped>
     ensures whole { OnOk result (Appends (E.contents errors.old) (E.contents errors.new) text.now) }
-    ensures front { (n : ℕ) × Appends (E.contents errors.old) (E.contents errors.new) (take n text.now) }
+    ensures front { (n : ℕ)
+        × Appends (E.contents errors.old) (E.contents errors.new) (take n text.now) }
 {
     let mut taken = 0;
     let mut writes = Writes::new();
@@ -43,14 +45,16 @@ fn write_some<W: Write>(text: &[u8], output: &mut W) -> io::Result<()>
     output.write_all(text)
 }
 
-/// Returns what is printed on standard output of these pieces and then of the lines of the outputs. Quiet drops both.
+/// Returns what is printed on standard output of these pieces and then of the lines of the outputs.
+/// Quiet drops both.
 fn printed_text(
     alloc: Global,
     notes: &[Note],
     lines: &[u8],
     quiet: bool,
 ) -> Result<Vec<u8>, AllocError>
-    ensures { IfOk result (λ text. text.items ≡ messages_of streams.Out quiet notes.now ++ (if quiet then [] else lines.now)) }
+    ensures { IfOk result (λ text.
+        text.items ≡ messages_of streams.Out quiet notes.now ++ (if quiet then [] else lines.now)) }
 {
     let mut text = messages_text(alloc, notes, Stream::Out, quiet)?;
     if !quiet {
@@ -61,7 +65,9 @@ fn printed_text(
 
 /// Prints a piece for standard output. Quiet drops it, and so it does one for standard error.
 fn print_piece<W: Write>(note: &Note, quiet: bool, output: &mut W) -> io::Result<()>
-    ensures { OnOk result (Appends (W.contents output.old) (W.contents output.new) (note_text streams.Out quiet note.now)) }
+    ensures { OnOk result (
+        Appends (W.contents output.old) (W.contents output.new)
+        (note_text streams.Out quiet note.now)) }
 {
     match note.stream {
         Stream::Out if !quiet => output.write_all(note.text.as_slice()),
@@ -71,7 +77,9 @@ fn print_piece<W: Write>(note: &Note, quiet: bool, output: &mut W) -> io::Result
 
 /// Prints the pieces for standard output, one by one. Quiet drops them.
 fn print_each<W: Write>(notes: &[Note], quiet: bool, output: &mut W) -> io::Result<()>
-    ensures { OnOk result (Appends (W.contents output.old) (W.contents output.new) (messages_of streams.Out quiet notes.now)) }
+    ensures { OnOk result (
+        Appends (W.contents output.old) (W.contents output.new)
+        (messages_of streams.Out quiet notes.now)) }
 {
     'notes: for note in notes {
         print_piece(note, quiet, output)?;
@@ -79,21 +87,25 @@ fn print_each<W: Write>(notes: &[Note], quiet: bool, output: &mut W) -> io::Resu
     Ok(())
 }
 
-/// Prints the pieces for standard output one by one, and then the lines of the outputs. Quiet drops both.
+/// Prints the pieces for standard output one by one, and then the lines of the outputs. Quiet drops
+/// both.
 fn print_parts<W: Write>(
     notes: &[Note],
     lines: &[u8],
     quiet: bool,
     output: &mut W,
 ) -> io::Result<()>
-    ensures { OnOk result (Appends (W.contents output.old) (W.contents output.new) (messages_of streams.Out quiet notes.now ++ (if quiet then [] else lines.now))) }
+    ensures { OnOk result (
+        Appends (W.contents output.old) (W.contents output.new)
+        (messages_of streams.Out quiet notes.now ++ (if quiet then [] else lines.now))) }
 {
     print_each(notes, quiet, output)?;
     print_lines(lines, quiet, output)
 }
 
-/// Prints the pieces for standard output, and then the lines of the outputs, in one write, unless what is before them could not be
-/// written. Quiet drops both. If there is no memory for the whole text, each part is a write of its own.
+/// Prints the pieces for standard output, and then the lines of the outputs, in one write, unless
+/// what is before them could not be written. Quiet drops both. If there is no memory for the whole
+/// text, each part is a write of its own.
 fn print_next<W: Write>(
     alloc: Global,
     done: io::Result<()>,
@@ -103,7 +115,9 @@ fn print_next<W: Write>(
     output: &mut W,
 ) -> io::Result<()>
     ensures before { OnOk result (done ≡ Ok tt) }
-    ensures run { OnOk result (Appends (W.contents output.old) (W.contents output.new) (messages_of streams.Out quiet notes.now ++ (if quiet then [] else lines.now))) }
+    ensures run { OnOk result (
+        Appends (W.contents output.old) (W.contents output.new)
+        (messages_of streams.Out quiet notes.now ++ (if quiet then [] else lines.now))) }
 {
     match done {
         Ok(()) => match printed_text(alloc, notes, lines, quiet) {
@@ -141,13 +155,15 @@ fn tell_piece<E: Write>(note: &Note, errors: &mut E)
     }
 }
 
-/// Prints pieces in order, each on its stream, and then the lines of the outputs on standard output. Quiet drops what is for standard
-/// output. What is next to each other there is one write, made before the next piece for standard error.
+/// Prints pieces in order, each on its stream, and then the lines of the outputs on standard
+/// output. Quiet drops what is for standard output. What is next to each other there is one write,
+/// made before the next piece for standard error.
 ///
 /// # Errors
 ///
-/// Fails if standard output doesn't take all of it. If a write fails there, what follows it there is dropped, and the pieces for standard
-/// error are printed all the same. That standard error can't be written is not reported.
+/// Fails if standard output doesn't take all of it. If a write fails there, what follows it there
+/// is dropped, and the pieces for standard error are printed all the same. That standard error
+/// can't be written is not reported.
 pub fn print_all<W: Write, E: Write>(
     alloc: Global,
     notes: &[Note],
@@ -156,7 +172,9 @@ pub fn print_all<W: Write, E: Write>(
     output: &mut W,
     errors: &mut E,
 ) -> io::Result<()>
-    ensures run { OnOk result (Appends (W.contents output.old) (W.contents output.new) (messages_of streams.Out quiet notes.now ++ (if quiet then [] else lines.now))) }
+    ensures run { OnOk result (
+        Appends (W.contents output.old) (W.contents output.new)
+        (messages_of streams.Out quiet notes.now ++ (if quiet then [] else lines.now))) }
     ensures told { AreTold (E.contents errors.old) (E.contents errors.new) (errors_of notes.now) }
 {
     let mut done = Ok(());
@@ -173,7 +191,8 @@ pub fn print_all<W: Write, E: Write>(
 
 /// Prints the lines of the outputs. Quiet drops them.
 pub fn print_lines<W: Write>(lines: &[u8], quiet: bool, output: &mut W) -> io::Result<()>
-    ensures { OnOk result (Appends (W.contents output.old) (W.contents output.new) (if quiet then [] else lines.now)) }
+    ensures { OnOk result (
+        Appends (W.contents output.old) (W.contents output.new) (if quiet then [] else lines.now)) }
 {
     if quiet {
         return Ok(());

@@ -69,8 +69,8 @@ fn text_at<V: Env>(
     Err(AllocError)
 }
 
-/// Returns the entries of the environment, each a name and a value, which may be any bytes. It leaves out an entry without
-/// `=`.
+/// Returns the entries of the environment, each a name and a value, which may be any bytes. It
+/// leaves out an entry without `=`.
 ///
 /// No clause says what they are, because the contract of [`Env`] has no name for them.
 ///

@@ -46,11 +46,12 @@ fn has_quiet(arguments: &[Bytes]) -> bool
     arguments.iter().any(is_quiet)
 }
 
-/// Returns whether the program may show its progress, if it is given these words after its name: it is asked to run a
-/// configure.ac, and none of the arguments is `--quiet`, in any of its forms.
+/// Returns whether the program may show its progress, if it is given these words after its name: it
+/// is asked to run a configure.ac, and none of the arguments is `--quiet`, in any of its forms.
 fn may_show_progress(words: &[Bytes]) -> bool
     ensures value { result ≡ meant.may_show_progress (call_of words.now) }
-    ensures quiet { IfConfigure (call_of words.now) (λ window arguments. IsTrue result → meant.IsNeverQuiet arguments) }
+    ensures quiet { IfConfigure (call_of words.now) (λ window arguments.
+        IsTrue result → meant.IsNeverQuiet arguments) }
 {
     match call_of(words) {
         ProgramCall::Configure(_, arguments) => !has_quiet(arguments),
@@ -86,18 +87,21 @@ fn showing_in(env: &[(Bytes, Bytes)], is_terminal: bool) -> Showing
     Showing::Nothing
 }
 
-/// Returns what the program shows of its children, if it is given these words after its name, this environment, and a standard error
-/// that is a terminal or not: nothing unless it is asked to run a configure.ac and none of the arguments is `--quiet`, in any of its
-/// forms; lines if an entry of the environment is ACRUN_PROGRESS with the value `lines`; and otherwise the line of a terminal, if
-/// there is one (own).
+/// Returns what the program shows of its children, if it is given these words after its name, this
+/// environment, and a standard error that is a terminal or not: nothing unless it is asked to run a
+/// configure.ac and none of the arguments is `--quiet`, in any of its forms; lines if an entry of
+/// the environment is ACRUN_PROGRESS with the value `lines`; and otherwise the line of a terminal,
+/// if there is one (own).
 ///
-/// An argument that is the value of the option before it counts too, as in `--prefix -q`. So a run that isn't quiet may show
-/// nothing, but a quiet one never shows anything.
+/// An argument that is the value of the option before it counts too, as in `--prefix -q`. So a run
+/// that isn't quiet may show nothing, but a quiet one never shows anything.
 pub fn showing_of(words: &[Bytes], env: &[(Bytes, Bytes)], is_terminal: bool) -> Showing
     ensures value { result ≡ meant.showing_of (call_of words.now) env.now is_terminal }
-    ensures quiet { IfConfigure (call_of words.now) (λ window arguments. result ≢ Nothing → meant.IsNeverQuiet arguments) }
+    ensures quiet { IfConfigure (call_of words.now) (λ window arguments.
+        result ≢ Nothing → meant.IsNeverQuiet arguments) }
     // Nothing is shown unless it is asked for, or there is a terminal.
-    ensures unasked { list_any meant.asks_lines env.now ≡ false → is_terminal ≡ false → result ≡ Nothing }
+    ensures unasked { list_any meant.asks_lines env.now ≡ false → is_terminal ≡ false
+        → result ≡ Nothing }
 {
     if may_show_progress(words) {
         return showing_in(env, is_terminal);

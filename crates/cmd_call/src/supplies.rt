@@ -35,7 +35,8 @@ fn add_template<D: Disk>(
     name: &[u8],
     templates: &mut Vec<(Bytes, Bytes)>,
 ) -> Result<(), AllocError>
-    ensures { OnOk result ((read : Option (List ℕ)) × given.ReadsTemplate (D.known disk.now) srcdir.now name.now read
+    ensures { OnOk result (
+        (read : Option (List ℕ)) × given.ReadsTemplate (D.known disk.now) srcdir.now name.now read
         × (templates.new.items ≡ templates.old.items ++ given.entry_of name.now read)) }
 {
     let path = path_in(alloc, srcdir, name)?;
@@ -64,8 +65,11 @@ fn add_needed<D: Disk>(
     output: &Output,
     templates: &mut Vec<(Bytes, Bytes)>,
 ) -> Result<(), AllocError>
-    ensures { OnOk result ((before : List lists.Output) → given.AreTemplates (D.known disk.now) srcdir.now before templates.old.items
-        → given.AreTemplates (D.known disk.now) srcdir.now (before ++ output.now ∷ []) templates.new.items) }
+    ensures { OnOk result (
+        (before : List lists.Output)
+        → given.AreTemplates (D.known disk.now) srcdir.now before templates.old.items
+        → given.AreTemplates (D.known disk.now) srcdir.now (before ++ output.now ∷ [])
+        templates.new.items) }
 {
     let name = output.template.as_slice();
     if has_template(templates.as_slice(), name) {
@@ -82,8 +86,11 @@ fn add_templates<D: Disk>(
     outputs: &[Output],
     templates: &mut Vec<(Bytes, Bytes)>,
 ) -> Result<(), AllocError>
-    ensures { OnOk result ((before : List lists.Output) → given.AreTemplates (D.known disk.now) srcdir.now before templates.old.items
-        → given.AreTemplates (D.known disk.now) srcdir.now (before ++ outputs.now) templates.new.items) }
+    ensures { OnOk result (
+        (before : List lists.Output)
+        → given.AreTemplates (D.known disk.now) srcdir.now before templates.old.items
+        → given.AreTemplates (D.known disk.now) srcdir.now (before ++ outputs.now)
+        templates.new.items) }
 {
     'outputs: for output in outputs {
         add_needed(alloc, disk, srcdir, output, templates)?;
@@ -91,7 +98,8 @@ fn add_templates<D: Disk>(
     Ok(())
 }
 
-/// Reads the templates of files and headers, each once, with its name. One that can't be read is left out.
+/// Reads the templates of files and headers, each once, with its name. One that can't be read is
+/// left out.
 ///
 /// # Errors
 ///
@@ -103,7 +111,9 @@ pub fn read_templates<D: Disk>(
     outputs: &[Output],
     headers: &[Output],
 ) -> Result<Vec<(Bytes, Bytes)>, AllocError>
-    ensures { IfOk result (λ templates. given.AreTemplates (D.known disk.now) srcdir.now (outputs.now ++ headers.now) templates.items) }
+    ensures { IfOk result (λ templates.
+        given.AreTemplates (D.known disk.now) srcdir.now (outputs.now ++ headers.now)
+        templates.items) }
 {
     let mut templates = Vec::new(alloc);
     add_templates(alloc, disk, srcdir, outputs, &mut templates)?;
@@ -160,8 +170,9 @@ pub fn read_supplies<D: Disk>(
     source: &Source,
     settings: &Settings,
 ) -> Result<Supplies, AllocError>
-    ensures { IfOk result (λ s. given.AreGiven (D.known disk.now) (script_of source.now) settings.now.cache_name settings.now.srcdir settings.now.no_create
-        s.cache s.templates.items) }
+    ensures { IfOk result (λ s.
+        given.AreGiven (D.known disk.now) (script_of source.now) settings.now.cache_name
+        settings.now.srcdir settings.now.no_create s.cache s.templates.items) }
 {
     let cache = read_cache(alloc, disk, settings.cache_name.as_ref())?;
     let templates = wanted_templates(alloc, disk, source, settings)?;
@@ -180,7 +191,9 @@ pub fn record_templates<D: Disk>(
     disk: &D,
     recorded: &Record,
 ) -> Result<Vec<(Bytes, Bytes)>, AllocError>
-    ensures { IfOk result (λ templates. given.AreTemplates (D.known disk.now) recorded.now.srcdir (recorded.now.files ++ recorded.now.headers) templates.items) }
+    ensures { IfOk result (λ templates.
+        given.AreTemplates (D.known disk.now) recorded.now.srcdir
+        (recorded.now.files ++ recorded.now.headers) templates.items) }
 {
     read_templates(
         alloc,
@@ -218,8 +231,9 @@ fn keep_templates<D: Disk>(
 ) -> Result<(), AllocError>
     requires { IsUnused outputs.old }
     ensures more { GuardsMore outputs.old outputs.new }
-    ensures guarded { OnOk result
-        (AreGuarded (D.known outputs.new.disk) outputs.new.guards (paths_of srcdir.now templates.now)) }
+    ensures guarded { OnOk result (
+        AreGuarded (D.known outputs.new.disk) outputs.new.guards
+        (paths_of srcdir.now templates.now)) }
 {
     'templates: for template in templates {
         keep_in(alloc, outputs, srcdir, template.0.as_slice())?;
@@ -227,8 +241,8 @@ fn keep_templates<D: Disk>(
     Ok(())
 }
 
-/// Has puts to the files refused that a run reads, or writes by itself: the source, these templates, and the log. So no output of the
-/// run replaces one of them.
+/// Has puts to the files refused that a run reads, or writes by itself: the source, these
+/// templates, and the log. So no output of the run replaces one of them.
 ///
 /// # Errors
 ///
@@ -242,8 +256,9 @@ pub fn keep_inputs<D: Disk>(
 ) -> Result<(), AllocError>
     requires { IsUnused outputs.old }
     ensures more { GuardsMore outputs.old outputs.new }
-    ensures guarded { OnOk result
-        (AreGuarded (D.known outputs.new.disk) outputs.new.guards (inputs_of srcdir.now templates.now)) }
+    ensures guarded { OnOk result (
+        AreGuarded (D.known outputs.new.disk) outputs.new.guards
+        (inputs_of srcdir.now templates.now)) }
 {
     outputs.keep(LOG.as_bytes())?;
     keep_in(alloc, outputs, srcdir, b"configure.ac")?;

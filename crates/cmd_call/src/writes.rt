@@ -9,8 +9,8 @@ use std::marker::Model;
 /// The largest number of writes of one text.
 const MOST_WRITES: u64 = 1 << 32;
 
-/// Says that a text isn't written further: a write failed or took nothing, or there were too many of them. Only
-/// [`Writes::write`] makes one.
+/// Says that a text isn't written further: a write failed or took nothing, or there were too many
+/// of them. Only [`Writes::write`] makes one.
 #[derive(Drop)]
 pub(crate) struct Stopped {
     _private: (),
@@ -36,13 +36,16 @@ impl Writes {
         Writes { left: MOST_WRITES }
     }
 
-    /// Writes once, and returns how many bytes the stream took. A write that a signal interrupts takes none.
+    /// Writes once, and returns how many bytes the stream took. A write that a signal interrupts
+    /// takes none.
     #[tactic(auto, using(crate::proofs::Fronts::nothing_more, crate::proofs::Fronts::nothing_appended))]
     pub(crate) fn write<E: Write>(&mut self, text: &[u8], errors: &mut E) -> Result<usize, Stopped>
         ensures counted { OnOk result (self.new < self.old) }
         ensures within { IfOk result (λ n. n ≤ length text.now) }
-        ensures taken { IfOk result (λ n. Appends (E.contents errors.old) (E.contents errors.new) (take n text.now)) }
-        ensures nothing { OnErr result (Appends (E.contents errors.old) (E.contents errors.new) []) }
+        ensures taken { IfOk result (λ n.
+            Appends (E.contents errors.old) (E.contents errors.new) (take n text.now)) }
+        ensures nothing { OnErr result (
+            Appends (E.contents errors.old) (E.contents errors.new) []) }
     {
         if self.left == 0 {
             return Err(Stopped { _private: () });

@@ -1,16 +1,16 @@
 //! The commands that run a configure.ac, over files and a crew.
 //!
-//! [`run_configure`] calls `engine::configure` on texts that it reads from files. Children run in the crew that the
-//! caller gives, and a receiver writes the outputs. [`run_recheck`] does the same with the arguments of a record. The
-//! crate `cmd_status` prints and logs the result.
+//! [`run_configure`] calls `engine::configure` on texts that it reads from files. Children run in
+//! the crew that the caller gives, and a receiver writes the outputs. [`run_recheck`] does the same
+//! with the arguments of a record. The crate `cmd_status` prints and logs the result.
 //!
-//! For example, `acrun configure --srcdir=../src -C` is [`run_configure`]: it reads `../src/configure.ac`,
-//! `config.cache` and the templates, runs the checks, and writes the outputs, `config.status`, `config.cache` and
-//! `config.log`.
+//! For example, `acrun configure --srcdir=../src -C` is [`run_configure`]: it reads
+//! `../src/configure.ac`, `config.cache` and the templates, runs the checks, and writes the
+//! outputs, `config.status`, `config.cache` and `config.log`.
 //!
-//! If it is known what the files hold, and what was done to them, the contracts say that the source, the cache and the
-//! templates are the texts of their files, and that the outputs of the run and its log are written, and nothing else.
-//! "own" marks a rule that no manual gives.
+//! If it is known what the files hold, and what was done to them, the contracts say that the
+//! source, the cache and the templates are the texts of their files, and that the outputs of the
+//! run and its log are written, and nothing else. "own" marks a rule that no manual gives.
 //!
 //! Read `specs/Configures`, then `running` and `rechecking`.
 #![tactic(auto)]

@@ -31,21 +31,26 @@ fn why_of(is_asked: bool, text: &[u8]) -> Why<'_> {
     }
 }
 
-/// Runs a configure.ac again with the arguments of the record that has this text, and returns the exit status.
+/// Runs a configure.ac again with the arguments of the record that has this text, and returns the
+/// exit status.
 fn run_again<D: Disk, C: Crew + Causes, R: Read, W: Write, E: Write>(
     terminal: &mut Terminal<'_, D, R, W, E>,
     text: &[u8],
     crew: &mut C,
 ) -> u8
     requires may_run { MayRun (C.account crew.old) }
-    requires found { ReadsWhole (D.known terminal.old.outputs.disk) (codes "config.status") (Some text.now) }
+    requires found { ReadsWhole (D.known terminal.old.outputs.disk) (codes "config.status")
+        (Some text.now) }
     requires fresh { terminal.old.outputs ≡ fresh terminal.old.outputs.disk }
     ensures idle { IsIdle (C.account crew.new).events }
-    ensures run { result ≢ 2 → (out : List ℕ) × (said : List (List ℕ))
+    ensures run { result ≢ 2
+        → (out : List ℕ) × (said : List (List ℕ))
         × IsRechecked terminal.old.env.now (C.account crew.old) (C.account crew.new)
-        (D.known terminal.old.outputs.disk) (D.known terminal.new.outputs.disk) out said result
+        (D.known terminal.old.outputs.disk) (D.known terminal.new.outputs.disk) out said
+        result
         × Appends (W.contents terminal.old.output) (W.contents terminal.new.output) out
-        × (terminal.old.is_asked ≡ false → AreTold (E.contents terminal.old.errors) (E.contents terminal.new.errors) said) }
+        × (terminal.old.is_asked ≡ false
+        → AreTold (E.contents terminal.old.errors) (E.contents terminal.new.errors) said) }
     ensures input { terminal.new.input ≡ terminal.old.input }
 {
     match recheck_args(terminal.alloc, text) {
@@ -70,12 +75,13 @@ fn run_again<D: Disk, C: Crew + Causes, R: Read, W: Write, E: Write>(
     }
 }
 
-/// Runs the configure.ac again with the arguments of the record in the current directory, and then `--no-create`, and returns the
-/// exit status.
+/// Runs the configure.ac again with the arguments of the record in the current directory, and then
+/// `--no-create`, and returns the exit status.
 ///
-/// The environment is that of now, and at most one child runs at once. The record and the log are written again, and the cache if
-/// one is named, but no file and no header. If anything is wrong, the status is 2, and standard error has a line for it (own). If
-/// it is asked, further lines may say why.
+/// The environment is that of now, and at most one child runs at once. The record and the log are
+/// written again, and the cache if one is named, but no file and no header. If anything is wrong,
+/// the status is 2, and standard error has a line for it (own). If it is asked, further lines may
+/// say why.
 pub fn run_recheck<D: Disk, C: Crew + Causes, R: Read, W: Write, E: Write>(
     terminal: &mut Terminal<'_, D, R, W, E>,
     crew: &mut C,
@@ -83,11 +89,14 @@ pub fn run_recheck<D: Disk, C: Crew + Causes, R: Read, W: Write, E: Write>(
     requires may_run { MayRun (C.account crew.old) }
     requires fresh { terminal.old.outputs ≡ fresh terminal.old.outputs.disk }
     ensures idle { IsIdle (C.account crew.new).events }
-    ensures run { result ≢ 2 → (out : List ℕ) × (said : List (List ℕ))
+    ensures run { result ≢ 2
+        → (out : List ℕ) × (said : List (List ℕ))
         × IsRechecked terminal.old.env.now (C.account crew.old) (C.account crew.new)
-        (D.known terminal.old.outputs.disk) (D.known terminal.new.outputs.disk) out said result
+        (D.known terminal.old.outputs.disk) (D.known terminal.new.outputs.disk) out said
+        result
         × Appends (W.contents terminal.old.output) (W.contents terminal.new.output) out
-        × (terminal.old.is_asked ≡ false → AreTold (E.contents terminal.old.errors) (E.contents terminal.new.errors) said) }
+        × (terminal.old.is_asked ≡ false
+        → AreTold (E.contents terminal.old.errors) (E.contents terminal.new.errors) said) }
     ensures input { terminal.new.input ≡ terminal.old.input }
 {
     match read_text(terminal.alloc, terminal.outputs.disk(), RECORD) {

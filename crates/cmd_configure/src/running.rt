@@ -63,15 +63,19 @@ fn run_supplied<D: Disk, C: Crew + Causes, R: Read, W: Write, E: Write>(
     requires window { IsWindow window }
     requires may_run { MayRun (C.account crew.old) }
     requires source { IsRead (script_in needs.now) }
-    requires given { AreGiven (D.known terminal.old.outputs.disk) (script_in needs.now) needs.now.settings.cache_name needs.now.settings.srcdir needs.now.settings.no_create
+    requires given { AreGiven (D.known terminal.old.outputs.disk) (script_in needs.now)
+        needs.now.settings.cache_name needs.now.settings.srcdir needs.now.settings.no_create
         supplies.now.cache supplies.now.templates.items }
     requires fresh { terminal.old.outputs ≡ fresh terminal.old.outputs.disk }
     ensures idle { IsIdle (C.account crew.new).events }
-    ensures run { result ≢ 2 → (out : List ℕ) × (said : List (List ℕ))
-        × IsRun window needs.now.arguments (script_in needs.now) needs.now.settings (C.account crew.old) (C.account crew.new)
-        (D.known terminal.old.outputs.disk) (D.known terminal.new.outputs.disk) out said result
+    ensures run { result ≢ 2
+        → (out : List ℕ) × (said : List (List ℕ))
+        × IsRun window needs.now.arguments (script_in needs.now) needs.now.settings
+        (C.account crew.old) (C.account crew.new) (D.known terminal.old.outputs.disk)
+        (D.known terminal.new.outputs.disk) out said result
         × Appends (W.contents terminal.old.output) (W.contents terminal.new.output) out
-        × (terminal.old.is_asked ≡ false → AreTold (E.contents terminal.old.errors) (E.contents terminal.new.errors) said) }
+        × (terminal.old.is_asked ≡ false
+        → AreTold (E.contents terminal.old.errors) (E.contents terminal.new.errors) said) }
     ensures input { terminal.new.input ≡ terminal.old.input }
 {
     let alloc = terminal.alloc;
@@ -100,11 +104,14 @@ fn run_needs<D: Disk, C: Crew + Causes, R: Read, W: Write, E: Write>(
     requires source { IsRead (script_in needs.now) }
     requires fresh { terminal.old.outputs ≡ fresh terminal.old.outputs.disk }
     ensures idle { IsIdle (C.account crew.new).events }
-    ensures run { result ≢ 2 → (out : List ℕ) × (said : List (List ℕ))
-        × IsRun window needs.now.arguments (script_in needs.now) needs.now.settings (C.account crew.old) (C.account crew.new)
-        (D.known terminal.old.outputs.disk) (D.known terminal.new.outputs.disk) out said result
+    ensures run { result ≢ 2
+        → (out : List ℕ) × (said : List (List ℕ))
+        × IsRun window needs.now.arguments (script_in needs.now) needs.now.settings
+        (C.account crew.old) (C.account crew.new) (D.known terminal.old.outputs.disk)
+        (D.known terminal.new.outputs.disk) out said result
         × Appends (W.contents terminal.old.output) (W.contents terminal.new.output) out
-        × (terminal.old.is_asked ≡ false → AreTold (E.contents terminal.old.errors) (E.contents terminal.new.errors) said) }
+        × (terminal.old.is_asked ≡ false
+        → AreTold (E.contents terminal.old.errors) (E.contents terminal.new.errors) said) }
     ensures input { terminal.new.input ≡ terminal.old.input }
 {
     let disk = terminal.outputs.disk();
@@ -124,16 +131,21 @@ fn run_source<D: Disk, C: Crew + Causes, R: Read, W: Write, E: Write>(
 ) -> u8
     requires window { IsWindow window }
     requires may_run { MayRun (C.account crew.old) }
-    requires found { ReadsSource (D.known terminal.old.outputs.disk) why.now.args.now why.now.text.now }
+    requires found { ReadsSource (D.known terminal.old.outputs.disk) why.now.args.now
+        why.now.text.now }
     requires source { source_of why.now.text.now ≡ Ok (script_of source.now) }
-    requires outputs { AreOutputs (lists_of (script_of source.now)).files (lists_of (script_of source.now)).headers }
+    requires outputs { AreOutputs (lists_of (script_of source.now)).files
+        (lists_of (script_of source.now)).headers }
     requires fresh { terminal.old.outputs ≡ fresh terminal.old.outputs.disk }
     ensures idle { IsIdle (C.account crew.new).events }
-    ensures run { result ≢ 2 → (out : List ℕ) × (said : List (List ℕ))
-        × IsConfigured window why.now.args.now terminal.old.env.now (C.account crew.old) (C.account crew.new)
-        (D.known terminal.old.outputs.disk) (D.known terminal.new.outputs.disk) out said result
+    ensures run { result ≢ 2
+        → (out : List ℕ) × (said : List (List ℕ))
+        × IsConfigured window why.now.args.now terminal.old.env.now (C.account crew.old)
+        (C.account crew.new) (D.known terminal.old.outputs.disk)
+        (D.known terminal.new.outputs.disk) out said result
         × Appends (W.contents terminal.old.output) (W.contents terminal.new.output) out
-        × (terminal.old.is_asked ≡ false → AreTold (E.contents terminal.old.errors) (E.contents terminal.new.errors) said) }
+        × (terminal.old.is_asked ≡ false
+        → AreTold (E.contents terminal.old.errors) (E.contents terminal.new.errors) said) }
     ensures input { terminal.new.input ≡ terminal.old.input }
 {
     match judge(terminal.alloc, source, why.args, terminal.env) {
@@ -162,14 +174,18 @@ fn run_text<D: Disk, C: Crew + Causes, R: Read, W: Write, E: Write>(
 ) -> u8
     requires window { IsWindow window }
     requires may_run { MayRun (C.account crew.old) }
-    requires found { ReadsSource (D.known terminal.old.outputs.disk) why.now.args.now why.now.text.now }
+    requires found { ReadsSource (D.known terminal.old.outputs.disk) why.now.args.now
+        why.now.text.now }
     requires fresh { terminal.old.outputs ≡ fresh terminal.old.outputs.disk }
     ensures idle { IsIdle (C.account crew.new).events }
-    ensures run { result ≢ 2 → (out : List ℕ) × (said : List (List ℕ))
-        × IsConfigured window why.now.args.now terminal.old.env.now (C.account crew.old) (C.account crew.new)
-        (D.known terminal.old.outputs.disk) (D.known terminal.new.outputs.disk) out said result
+    ensures run { result ≢ 2
+        → (out : List ℕ) × (said : List (List ℕ))
+        × IsConfigured window why.now.args.now terminal.old.env.now (C.account crew.old)
+        (C.account crew.new) (D.known terminal.old.outputs.disk)
+        (D.known terminal.new.outputs.disk) out said result
         × Appends (W.contents terminal.old.output) (W.contents terminal.new.output) out
-        × (terminal.old.is_asked ≡ false → AreTold (E.contents terminal.old.errors) (E.contents terminal.new.errors) said) }
+        × (terminal.old.is_asked ≡ false
+        → AreTold (E.contents terminal.old.errors) (E.contents terminal.new.errors) said) }
     ensures input { terminal.new.input ≡ terminal.old.input }
 {
     match parse(terminal.alloc, why.text) {
@@ -203,11 +219,14 @@ fn why_of<'a>(is_asked: bool, path: &'a [u8], text: &'a [u8], args: &'a [Bytes])
     }
 }
 
-/// Runs the configure.ac that the arguments name, with at most `window` children at once, and returns the exit status.
+/// Runs the configure.ac that the arguments name, with at most `window` children at once, and
+/// returns the exit status.
 ///
-/// The source is `configure.ac` in the directory that `--srcdir` names, or else in the current one. What the run hands over is
-/// written in the current directory, and then its log. If a text is shown, nothing is written. If anything is wrong, the status is 2,
-/// and standard error has a line for it (own); outputs may have been written before that. If it is asked, further lines may say why.
+/// The source is `configure.ac` in the directory that `--srcdir` names, or else in the current one.
+/// What the run hands over is written in the current directory, and then its log. If a text is
+/// shown, nothing is written. If anything is wrong, the status is 2, and standard error has a line
+/// for it (own); outputs may have been written before that. If it is asked, further lines may say
+/// why.
 pub fn run_configure<D: Disk, C: Crew + Causes, R: Read, W: Write, E: Write>(
     terminal: &mut Terminal<'_, D, R, W, E>,
     window: usize,
@@ -218,11 +237,14 @@ pub fn run_configure<D: Disk, C: Crew + Causes, R: Read, W: Write, E: Write>(
     requires may_run { MayRun (C.account crew.old) }
     requires fresh { terminal.old.outputs ≡ fresh terminal.old.outputs.disk }
     ensures idle { IsIdle (C.account crew.new).events }
-    ensures run { result ≢ 2 → (out : List ℕ) × (said : List (List ℕ))
-        × IsConfigured window args.now terminal.old.env.now (C.account crew.old) (C.account crew.new)
-        (D.known terminal.old.outputs.disk) (D.known terminal.new.outputs.disk) out said result
+    ensures run { result ≢ 2
+        → (out : List ℕ) × (said : List (List ℕ))
+        × IsConfigured window args.now terminal.old.env.now (C.account crew.old)
+        (C.account crew.new) (D.known terminal.old.outputs.disk)
+        (D.known terminal.new.outputs.disk) out said result
         × Appends (W.contents terminal.old.output) (W.contents terminal.new.output) out
-        × (terminal.old.is_asked ≡ false → AreTold (E.contents terminal.old.errors) (E.contents terminal.new.errors) said) }
+        × (terminal.old.is_asked ≡ false
+        → AreTold (E.contents terminal.old.errors) (E.contents terminal.new.errors) said) }
     ensures input { terminal.new.input ≡ terminal.old.input }
 {
     let alloc = terminal.alloc;

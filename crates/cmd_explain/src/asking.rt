@@ -27,7 +27,8 @@ fn is_asking(name: &[u8], value: &[u8]) -> bool
     name == b"ACRUN_WHY".as_slice() && !value.is_empty()
 }
 
-/// Returns whether the environment asks for lines that say why: it has an entry ACRUN_WHY whose value isn't empty (own).
+/// Returns whether the environment asks for lines that say why: it has an entry ACRUN_WHY whose
+/// value isn't empty (own).
 pub fn asks_why(env: &[(Bytes, Bytes)]) -> bool
     ensures { result ≡ meant.asks_why env.now }
 {

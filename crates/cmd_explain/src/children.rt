@@ -58,9 +58,11 @@ fn put_made<E: Write>(alloc: Global, made: Result<Vec<u8>, AllocError>, errors: 
     }
 }
 
-/// Says why the child of this number was refused, which cut the run with this log: `acrun: child N: CAUSE`. If the run has a cache, whose
-/// name isn't empty then, and a child of the log found no room for a process, a file or its memory, one more line says that the cache may
-/// hold a wrong "no", and that it is to be removed: such a child answered "no", and its answer was kept (own).
+/// Says why the child of this number was refused, which cut the run with this log:
+/// `acrun: child N: CAUSE`. If the run has a cache, whose name isn't empty then, and a child of the
+/// log found no room for a process, a file or its memory, one more line says that the cache may
+/// hold a wrong "no", and that it is to be removed: such a child answered "no", and its answer was
+/// kept (own).
 pub fn explain_cut<C: Causes, E: Write>(
     alloc: Global,
     is_asked: bool,

@@ -29,7 +29,8 @@ fn is_accepted(entry: &Entry) -> bool {
     answer_of(entry) == Some(0)
 }
 
-/// Says that no compiler job of the run with this log succeeded, if it is asked, and if at least one was answered.
+/// Says that no compiler job of the run with this log succeeded, if it is asked, and if at least
+/// one was answered.
 pub fn explain_compilers<E: Write>(alloc: Global, is_asked: bool, log: &[Entry], errors: &mut E)
     ensures silent { is_asked ≡ false → errors.new ≡ errors.old }
 {

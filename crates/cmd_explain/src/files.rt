@@ -38,8 +38,8 @@ fn put_old_name<E: Write>(alloc: Global, errors: &mut E) {
     }
 }
 
-/// Says that a source has the name that Autoconf used before `configure.ac`, if the path is that of a source and such a file is beside
-/// it.
+/// Says that a source has the name that Autoconf used before `configure.ac`, if the path is that of
+/// a source and such a file is beside it.
 fn explain_old_name<D: Disk, E: Write>(alloc: Global, disk: &D, path: &[u8], errors: &mut E) {
     let Some(front) = path.strip_suffix(b"configure.ac") else {
         return;
@@ -52,8 +52,9 @@ fn explain_old_name<D: Disk, E: Write>(alloc: Global, disk: &D, path: &[u8], err
     }
 }
 
-/// Says why the file at a path was not read, if it is asked: `acrun: NAME: CAUSE`. The file is looked at once more for that, so if it
-/// can be read now, nothing is said. If it is a `configure.ac` and a `configure.in` is beside it, one more line says so (own).
+/// Says why the file at a path was not read, if it is asked: `acrun: NAME: CAUSE`. The file is
+/// looked at once more for that, so if it can be read now, nothing is said. If it is a
+/// `configure.ac` and a `configure.in` is beside it, one more line says so (own).
 pub fn explain_file<D: Disk, E: Write>(
     alloc: Global,
     disk: &D,
@@ -72,8 +73,8 @@ pub fn explain_file<D: Disk, E: Write>(
     }
 }
 
-/// Says why the template of this name was not read, if it is asked: `acrun: PATH: CAUSE`, as [`explain_file`] does, with the path at
-/// which it was looked for.
+/// Says why the template of this name was not read, if it is asked: `acrun: PATH: CAUSE`, as
+/// [`explain_file`] does, with the path at which it was looked for.
 pub fn explain_template<D: Disk, E: Write>(
     alloc: Global,
     disk: &D,

@@ -1,10 +1,11 @@
 //! What is wrong, in words, after the line of a fault on standard error.
 //!
-//! The line of a fault has numbers. It is the same at all times, and fixed. Where somebody looks at it, further
-//! lines follow it: if standard error is a terminal, or if the environment has an ACRUN_WHY that isn't
-//! empty. [`Why`] says whether they are asked for, and has what they may quote. For a fault of the source
-//! they are the place, the line of the source with a mark, and help, as `acrun lint` shows them; for any
-//! other fault a line with what is wrong, and one with what to do, or with the cause.
+//! The line of a fault has numbers. It is the same at all times, and fixed. Where somebody looks at
+//! it, further lines follow it: if standard error is a terminal, or if the environment has an
+//! ACRUN_WHY that isn't empty. [`Why`] says whether they are asked for, and has what they may
+//! quote. For a fault of the source they are the place, the line of the source with a mark, and
+//! help, as `acrun lint` shows them; for any other fault a line with what is wrong, and one with
+//! what to do, or with the cause.
 //!
 //! ```text
 //! acrun: parse 2 at 22                                               // the line of a fault
@@ -15,13 +16,14 @@
 //! acrun: ./configure.ac: No such file or directory                   // explain_file
 //! ```
 //!
-//! Each function `explain_..` is called right after the line of a fault. It writes nothing if it isn't asked,
-//! and this is proved, or if the cause isn't known. What it writes is tested. If memory runs out, it writes
-//! less, and that a line can't be written is not reported. "own" marks a rule that no manual gives.
+//! Each function `explain_..` is called right after the line of a fault. It writes nothing if it
+//! isn't asked, and this is proved, or if the cause isn't known. What it writes is tested. If
+//! memory runs out, it writes less, and that a line can't be written is not reported. "own" marks a
+//! rule that no manual gives.
 //!
-//! Read `specs/Asking`, then `asking`, `lines`, `files` and `children`, which say why. Then read `page`,
-//! which writes words, and `source`, which shows a fault of the source; then `runs`, `precious`, `remakes`,
-//! `usage` and `compilers`.
+//! Read `specs/Asking`, then `asking`, `lines`, `files` and `children`, which say why. Then read
+//! `page`, which writes words, and `source`, which shows a fault of the source; then `runs`,
+//! `precious`, `remakes`, `usage` and `compilers`.
 #![tactic(auto)]
 
 mod asking;

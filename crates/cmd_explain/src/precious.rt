@@ -23,7 +23,8 @@ pub struct Given<'a> {
     pub cache: &'a [u8],
 }
 
-/// Returns the value that pouring the cache over the variables would leave in this one, or an empty text if it would be unset.
+/// Returns the value that pouring the cache over the variables would leave in this one, or an empty
+/// text if it would be unset.
 fn poured<'a>(vars: &'a Vars, cache: &'a OldCache, name: &[u8]) -> &'a [u8]
     ensures { result.now ≡ unwrap_or (value_of (vars_after cache.now vars.now) name.now) [] }
 {
@@ -33,8 +34,8 @@ fn poured<'a>(vars: &'a Vars, cache: &'a OldCache, name: &[u8]) -> &'a [u8]
     }
 }
 
-/// Returns the value that a variable had in the run that made the cache, or `None` if it was unset. It is the value that a run
-/// compares with that of now.
+/// Returns the value that a variable had in the run that made the cache, or `None` if it was unset.
+/// It is the value that a run compares with that of now.
 #[tactic(auto, unfolding(options::specs::Precious::old_value))]
 fn old_value<'a>(
     alloc: Global,
@@ -42,7 +43,8 @@ fn old_value<'a>(
     cache: &'a OldCache,
     name: &[u8],
 ) -> Result<Option<&'a [u8]>, AllocError>
-    ensures { IfOk result (λ old. option_map (λ v. v.now) old ≡ value_then (vars_after cache.now vars.now) name.now) }
+    ensures { IfOk result (λ old.
+        option_map (λ v. v.now) old ≡ value_then (vars_after cache.now vars.now) name.now) }
 {
     let set_name = mark_name(alloc, name, b"_set")?;
     if poured(vars, cache, set_name.as_slice()) == b"".as_slice() {
@@ -103,7 +105,8 @@ fn place_of(fault: PreciousFault) -> u64 {
     }
 }
 
-/// Returns what is wrong with a precious variable, with the value that the cache holds and the one that is given.
+/// Returns what is wrong with a precious variable, with the value that the cache holds and the one
+/// that is given.
 pub(crate) fn of_precious(
     alloc: Global,
     given: &Given<'_>,

@@ -36,8 +36,8 @@ fn explain_tag<E: Write>(alloc: Global, recorded: Option<&Record>, name: &[u8], 
     }
 }
 
-/// Says more of why outputs are not made again, after its line, if it is asked. `recorded` is the record, if it was read. If a put was
-/// refused, `cause` says why.
+/// Says more of why outputs are not made again, after its line, if it is asked. `recorded` is the
+/// record, if it was read. If a put was refused, `cause` says why.
 pub fn explain_remake<D: Disk, E: Write>(
     alloc: Global,
     disk: &D,

@@ -29,8 +29,8 @@ fn explain_given<E: Write>(alloc: Global, given: &Given<'_>, errors: &mut E, fau
     }
 }
 
-/// Says what is wrong with what a run is given, after the line of the fault, if it is asked. If the source was judged before the
-/// fault was found, `given` is what the run was given then.
+/// Says what is wrong with what a run is given, after the line of the fault, if it is asked. If the
+/// source was judged before the fault was found, `given` is what the run was given then.
 pub fn explain_fault<D: Disk, E: Write>(
     alloc: Global,
     disk: &D,

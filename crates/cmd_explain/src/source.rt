@@ -54,7 +54,8 @@ fn put_shown<E: Write>(made: Result<Bytes, AllocError>, errors: &mut E) {
     }
 }
 
-/// Says what is wrong with a source, after the line of the fault, if it is asked. Says nothing of a fault of anything else.
+/// Says what is wrong with a source, after the line of the fault, if it is asked. Says nothing of a
+/// fault of anything else.
 pub fn explain_source<E: Write>(alloc: Global, why: &Why<'_>, errors: &mut E, fault: &Fault)
     ensures silent { why.now.is_asked ≡ false → errors.new ≡ errors.old }
 {

@@ -14,8 +14,8 @@ use std::alloc::{AllocError, AllocFailed};
 use std::error::Error;
 use std::fmt;
 
-/// Why the filter writes no text. It prints as the text of its error line, except that the name of a template, which may be any
-/// bytes, is left out.
+/// Why the filter writes no text. It prints as the text of its error line, except that the name of
+/// a template, which may be any bytes, is left out.
 #[derive(Debug, Drop)]
 pub enum FilterFault {
     /// The input can't be read, or doesn't end within 65,536 reads.

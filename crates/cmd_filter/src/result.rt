@@ -1,4 +1,5 @@
-//! What the filter takes of a run: the text of a file, what is printed on standard error, and the exit status.
+//! What the filter takes of a run: the text of a file, what is printed on standard error, and the
+//! exit status.
 
 ghost use Rattle.std.specs.Prelude.{◌≡◌, IfOk, find, false};
 ghost use Rattle.std.specs.Option.{option_copied};
@@ -50,7 +51,8 @@ pub(crate) fn taken(
     artifacts: &[Artifact],
 ) -> Result<Written, AllocError>
     ensures text { IfOk result (λ w. w.text ≡ words.first_text artifacts.now) }
-    ensures errors { IfOk result (λ w. w.errors.items ≡ messages_of streams.Err false report.now.messages) }
+    ensures errors { IfOk result (λ w.
+        w.errors.items ≡ messages_of streams.Err false report.now.messages) }
     ensures status { IfOk result (λ w. w.status ≡ told.status_of report.now.outcome) }
 {
     let text = first_text(alloc, artifacts)?;

@@ -22,7 +22,9 @@ fn run_over(
     requires source { IsRead (script_in needs.now) }
     requires crew { crew.old.account ≡ record { events = []; attempts = 0; failures = 0 } }
     requires outputs { outputs.old.receipt ≡ record { handed = []; failures = 0 } }
-    ensures ran { IfOk result (λ report. IsReported (going needs.now None templates.now) templates.now report outputs.new.receipt.handed) }
+    ensures ran { IfOk result (λ report.
+        IsReported (going needs.now None templates.now) templates.now report
+        outputs.new.receipt.handed) }
     ensures refused { IfErr result (IsNotRun (going needs.now None templates.now)) }
 {
     let report = go(alloc, needs, None, templates, crew, outputs, 1)?;
@@ -33,7 +35,8 @@ fn run_over(
     Err(FilterFault::OutOfMemory)
 }
 
-/// Runs a source without a cache, with each start of a child refused. What it hands over is then in `outputs`.
+/// Runs a source without a cache, with each start of a child refused. What it hands over is then in
+/// `outputs`.
 pub(crate) fn run_alone(
     alloc: Global,
     needs: &Needs<'_>,
@@ -42,7 +45,9 @@ pub(crate) fn run_alone(
 ) -> Result<Report, FilterFault>
     requires source { IsRead (script_in needs.now) }
     requires outputs { outputs.old.receipt ≡ record { handed = []; failures = 0 } }
-    ensures ran { IfOk result (λ report. IsReported (going needs.now None templates.now) templates.now report outputs.new.receipt.handed) }
+    ensures ran { IfOk result (λ report.
+        IsReported (going needs.now None templates.now) templates.now report
+        outputs.new.receipt.handed) }
     ensures refused { IfErr result (IsNotRun (going needs.now None templates.now)) }
 {
     let mut crew = MemoryCrew::new(alloc, Vec::new(alloc), Order::Oldest)?;

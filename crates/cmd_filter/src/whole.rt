@@ -27,7 +27,8 @@ use std::io::{Read, Write};
 /// The result of the filter, besides the text that it writes.
 #[derive(Drop)]
 pub struct Filtered {
-    /// The exit status of the program: 0 if the run completes, 3 if it is cut short, and else the source's own.
+    /// The exit status of the program: 0 if the run completes, 3 if it is cut short, and else the
+    /// source's own.
     pub status: u8,
     /// The text for standard error.
     pub errors: Vec<u8>,
@@ -65,7 +66,9 @@ fn run_with(
     templates: &[(Bytes, Bytes)],
 ) -> Result<Written, FilterFault>
     requires source { IsRead (script_in needs.now) }
-    ensures run { IfOk result (λ w. words.IsTaken (going needs.now None templates.now) templates.now w.text w.errors.items w.status) }
+    ensures run { IfOk result (λ w.
+        words.IsTaken (going needs.now None templates.now) templates.now w.text w.errors.items
+        w.status) }
     ensures refused { IfErr result (IsNotRun (going needs.now None templates.now)) }
 {
     let mut outputs = MemoryOutputs::new(alloc, 0);
@@ -74,15 +77,19 @@ fn run_with(
     Ok(written)
 }
 
-/// Judges a source without arguments and environment, and returns what the filter takes of its run with these templates.
+/// Judges a source without arguments and environment, and returns what the filter takes of its run
+/// with these templates.
 fn run_judged(
     alloc: Global,
     source: &Source,
     templates: &[(Bytes, Bytes)],
 ) -> Result<Written, FilterFault>
     requires source { IsRead (script_of source.now) }
-    requires outputs { AreOutputs (lists_of (script_of source.now)).files (lists_of (script_of source.now)).headers }
-    ensures run { IfOk result (λ w. words.IsTaken (judged_alone (script_of source.now) templates.now) templates.now w.text w.errors.items w.status) }
+    requires outputs { AreOutputs (lists_of (script_of source.now)).files
+        (lists_of (script_of source.now)).headers }
+    ensures run { IfOk result (λ w.
+        words.IsTaken (judged_alone (script_of source.now) templates.now) templates.now w.text
+        w.errors.items w.status) }
     ensures refused { IfErr result (IsNotRun (judged_alone (script_of source.now) templates.now)) }
 {
     match judge(alloc, source, &[], &[])? {
@@ -98,9 +105,14 @@ fn run_judged(
 /// Runs a source with this template.
 fn run_source(alloc: Global, source: &Source, template: &[u8]) -> Result<Written, FilterFault>
     requires source { IsRead (script_of source.now) }
-    requires outputs { AreOutputs (lists_of (script_of source.now)).files (lists_of (script_of source.now)).headers }
-    ensures run { IfOk result (λ w. IsRun (script_of source.now) template.now w.text w.errors.items w.status) }
-    ensures refused { IfErr result (IsNotRun (judged_alone (script_of source.now) (templates_of (script_of source.now) template.now))) }
+    requires outputs { AreOutputs (lists_of (script_of source.now)).files
+        (lists_of (script_of source.now)).headers }
+    ensures run { IfOk result (λ w.
+        IsRun (script_of source.now) template.now w.text w.errors.items w.status) }
+    ensures refused { IfErr result (
+        IsNotRun (
+        judged_alone (script_of source.now) (
+        templates_of (script_of source.now) template.now))) }
 {
     let files = source.files().as_slice();
     let templates = templates_for(alloc, files, template)?;
@@ -121,7 +133,8 @@ fn answer(alloc: Global, input: &[u8]) -> Result<Written, FilterFault>
     run_source(alloc, &source, after_marker(input, at))
 }
 
-/// Returns the source that the filter runs: the text before the line `%%`. Without such a line it is the whole text.
+/// Returns the source that the filter runs: the text before the line `%%`. Without such a line it
+/// is the whole text.
 pub fn source_part(input: &[u8]) -> &[u8]
     ensures { IsSourcePart input.now result.now }
 {
@@ -141,8 +154,11 @@ fn filter_text<W: Write>(
     input: &[u8],
     writer: &mut W,
 ) -> Result<Filtered, FilterFault>
-    // If it succeeds, what is written, the text for standard error and the status are those of the source's meaning.
-    ensures written { IfOk result (λ f. (out : List ℕ) × IsFiltered input.now out f.errors.items f.status × Appends (W.contents writer.old) (W.contents writer.new) out) }
+    // If it succeeds, what is written, the text for standard error and the status are those of the
+    // source's meaning.
+    ensures written { IfOk result (λ f.
+        (out : List ℕ) × IsFiltered input.now out f.errors.items f.status
+        × Appends (W.contents writer.old) (W.contents writer.new) out) }
     // If it fails, and not because of the writer, the writer is unchanged.
     ensures untouched { IfErr result (λ e. e ≢ FilterFault.Write → writer.new ≡ writer.old) }
     // If it fails, the input has an error, or its text can't be written, or memory ran out.
@@ -158,7 +174,8 @@ fn filter_text<W: Write>(
     })
 }
 
-/// Filters, as [`filter`] does, and keeps the text that was read. If the input can't be read, none is kept.
+/// Filters, as [`filter`] does, and keeps the text that was read. If the input can't be read, none
+/// is kept.
 ///
 /// # Errors
 ///
@@ -169,24 +186,30 @@ pub fn filter_keeping<R: Read, W: Write>(
     writer: &mut W,
     kept: &mut Vec<u8>,
 ) -> Result<Filtered, FilterFault>
-    // If it succeeds, what is written, the text for standard error and the status are those of the source's meaning.
-    ensures written { IfOk result (λ f. IfSome (R.remaining reader.old)
-        (λ input. (out : List ℕ) × IsFiltered input out f.errors.items f.status × Appends (W.contents writer.old) (W.contents writer.new) out)) }
+    // If it succeeds, what is written, the text for standard error and the status are those of the
+    // source's meaning.
+    ensures written { IfOk result (λ f.
+        IfSome (R.remaining reader.old) (λ input.
+        (out : List ℕ) × IsFiltered input out f.errors.items f.status
+        × Appends (W.contents writer.old) (W.contents writer.new) out)) }
     // If it fails, and not because of the writer, the writer is unchanged.
     ensures untouched { IfErr result (λ e. e ≢ FilterFault.Write → writer.new ≡ writer.old) }
-    // If it fails, the input has an error, can't be read, or its text can't be written, or memory ran out.
-    ensures refused { IfErr result (λ e. IfSome (R.remaining reader.old) (λ input. IsRefused input e)) }
+    // If it fails, the input has an error, can't be read, or its text can't be written, or memory
+    // ran out.
+    ensures refused { IfErr result (λ e.
+        IfSome (R.remaining reader.old) (λ input. IsRefused input e)) }
 {
     let input = read_input(alloc, reader)?;
     *kept = input;
     filter_text(alloc, kept.as_slice(), writer)
 }
 
-/// Reads a configure.ac, a line that is exactly `%%` and the template of its first file. Runs the source, without
-/// arguments, environment and cache, and writes that file.
+/// Reads a configure.ac, a line that is exactly `%%` and the template of its first file. Runs the
+/// source, without arguments, environment and cache, and writes that file.
 ///
-/// Nothing is written if the source names no file, or if an error stops the run. No child is started: if the source
-/// needs one, the run is cut short, and nothing is written. No template but that of the first file exists (own).
+/// Nothing is written if the source names no file, or if an error stops the run. No child is
+/// started: if the source needs one, the run is cut short, and nothing is written. No template but
+/// that of the first file exists (own).
 ///
 /// # Errors
 ///
@@ -194,10 +217,11 @@ pub fn filter_keeping<R: Read, W: Write>(
 ///
 /// - `Read`, if the input can't be read.
 /// - `Usage`, if it has no line `%%`.
-/// - `Run`, for the first error of the source; then for the first fault of `engine::configure`, in the order of `engine::Fault`:
-///   the source is too long to be run, or a template doesn't exist. A precious variable whose name is that of another one's mark
-///   can have a fault too.
-/// - `Write`, if the text can't be written. Some of it may have been written. After every other error, nothing is.
+/// - `Run`, for the first error of the source; then for the first fault of `engine::configure`, in
+///   the order of `engine::Fault`: the source is too long to be run, or a template doesn't exist. A
+///   precious variable whose name is that of another one's mark can have a fault too.
+/// - `Write`, if the text can't be written. Some of it may have been written. After every other
+///   error, nothing is.
 ///
 /// `OutOfMemory` may occur at any moment.
 pub fn filter<R: Read, W: Write>(
@@ -205,13 +229,18 @@ pub fn filter<R: Read, W: Write>(
     reader: &mut R,
     writer: &mut W,
 ) -> Result<Filtered, FilterFault>
-    // If it succeeds, what is written, the text for standard error and the status are those of the source's meaning.
-    ensures written { IfOk result (λ f. IfSome (R.remaining reader.old)
-        (λ input. (out : List ℕ) × IsFiltered input out f.errors.items f.status × Appends (W.contents writer.old) (W.contents writer.new) out)) }
+    // If it succeeds, what is written, the text for standard error and the status are those of the
+    // source's meaning.
+    ensures written { IfOk result (λ f.
+        IfSome (R.remaining reader.old) (λ input.
+        (out : List ℕ) × IsFiltered input out f.errors.items f.status
+        × Appends (W.contents writer.old) (W.contents writer.new) out)) }
     // If it fails, and not because of the writer, the writer is unchanged.
     ensures untouched { IfErr result (λ e. e ≢ FilterFault.Write → writer.new ≡ writer.old) }
-    // If it fails, the input has an error, can't be read, or its text can't be written, or memory ran out.
-    ensures refused { IfErr result (λ e. IfSome (R.remaining reader.old) (λ input. IsRefused input e)) }
+    // If it fails, the input has an error, can't be read, or its text can't be written, or memory
+    // ran out.
+    ensures refused { IfErr result (λ e.
+        IfSome (R.remaining reader.old) (λ input. IsRefused input e)) }
 {
     let mut kept = Vec::new(alloc);
     filter_keeping(alloc, reader, writer, &mut kept)

@@ -7,7 +7,8 @@
 //!
 //! "own" marks a rule that no manual gives.
 //!
-//! In `src`, `texts` has the texts and [`VERSION`], the one place that names it. `printing` prints them.
+//! In `src`, `texts` has the texts and [`VERSION`], the one place that names it. `printing` prints
+//! them.
 #![tactic(auto)]
 
 mod printing;

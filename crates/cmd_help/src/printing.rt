@@ -46,8 +46,9 @@ fn run_named<W: Write, E: Write>(name: &[u8], output: &mut W, errors: &mut E) ->
     }
 }
 
-/// Prints the commands or, if there is one word, how the command of this name is called. Returns the exit status: 0, or 2 if there
-/// is no such command, if there are further words, or if the text can't be written (own).
+/// Prints the commands or, if there is one word, how the command of this name is called. Returns
+/// the exit status: 0, or 2 if there is no such command, if there are further words, or if the text
+/// can't be written (own).
 pub fn run_help<W: Write, E: Write>(words: &[Bytes], output: &mut W, errors: &mut E) -> u8
     ensures status { (result ≡ 0) ⊎ (result ≡ 2) }
     ensures further { 1 < length words.now → result ≡ 2 }
@@ -67,7 +68,8 @@ pub fn run_help<W: Write, E: Write>(words: &[Bytes], output: &mut W, errors: &mu
     }
 }
 
-/// Prints the name and the version of the program. Returns the exit status: 0, or 2 if it can't be written (own).
+/// Prints the name and the version of the program. Returns the exit status: 0, or 2 if it can't be
+/// written (own).
 pub fn run_version<W: Write, E: Write>(output: &mut W, errors: &mut E) -> u8
     ensures status { (result ≡ 0) ⊎ (result ≡ 2) }
     ensures silent { result ≡ 0 → errors.new ≡ errors.old }

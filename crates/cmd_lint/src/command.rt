@@ -5,7 +5,7 @@ ghost use Rattle.std.specs.List.{list_any, filter};
 ghost use Rattle.cmd_call.specs.Calls as calls;
 ghost use Rattle.cmd_lint.specs.Status as specs;
 
-use crate::errors::found_in;
+use crate::findings::found_in;
 use crate::reading::{Linted, SOURCE, read_named};
 use crate::showing::{Form, page_of};
 use crate::words::{asks_json, has_input, has_name, has_unknown, is_name};
@@ -33,14 +33,16 @@ fn lint_text<D: Disk>(
     form: Form,
     linted: &Linted,
 ) -> Result<(Vec<u8>, bool), AllocError>
-    ensures { IfOk result (λ r. specs.HasError (D.known disk.now) linted.now.directory linted.now.text r.1) }
+    ensures { IfOk result (λ r.
+        specs.HasError (D.known disk.now) linted.now.directory linted.now.text r.1) }
 {
     let found = found_in(alloc, disk, linted)?;
     let page = page_of(alloc, form, linted, &found)?;
     Ok((page, found.has_error))
 }
 
-/// Writes a page, and returns the exit status: that which is given, unless the page can't be written.
+/// Writes a page, and returns the exit status: that which is given, unless the page can't be
+/// written.
 fn put_page<W: Write, E: Write>(page: &[u8], status: u8, output: &mut W, errors: &mut E) -> u8
     requires { status ≤ 1 }
     ensures bound { result ≤ 2 }
@@ -53,8 +55,8 @@ fn put_page<W: Write, E: Write>(page: &[u8], status: u8, output: &mut W, errors:
     }
 }
 
-/// Reads the source that a word names, and returns the page of what is found in it and whether that has an error, or `None` if it can't be
-/// read.
+/// Reads the source that a word names, and returns the page of what is found in it and whether that
+/// has an error, or `None` if it can't be read.
 fn page_for<D: Disk, R: Read>(
     alloc: Global,
     disk: &D,
@@ -64,7 +66,9 @@ fn page_for<D: Disk, R: Read>(
     input: &mut R,
 ) -> Result<Option<(Vec<u8>, bool)>, AllocError>
     ensures input { reads ≡ false → input.new ≡ input.old }
-    ensures linted { IfOk result (λ o. IfSome o (λ r. specs.IsLinted (D.known disk.now) (reads && calls.is_input word.now) word.now r.1)) }
+    ensures linted { IfOk result (λ o.
+        IfSome o (λ r.
+        specs.IsLinted (D.known disk.now) (reads && calls.is_input word.now) word.now r.1)) }
 {
     match read_named(alloc, disk, reads, input, word)? {
         Some(linted) => Ok(Some(lint_text(alloc, disk, form, &linted)?)),
@@ -86,7 +90,10 @@ fn lint_name<D: Disk, R: Read, W: Write, E: Write>(
     ensures input { reads ≡ false → input.new ≡ input.old }
     ensures bound { result ≤ 2 }
     ensures silent { result ≢ 2 → errors.new ≡ errors.old }
-    ensures linted { result ≢ 2 → (has : Bool) × specs.IsLinted (D.known disk.now) (reads && calls.is_input name.now) name.now has × (result ≡ specs.status_of has) }
+    ensures linted { result ≢ 2
+        → (has : Bool)
+        × specs.IsLinted (D.known disk.now) (reads && calls.is_input name.now) name.now has
+        × (result ≡ specs.status_of has) }
 {
     match page_for(alloc, disk, form, name, reads, input) {
         Ok(Some((page, has_error))) => {
@@ -105,7 +112,8 @@ fn worse(status: u8, next: u8) -> u8
     ensures bound { result ≤ 2 }
     ensures first { result ≢ 2 → status ≢ 2 }
     ensures second { result ≢ 2 → next ≢ 2 }
-    ensures both { (has also : Bool) → status ≡ specs.status_of has → next ≡ specs.status_of also → result ≡ specs.status_of (has || also) }
+    ensures both { (has also : Bool) → status ≡ specs.status_of has → next ≡ specs.status_of also
+        → result ≡ specs.status_of (has || also) }
 {
     if status < next { next } else { status }
 }
@@ -125,7 +133,9 @@ fn lint_names<D: Disk, R: Read, W: Write, E: Write>(
     ensures input { reads ≡ false → input.new ≡ input.old }
     ensures bound { result ≤ 2 }
     ensures silent { result ≢ 2 → errors.new ≡ errors.old }
-    ensures linted { result ≢ 2 → (has : Bool) × specs.AreLinted (D.known disk.now) (filter specs.is_name words.now) has × (result ≡ specs.status_of has) }
+    ensures linted { result ≢ 2
+        → (has : Bool) × specs.AreLinted (D.known disk.now) (filter specs.is_name words.now) has
+        × (result ≡ specs.status_of has) }
 {
     let mut status: u8 = 0;
     'words: for word in words {
@@ -151,12 +161,15 @@ fn lint_here<D: Disk, R: Read, W: Write, E: Write>(
     ensures input { input.new ≡ input.old }
     ensures bound { result ≤ 2 }
     ensures silent { result ≢ 2 → errors.new ≡ errors.old }
-    ensures linted { result ≢ 2 → (has : Bool) × specs.AreLinted (D.known disk.now) (codes "configure.ac" ∷ []) has × (result ≡ specs.status_of has) }
+    ensures linted { result ≢ 2
+        → (has : Bool) × specs.AreLinted (D.known disk.now) (codes "configure.ac" ∷ []) has
+        × (result ≡ specs.status_of has) }
 {
     lint_name(alloc, disk, form, SOURCE, false, input, output, errors)
 }
 
-/// Lints each source that words name, or the one in the current directory, and returns the exit status.
+/// Lints each source that words name, or the one in the current directory, and returns the exit
+/// status.
 #[tactic(auto, using(crate::proofs::Statuses::by_names, crate::proofs::Statuses::by_none))]
 fn lint_all<D: Disk, R: Read, W: Write, E: Write>(
     alloc: Global,
@@ -182,12 +195,14 @@ fn lint_all<D: Disk, R: Read, W: Write, E: Write>(
 
 /// Prints what is wrong with the sources that the words name, and returns the exit status.
 ///
-/// A word is `--json`, `-` for standard input, or the path of a source or of a directory with a `configure.ac`. Without such a path,
-/// `configure.ac` is read. Templates are read from the source's directory, and for standard input from the current one. Nothing is
-/// run, and no file is written.
+/// A word is `--json`, `-` for standard input, or the path of a source or of a directory with a
+/// `configure.ac`. Without such a path, `configure.ac` is read. Templates are read from the
+/// source's directory, and for standard input from the current one. Nothing is run, and no file is
+/// written.
 ///
-/// The status is 0 if nothing is found, or warnings alone; 1 if there are errors; and 2 if a source can't be read, if the text can't
-/// be written, or if an option isn't known, and then standard error has a line for it (own).
+/// The status is 0 if nothing is found, or warnings alone; 1 if there are errors; and 2 if a source
+/// can't be read, if the text can't be written, or if an option isn't known, and then standard
+/// error has a line for it (own).
 pub fn run_lint<D: Disk, R: Read, W: Write, E: Write>(
     alloc: Global,
     disk: &D,
@@ -205,7 +220,8 @@ pub fn run_lint<D: Disk, R: Read, W: Write, E: Write>(
     ensures silent { result ≢ 2 → errors.new ≡ errors.old }
     // It is 2 if an option isn't known.
     ensures unknown { list_any specs.is_unknown words.now ≡ true → result ≡ 2 }
-    // Unless it is 2, the sources that the words name were read, and it is 1 exactly if one of them has an error.
+    // Unless it is 2, the sources that the words name were read, and it is 1 exactly if one of them
+    // has an error.
     ensures linted { result ≢ 2 → specs.IsStatus (D.known disk.now) words.now result }
 {
     if has_unknown(words) {
@@ -223,8 +239,8 @@ fn forbids_colour(entry: &(Bytes, Bytes)) -> bool {
     entry.0.as_slice() == b"NO_COLOR".as_slice() && !entry.1.as_slice().is_empty()
 }
 
-/// Returns whether what is printed may have colours: standard output is a terminal, and the environment has no NO_COLOR, or an empty one
-/// (no-color.org).
+/// Returns whether what is printed may have colours: standard output is a terminal, and the
+/// environment has no NO_COLOR, or an empty one (no-color.org).
 pub fn may_colour(env: &[(Bytes, Bytes)], is_terminal: bool) -> bool {
     is_terminal && !env.iter().any(forbids_colour)
 }

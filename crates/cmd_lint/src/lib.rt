@@ -1,7 +1,8 @@
 //! The command `lint`: what is wrong with a configure.ac, and where, without a run.
 //!
-//! [`run_lint`] reads each source that is named, and prints what is found in it: its errors, as far as reading on after each finds them, the
-//! templates that are not there, and warnings, in order of place. It starts nothing and writes no file.
+//! [`run_lint`] reads each source that is named, and prints what is found in it: its errors, as far
+//! as reading on after each finds them, the templates that are not there, and warnings, in order of
+//! place. It starts nothing and writes no file.
 //!
 //! ```text
 //! run_lint(alloc, files, &[b"--json", b"configure.ac"], false, input, output, errors)   // 1 if there are errors
@@ -9,11 +10,11 @@
 //!
 //! "own" marks a rule that no manual gives.
 //!
-//! Read `command`, then `reading`, which reads a source, `errors`, which finds, and `showing`.
+//! Read `command`, then `reading`, which reads a source, `findings`, which finds, and `showing`.
 #![tactic(auto)]
 
 mod command;
-mod errors;
+mod findings;
 mod reading;
 mod sheets;
 mod showing;

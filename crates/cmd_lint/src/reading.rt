@@ -74,7 +74,9 @@ fn read_stream<R: Read>(alloc: Global, input: &mut R) -> Result<Option<Linted>, 
 
 /// Returns the source at a path, or `None` if it can't be read.
 fn read_at<D: Disk>(alloc: Global, disk: &D, path: &[u8]) -> Result<Option<Linted>, AllocError>
-    ensures { IfOk result (λ o. MatchOption o (ReadsWhole (D.known disk.now) path.now None) (λ l. specs.IsAt (D.known disk.now) path.now l.text l.directory)) }
+    ensures { IfOk result (λ o.
+        MatchOption o (ReadsWhole (D.known disk.now) path.now None)
+        (λ l. specs.IsAt (D.known disk.now) path.now l.text l.directory)) }
 {
     match read_text(alloc, disk, path)? {
         Some(text) => Ok(Some(source_at(alloc, path, text)?)),
@@ -88,7 +90,10 @@ fn read_within<D: Disk>(
     disk: &D,
     directory: &[u8],
 ) -> Result<Option<Linted>, AllocError>
-    ensures { IfOk result (λ o. IfSome o (λ l. specs.IsAt (D.known disk.now) (path_of directory.now (codes "configure.ac")) l.text l.directory)) }
+    ensures { IfOk result (λ o.
+        IfSome o (λ l.
+        specs.IsAt (D.known disk.now) (path_of directory.now (codes "configure.ac")) l.text
+        l.directory)) }
 {
     let path = path_in(alloc, directory, SOURCE)?;
     read_at(alloc, disk, path.as_slice())
@@ -96,7 +101,8 @@ fn read_within<D: Disk>(
 
 /// Returns the source at a path, or in the directory at that path, or `None` if it can't be read.
 fn read_path<D: Disk>(alloc: Global, disk: &D, word: &[u8]) -> Result<Option<Linted>, AllocError>
-    ensures { IfOk result (λ o. IfSome o (λ l. specs.IsNamed (D.known disk.now) false word.now l.text l.directory)) }
+    ensures { IfOk result (λ o.
+        IfSome o (λ l. specs.IsNamed (D.known disk.now) false word.now l.text l.directory)) }
 {
     if let Some(found) = read_at(alloc, disk, word)? {
         return Ok(Some(found));
@@ -104,8 +110,8 @@ fn read_path<D: Disk>(alloc: Global, disk: &D, word: &[u8]) -> Result<Option<Lin
     read_within(alloc, disk, word)
 }
 
-/// Returns the source that a word names, or `None` if it can't be read. The word is the path of a source or of a directory with a
-/// `configure.ac`, or `-` for standard input if that may be read.
+/// Returns the source that a word names, or `None` if it can't be read. The word is the path of a
+/// source or of a directory with a `configure.ac`, or `-` for standard input if that may be read.
 pub fn read_named<D: Disk, R: Read>(
     alloc: Global,
     disk: &D,
@@ -115,7 +121,10 @@ pub fn read_named<D: Disk, R: Read>(
 ) -> Result<Option<Linted>, AllocError>
     ensures input { reads ≡ false → input.new ≡ input.old }
     // Its text is that of the file, and its directory that of the path.
-    ensures named { IfOk result (λ o. IfSome o (λ l. specs.IsNamed (D.known disk.now) (reads && calls.is_input word.now) word.now l.text l.directory)) }
+    ensures named { IfOk result (λ o.
+        IfSome o (λ l.
+        specs.IsNamed (D.known disk.now) (reads && calls.is_input word.now) word.now l.text
+        l.directory)) }
 {
     if reads && is_input(word) {
         return read_stream(alloc, input);

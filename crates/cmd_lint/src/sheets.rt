@@ -13,7 +13,8 @@ pub(crate) struct Sheet {
     pub(crate) text: Bytes,
 }
 
-/// The templates that are there. Findings count them from 1: those of files, each once, and then those of headers.
+/// The templates that are there. Findings count them from 1: those of files, each once, and then
+/// those of headers.
 #[derive(Drop)]
 pub(crate) struct Sheets {
     read: Vec<Sheet>,
@@ -57,7 +58,8 @@ impl Sheets {
     }
 }
 
-/// Appends the place of the template of an output among those that were read, unless it isn't there, or was appended before.
+/// Appends the place of the template of an output among those that were read, unless it isn't
+/// there, or was appended before.
 fn add_place(
     templates: &[(Bytes, Bytes)],
     output: &Output,

@@ -1,6 +1,6 @@
 //! Prints what was found.
 
-use crate::errors::Found;
+use crate::findings::Found;
 use crate::reading::Linted;
 use crate::sheets::Sheets;
 use deftable::Bytes;

@@ -25,8 +25,8 @@ fn is_border(byte: u8) -> bool {
     )
 }
 
-/// Returns the offset of the name of an output: where it is the first time after a macro that names outputs. If it is nowhere, returns
-/// the offset of the end.
+/// Returns the offset of the name of an output: where it is the first time after a macro that names
+/// outputs. If it is nowhere, returns the offset of the end.
 fn place_of(text: &[u8], name: &[u8]) -> usize {
     let mut is_after_macro = false;
     let mut at: usize = 0;
@@ -40,7 +40,8 @@ fn place_of(text: &[u8], name: &[u8]) -> usize {
     text.len()
 }
 
-/// Returns that the template of the output with this name is not at a path. The text is that of the source.
+/// Returns that the template of the output with this name is not at a path. The text is that of the
+/// source.
 fn missing(alloc: Global, text: &[u8], name: &[u8], path: &[u8]) -> Result<Finding, AllocError> {
     let mut page = Page::new(alloc);
     page.put(keys::TEMPLATE, &[WordPart::AsItIs(path)]);
@@ -87,7 +88,8 @@ fn add_if_lost(
     output: &Output,
     found: &mut Vec<Finding>,
 ) -> Result<(), AllocError>
-    ensures { OnOk result (specs.AreAdded (specs.is_lost templates.now output.now) found.old.items found.new.items) }
+    ensures { OnOk result (
+        specs.AreAdded (specs.is_lost templates.now output.now) found.old.items found.new.items) }
 {
     if was_read(templates, output.template.as_slice()) {
         return Ok(());
@@ -103,7 +105,9 @@ fn add_lost(
     outputs: &[Output],
     found: &mut Vec<Finding>,
 ) -> Result<(), AllocError>
-    ensures { OnOk result (specs.AreAdded (list_any (specs.is_lost templates.now) outputs.now) found.old.items found.new.items) }
+    ensures { OnOk result (
+        specs.AreAdded (list_any (specs.is_lost templates.now) outputs.now) found.old.items
+        found.new.items) }
 {
     'outputs: for output in outputs {
         add_if_lost(alloc, linted, templates, output, found)?;
@@ -121,13 +125,16 @@ fn add_all_lost(
     headers: &[Output],
     found: &mut Vec<Finding>,
 ) -> Result<(), AllocError>
-    ensures { OnOk result (specs.AreAdded (list_any (specs.is_lost templates.now) (files.now ++ headers.now)) found.old.items found.new.items) }
+    ensures { OnOk result (
+        specs.AreAdded (list_any (specs.is_lost templates.now) (files.now ++ headers.now))
+        found.old.items found.new.items) }
 {
     add_lost(alloc, linted, templates, files, found)?;
     add_lost(alloc, linted, templates, headers, found)
 }
 
-/// Reads the templates of a source, each once, and appends an error for each output whose template can't be read.
+/// Reads the templates of a source, each once, and appends an error for each output whose template
+/// can't be read.
 #[tactic(auto, using(crate::proofs::Lost::checked))]
 pub(crate) fn read_all<D: Disk>(
     alloc: Global,
@@ -136,7 +143,9 @@ pub(crate) fn read_all<D: Disk>(
     source: &Source,
     found: &mut Vec<Finding>,
 ) -> Result<Vec<(Bytes, Bytes)>, AllocError>
-    ensures { IfOk result (λ _. specs.AreChecked (D.known disk.now) linted.now.directory (outputs_of (script_of source.now)) found.old.items found.new.items) }
+    ensures { IfOk result (λ _.
+        specs.AreChecked (D.known disk.now) linted.now.directory (outputs_of (script_of source.now))
+        found.old.items found.new.items) }
 {
     let files = source.files().as_slice();
     let headers = source.headers().as_slice();

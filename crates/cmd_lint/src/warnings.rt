@@ -48,7 +48,8 @@ fn add_listed_in(list: &mut SubstList, sheets: &Sheets, number: usize) -> Result
     }
 }
 
-/// Appends the warnings about definitions that no template of a header has, if there is such a template.
+/// Appends the warnings about definitions that no template of a header has, if there is such a
+/// template.
 fn add_unlisted(
     alloc: Global,
     given: &Given,

@@ -52,7 +52,8 @@ fn status_of(ported: &Ported) -> u8
     if ported.has_comments { 1 } else { 0 }
 }
 
-/// Writes a text, and returns the exit status: that which is given, unless the text can't be written.
+/// Writes a text, and returns the exit status: that which is given, unless the text can't be
+/// written.
 fn put_text<W: Write, E: Write>(text: &[u8], status: u8, output: &mut W, errors: &mut E) -> u8
     requires { status ≤ 1 }
     ensures bound { result ≤ 2 }
@@ -72,7 +73,8 @@ fn put_ported<W: Write, E: Write>(ported: &Ported, output: &mut W, errors: &mut 
     ensures bound { result ≤ 2 }
     ensures status { result ≢ 2 → result ≡ specs.status_of ported.now.has_comments }
     ensures silent { result ≢ 2 → errors.new ≡ errors.old }
-    ensures put { result ≢ 2 → Appends (W.contents output.old) (W.contents output.new) ported.now.text }
+    ensures put { result ≢ 2
+        → Appends (W.contents output.old) (W.contents output.new) ported.now.text }
 {
     put_text(ported.text.as_slice(), status_of(ported), output, errors)
 }
@@ -88,7 +90,9 @@ fn port_source<W: Write, E: Write>(
 ) -> u8
     ensures bound { result ≤ 2 }
     ensures silent { result ≢ 2 → errors.new ≡ errors.old }
-    ensures ported { result ≢ 2 → (out : List ℕ) × specs.IsPrinted idioms linted.now.text out result × Appends (W.contents output.old) (W.contents output.new) out }
+    ensures ported { result ≢ 2
+        → (out : List ℕ) × specs.IsPrinted idioms linted.now.text out result
+        × Appends (W.contents output.old) (W.contents output.new) out }
 {
     match port(alloc, idioms, linted.text.as_slice()) {
         Ok(Some(ported)) => put_ported(&ported, output, errors),
@@ -112,8 +116,11 @@ fn port_named<D: Disk, R: Read, W: Write, E: Write>(
     ensures input { reads ≡ false → input.new ≡ input.old }
     ensures bound { result ≤ 2 }
     ensures silent { result ≢ 2 → errors.new ≡ errors.old }
-    ensures ported { result ≢ 2 → (out : List ℕ) × ((text : List ℕ) × (directory : List ℕ)
-        × IsNamed (D.known disk.now) (reads && calls.is_input name.now) name.now text directory × specs.IsPrinted idioms text out result)
+    ensures ported { result ≢ 2
+        → (out : List ℕ)
+        × ((text : List ℕ) × (directory : List ℕ)
+        × IsNamed (D.known disk.now) (reads && calls.is_input name.now) name.now text
+        directory × specs.IsPrinted idioms text out result)
         × Appends (W.contents output.old) (W.contents output.new) out }
 {
     match read_named(alloc, disk, reads, input, name) {
@@ -125,12 +132,13 @@ fn port_named<D: Disk, R: Read, W: Write, E: Write>(
 
 /// Prints the source that the words name, with its calls rewritten, and returns the exit status.
 ///
-/// The words are `--idioms` or not, and at most one name: `-` for standard input, or the path of a source or of a directory with a
-/// `configure.ac`. Without a name, `configure.ac` is read. Without `--idioms`, exact idioms alone are written. Nothing is run, and no
-/// file is written.
+/// The words are `--idioms` or not, and at most one name: `-` for standard input, or the path of a
+/// source or of a directory with a `configure.ac`. Without a name, `configure.ac` is read. Without
+/// `--idioms`, exact idioms alone are written. Nothing is run, and no file is written.
 ///
-/// The status is 0 if nothing is left to do; 1 if the text has comments about what is left; and 2 if the source can't be read, if its
-/// quotes have an error, if the text can't be written, or if the words are wrong. Then standard error says so (own).
+/// The status is 0 if nothing is left to do; 1 if the text has comments about what is left; and 2
+/// if the source can't be read, if its quotes have an error, if the text can't be written, or if
+/// the words are wrong. Then standard error says so (own).
 #[tactic(auto, using(crate::proofs::Written::by_words, crate::proofs::Written::not_wrong))]
 pub fn run_port<D: Disk, R: Read, W: Write, E: Write>(
     alloc: Global,
@@ -148,9 +156,12 @@ pub fn run_port<D: Disk, R: Read, W: Write, E: Write>(
     ensures silent { result ≢ 2 → errors.new ≡ errors.old }
     // It is 2 if the words are wrong.
     ensures usage { wanted.request_of words.now ≡ None → result ≡ 2 }
-    // Unless it is 2, the source that the words name is written as it was rewritten. It is 1 if that has comments about what is left,
-    // and 0 otherwise.
-    ensures ported { result ≢ 2 → (out : List ℕ) × specs.IsAnswer (D.known disk.now) (wanted.request_of words.now) out result × Appends (W.contents output.old) (W.contents output.new) out }
+    // Unless it is 2, the source that the words name is written as it was rewritten. It is 1 if
+    // that has comments about what is left, and 0 otherwise.
+    ensures ported { result ≢ 2
+        → (out : List ℕ)
+        × specs.IsAnswer (D.known disk.now) (wanted.request_of words.now) out result
+        × Appends (W.contents output.old) (W.contents output.new) out }
 {
     let reads = has_input(words);
     match request_of(words) {

@@ -93,7 +93,8 @@ fn put_line(out: &mut Vec<u8>, line: &[u8]) -> Result<(), AllocError>
 
 /// Appends lines of comment.
 fn put_lines(out: &mut Vec<u8>, lines: &[&[u8]]) -> Result<(), AllocError>
-    ensures { OnOk result (out.new.items ≡ out.old.items ++ flat_map specs.comment_line (map (λ l. l.now) lines.now)) }
+    ensures { OnOk result (
+        out.new.items ≡ out.old.items ++ flat_map specs.comment_line (map (λ l. l.now) lines.now)) }
 {
     for i in 0..lines.len() {
         put_line(out, lines[i])?;
@@ -178,8 +179,9 @@ fn push_note(
     Ok(())
 }
 
-/// Returns what is said of errors, in order of the lines that it is said above, but for what is there. After the first error of text
-/// nothing is said of words that go on with a construct or end it: what is said above its start is about them too.
+/// Returns what is said of errors, in order of the lines that it is said above, but for what is
+/// there. After the first error of text nothing is said of words that go on with a construct or end
+/// it: what is said above its start is about them too.
 fn notes_of(
     alloc: Global,
     text: &[u8],
@@ -218,7 +220,9 @@ struct Copy {
 /// Copies what is before an offset.
 fn copy_to(text: &[u8], at: usize, copy: &mut Copy) -> Result<(), AllocError>
     requires { (copy.old.at ≤ at) × (at ≤ length text.now) }
-    ensures { OnOk result ((copy.new.at ≡ at) × (copy.new.out.items ≡ copy.old.out.items ++ slice_range text.now copy.old.at at)) }
+    ensures { OnOk result (
+        (copy.new.at ≡ at)
+        × (copy.new.out.items ≡ copy.old.out.items ++ slice_range text.now copy.old.at at)) }
 {
     copy.out.extend_from_slice(&text[copy.at..at])?;
     copy.at = at;
@@ -333,10 +337,12 @@ fn with_front(alloc: Global, text: &[u8]) -> Result<Vec<u8>, AllocError>
     Ok(out)
 }
 
-/// Returns the text if a line of it is a comment about what is left, and otherwise the text with one before it.
+/// Returns the text if a line of it is a comment about what is left, and otherwise the text with
+/// one before it.
 #[tactic(auto, using(crate::proofs::Left::front_kept, crate::proofs::Left::front_left, crate::proofs::Left::lent_left, crate::proofs::Left::stays))]
 fn with_left(alloc: Global, text: Vec<u8>) -> Result<Vec<u8>, AllocError>
-    ensures kept { IfOk result (λ v. (v.items ≡ text.items) ⊎ (v.items ≡ specs.comment specs.unsaid ++ text.items)) }
+    ensures kept { IfOk result (λ v.
+        (v.items ≡ text.items) ⊎ (v.items ≡ specs.comment specs.unsaid ++ text.items)) }
     ensures left { IfOk result (λ v. specs.HasLeft v.items) }
 {
     if has_left(text.as_slice()) {
@@ -355,7 +361,8 @@ fn commented_at(alloc: Global, text: &[u8], errors: &[Finding]) -> Result<Vec<u8
     with_notes(alloc, text, notes.as_slice())
 }
 
-/// Returns the text with a comment at each error, and so with one at least. The errors are in order of their places.
+/// Returns the text with a comment at each error, and so with one at least. The errors are in order
+/// of their places.
 pub(crate) fn commented(
     alloc: Global,
     text: &[u8],

@@ -1,11 +1,11 @@
-//! The command `port`: prints a configure.ac with the idioms of the table of other macros, and with a
-//! comment at what has to be done by hand. It starts nothing and writes no file.
+//! The command `port`: prints a configure.ac with the idioms of the table of other macros, and with
+//! a comment at what has to be done by hand. It starts nothing and writes no file.
 //!
-//! [`port`] replaces each call that has an exact idiom: one that leaves the same definitions and output
-//! variables. With `--idioms` it also replaces calls by idioms that differ, each below a line
-//! `dnl acrun: in place of ..` that says in what. It also replaces statements of a shell that mean the same
-//! as a call, such as `if`. All else is copied to the byte. What is still an error has a line `dnl acrun: ..`
-//! above it, in the words of `lint`.
+//! [`port`] replaces each call that has an exact idiom: one that leaves the same definitions and
+//! output variables. With `--idioms` it also replaces calls by idioms that differ, each below a
+//! line `dnl acrun: in place of ..` that says in what. It also replaces statements of a shell that
+//! mean the same as a call, such as `if`. All else is copied to the byte. What is still an error
+//! has a line `dnl acrun: ..` above it, in the words of `lint`.
 //!
 //! ```text
 //! AC_HAVE_FUNCS(getcwd)        // becomes AC_CHECK_FUNCS([getcwd])
@@ -16,10 +16,10 @@
 //!
 //! A call fails only if memory runs out. "own" marks a rule that no manual gives.
 //!
-//! Read `specs/Ported`, which says what is copied. `port_calls` replaces the calls, `port_shell` the
-//! statements, and `lint_all` finds each statement with an error. In `src`, read `lines` (above which line a
-//! comment can be), `comments`, `moving`, and then `whole`. For the command, read `specs/Asked` (what the words
-//! ask for) and `specs/Printed`, and then `asking` and `command`.
+//! Read `specs/Ported`, which says what is copied. `port_calls` replaces the calls, `port_shell`
+//! the statements, and `lint_all` finds each statement with an error. In `src`, read `lines` (above
+//! which line a comment can be), `comments`, `moving`, and then `whole`. For the command, read
+//! `specs/Asked` (what the words ask for) and `specs/Printed`, and then `asking` and `command`.
 #![tactic(auto)]
 
 mod asking;

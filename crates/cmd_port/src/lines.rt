@@ -20,11 +20,13 @@ pub(crate) struct Line {
     pub below: usize,
     /// The offset of the innermost call that is open at its start, if one is.
     call: Option<usize>,
-    /// The offset after the argument of that call which is open too, if that argument begins with a bracket, or 0.
+    /// The offset after the argument of that call which is open too, if that argument begins with a
+    /// bracket, or 0.
     arg_end: usize,
     /// The offset of the bracket that is open within that argument, or between calls, if one is.
     bracket: Option<usize>,
-    /// The offset of the quote of the shell that is open there and that is closed before the next call, if one is.
+    /// The offset of the quote of the shell that is open there and that is closed before the next
+    /// call, if one is.
     quote: Option<usize>,
 }
 
@@ -89,7 +91,8 @@ struct Open {
     arg: usize,
 }
 
-/// The calls that are open at a place, outermost first, the index of the next call, and the lines so far.
+/// The calls that are open at a place, outermost first, the index of the next call, and the lines
+/// so far.
 #[derive(Drop)]
 struct Walk {
     open: Vec<Open>,
@@ -130,7 +133,8 @@ fn close_calls(calls: &[CallAt], at: usize, walk: &mut Walk) {
     }
 }
 
-/// Returns whether an argument begins with a bracket. Without one, a line of comment would be a part of it.
+/// Returns whether an argument begins with a bracket. Without one, a line of comment would be a
+/// part of it.
 fn is_quoted(text: &[u8], arg: &Extent) -> bool {
     text.get(arg.start) == Some(&b'[')
 }
@@ -140,7 +144,8 @@ fn inner_start(text: &[u8], arg: &Extent) -> usize {
     arg.start.saturating_add(usize::from(is_quoted(text, arg)))
 }
 
-/// Goes on to the next argument of the innermost call, if one ends before an offset. Returns whether what is in it begins there.
+/// Goes on to the next argument of the innermost call, if one ends before an offset. Returns
+/// whether what is in it begins there.
 fn is_at_argument(text: &[u8], calls: &[CallAt], at: usize, open: &mut [Open]) -> bool {
     let Some(last) = open.last_mut() else {
         return false;
@@ -245,7 +250,8 @@ fn plain_lines(alloc: Global, text: &[u8], calls: &[CallAt]) -> Result<Vec<Line>
     Ok(lines)
 }
 
-/// Returns the offset of the first line after this one that is no comment of ours, or of this one if it is the last.
+/// Returns the offset of the first line after this one that is no comment of ours, or of this one
+/// if it is the last.
 fn below_next(lines: &[Line], index: usize) -> usize {
     match lines.get(index.saturating_add(1)) {
         Some(line) => line.below,
@@ -293,8 +299,9 @@ fn further_up(line: &Line, place: usize) -> Option<usize> {
     }
 }
 
-/// Returns the start of the line above which a comment about the place can be: the line of the place, or an earlier one if that one
-/// is within an argument or quotes. Lines of comment that are there stay above it.
+/// Returns the start of the line above which a comment about the place can be: the line of the
+/// place, or an earlier one if that one is within an argument or quotes. Lines of comment that are
+/// there stay above it.
 pub(crate) fn comment_line(lines: &[Line], place: usize) -> usize {
     let mut place = place;
     for _ in 0..TRIES {

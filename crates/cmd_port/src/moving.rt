@@ -1,4 +1,5 @@
-//! Calls and statements of a shell are rewritten by turns, until nothing is left that can be rewritten.
+//! Calls and statements of a shell are rewritten by turns, until nothing is left that can be
+//! rewritten.
 
 ghost use Rattle.std.specs.Prelude.{IfOk, IfSome};
 ghost use Rattle.cmd_port.specs.Ported as specs;
@@ -7,10 +8,12 @@ use port_calls::{Idioms, replaced};
 use port_shell::formed;
 use std::alloc::{AllocError, Global};
 
-/// How often there is a turn at most. A call may be rewritten once it is in a call that a statement became.
+/// How often there is a turn at most. A call may be rewritten once it is in a call that a statement
+/// became.
 const TURNS: usize = 70;
 
-/// Returns the text with its calls rewritten, and then its statements of a shell, or `None` if nothing can be rewritten.
+/// Returns the text with its calls rewritten, and then its statements of a shell, or `None` if
+/// nothing can be rewritten.
 fn turned(alloc: Global, idioms: Idioms, text: &[u8]) -> Result<Option<Vec<u8>>, AllocError>
     ensures { IfOk result (λ o. IfSome o (λ v. specs.IsTurn idioms text.now v.items)) }
 {

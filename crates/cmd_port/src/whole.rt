@@ -19,8 +19,8 @@ use std::alloc::{AllocError, Global};
 pub struct Ported {
     /// The new text.
     pub text: Bytes,
-    /// Whether something has to be done by hand: a line of comment is at each such place. A comment that says in what an idiom differs is
-    /// none of these.
+    /// Whether something has to be done by hand: a line of comment is at each such place. A comment
+    /// that says in what an idiom differs is none of these.
     pub has_comments: bool,
 }
 
@@ -61,7 +61,8 @@ fn printed(alloc: Global, text: Vec<u8>) -> Result<Ported, AllocError>
 
 /// Returns the source as it is rewritten.
 fn rewritten(alloc: Global, idioms: Idioms, text: &[u8]) -> Result<Option<Ported>, AllocError>
-    ensures { IfOk result (λ o. IfSome o (λ p. specs.IsPorted idioms text.now p.has_comments p.text)) }
+    ensures { IfOk result (λ o.
+        IfSome o (λ p. specs.IsPorted idioms text.now p.has_comments p.text)) }
 {
     let mid = moved(alloc, idioms, text)?;
     let ported = printed(alloc, mid)?;
@@ -87,16 +88,19 @@ fn is_accepted(alloc: Global, text: &[u8]) -> Result<bool, AllocError>
 
 /// Returns the source as it is.
 fn unchanged(alloc: Global, text: &[u8]) -> Result<Option<Ported>, AllocError>
-    ensures { IfOk result (λ o. MatchOption o ⊥ (λ p. (p.text ≡ text.now) × (p.has_comments ≡ false))) }
+    ensures { IfOk result (λ o.
+        MatchOption o ⊥ (λ p. (p.text ≡ text.now) × (p.has_comments ≡ false))) }
 {
     let text = Vec::from_slice(alloc, text)?;
     let ported = whole(text);
     Ok(Some(ported))
 }
 
-/// Returns a source that acrun doesn't accept as it is rewritten, or `None` if its quotes have an error.
+/// Returns a source that acrun doesn't accept as it is rewritten, or `None` if its quotes have an
+/// error.
 fn port_refused(alloc: Global, idioms: Idioms, text: &[u8]) -> Result<Option<Ported>, AllocError>
-    ensures { IfOk result (λ o. IfSome o (λ p. specs.IsPorted idioms text.now p.has_comments p.text)) }
+    ensures { IfOk result (λ o.
+        IfSome o (λ p. specs.IsPorted idioms text.now p.has_comments p.text)) }
 {
     if are_quotes_right(alloc, text)? {
         return rewritten(alloc, idioms, text);
@@ -104,15 +108,19 @@ fn port_refused(alloc: Global, idioms: Idioms, text: &[u8]) -> Result<Option<Por
     Ok(None)
 }
 
-/// Returns a source in which each call that has an idiom that is wanted is replaced by it, and each statement of a shell by the call that means
-/// the same. An idiom that differs from its macro has a comment above it that says in what. What is still an error has a comment above
-/// it too. Returns `None` if the source's quotes have an error, because then no call is found.
+/// Returns a source in which each call that has an idiom that is wanted is replaced by it, and each
+/// statement of a shell by the call that means the same. An idiom that differs from its macro has a
+/// comment above it that says in what. What is still an error has a comment above it too. Returns
+/// `None` if the source's quotes have an error, because then no call is found.
 pub fn port(alloc: Global, idioms: Idioms, text: &[u8]) -> Result<Option<Ported>, AllocError>
-    // Calls that have to go may be replaced, an `if` by AS_IF with its parts, and a `case` by AS_CASE. All else is copied. There are
-    // comments about what is left exactly if what is left is not accepted; they are lines before lines of the text.
-    ensures ported { IfOk result (λ o. IfSome o (λ p. specs.IsPorted idioms text.now p.has_comments p.text)) }
+    // Calls that have to go may be replaced, an `if` by AS_IF with its parts, and a `case` by
+    // AS_CASE. All else is copied. There are comments about what is left exactly if what is left is
+    // not accepted; they are lines before lines of the text.
+    ensures ported { IfOk result (λ o.
+        IfSome o (λ p. specs.IsPorted idioms text.now p.has_comments p.text)) }
     // A source that acrun accepts stays as it is.
-    ensures stays { IsAccepted text.now → IfOk result (λ o. MatchOption o ⊥ (λ p. (p.text ≡ text.now) × (p.has_comments ≡ false))) }
+    ensures stays { IsAccepted text.now
+        → IfOk result (λ o. MatchOption o ⊥ (λ p. (p.text ≡ text.now) × (p.has_comments ≡ false))) }
 {
     if is_accepted(alloc, text)? {
         return unchanged(alloc, text);

@@ -1,9 +1,10 @@
-//! The stand-in for a compiler, which needs no compiler: it looks for lines in the text of the conftest (own).
+//! The stand-in for a compiler, which needs no compiler: it looks for lines in the text of the
+//! conftest (own).
 //!
-//! It takes the place of `CC` in tests of configure runs. Its list is the file `standin.txt` in the current directory.
-//! If a line of the list occurs in a conftest, the conftest is refused; every other one is accepted. A list with
-//! `!meet` as its first line tests that children run at the same time: each makes a file, and one of them waits for the
-//! file of another.
+//! It takes the place of `CC` in tests of configure runs. Its list is the file `standin.txt` in the
+//! current directory. If a line of the list occurs in a conftest, the conftest is refused; every
+//! other one is accepted. A list with `!meet` as its first line tests that children run at the same
+//! time: each makes a file, and one of them waits for the file of another.
 
 ghost use Rattle.std.specs.Prelude.{◌≡◌, ◌↔◌, ◌⊎◌, ℕ, List, [], ◌∷◌, ◌++◌, Some, IsTrue, IfOk, OnOk, IfSome, IfNone};
 ghost use Rattle.std.specs.Option.{option_copied};
@@ -39,13 +40,15 @@ const MOST_LOOKS: u32 = 200_000;
 
 /// Returns the exit status of a compiler with this command line.
 ///
-/// The conftest is the last word that ends with `.c`. If a line of the list that isn't empty occurs in the conftest,
-/// the status is 1, and the first such line is written to `errors`; else it is 0. If the first line of the list is
-/// `!meet`, a file is made with the conftest's name and `.seen` after it. Then the status is 0, except that it is 1 for
-/// `conftest1.c` if `conftest2.c.seen` isn't found within 200,000 looks (own).
+/// The conftest is the last word that ends with `.c`. If a line of the list that isn't empty occurs
+/// in the conftest, the status is 1, and the first such line is written to `errors`; else it is 0.
+/// If the first line of the list is `!meet`, a file is made with the conftest's name and `.seen`
+/// after it. Then the status is 0, except that it is 1 for `conftest1.c` if `conftest2.c.seen`
+/// isn't found within 200,000 looks (own).
 ///
-/// A file that can't be read counts as empty. So does what isn't a regular file, and what has more than 64 MiB counts as its first
-/// 64 MiB and one byte more. The time is that of one search of the conftest for each line of the list.
+/// A file that can't be read counts as empty. So does what isn't a regular file, and what has more
+/// than 64 MiB counts as its first 64 MiB and one byte more. The time is that of one search of the
+/// conftest for each line of the list.
 ///
 /// # Errors
 ///
@@ -57,7 +60,8 @@ pub fn standin<F: Files, D: Disk, E: Write>(
     words: &[Bytes],
     errors: &mut E,
 ) -> Result<u8, AllocError>
-    // The status is the answer for the texts of the list and the conftest, which are those of the disk.
+    // The status is the answer for the texts of the list and the conftest, which are those of the
+    // disk.
     ensures answer { IfOk result (IsAnswered (D.known disk.now) words.now) }
     // If it accepts the conftest, it writes nothing.
     ensures silent { IfOk result (λ status. status ≡ 0 → errors.new ≡ errors.old) }
@@ -108,7 +112,8 @@ fn first_barred<'a>(
     list: &'a [u8],
     conftest: &[u8],
 ) -> Result<Option<&'a [u8]>, AllocError>
-    ensures found { IfOk result (λ o. IfSome o (λ line. IsFirstBarred list.now conftest.now line.now)) }
+    ensures found { IfOk result (λ o.
+        IfSome o (λ line. IsFirstBarred list.now conftest.now line.now)) }
     ensures accepted { IfOk result (λ o. IfNone o (HasNoBarred list.now conftest.now)) }
 {
     let lines = parts(alloc, list, b'\n')?;
@@ -120,14 +125,16 @@ fn first_barred<'a>(
     Ok(None)
 }
 
-/// Returns the answer for a conftest: 1 if a line of the list occurs in it, which is reported, and else 0.
+/// Returns the answer for a conftest: 1 if a line of the list occurs in it, which is reported, and
+/// else 0.
 fn judge<E: Write>(
     alloc: Global,
     list: &[u8],
     conftest: &[u8],
     errors: &mut E,
 ) -> Result<u8, AllocError>
-    ensures barred { IfOk result (λ status. status ≡ 1 → (line : List ℕ) × IsFirstBarred list.now conftest.now line) }
+    ensures barred { IfOk result (λ status.
+        status ≡ 1 → (line : List ℕ) × IsFirstBarred list.now conftest.now line) }
     ensures passed { IfOk result (λ status. status ≡ 0 → HasNoBarred list.now conftest.now) }
     ensures silent { IfOk result (λ status. status ≡ 0 → errors.new ≡ errors.old) }
     ensures status { IfOk result (λ status. (status ≡ 0) ⊎ (status ≡ 1)) }
@@ -143,13 +150,15 @@ fn judge<E: Write>(
 
 /// Writes a line.
 fn tell_line<E: Write>(errors: &mut E, line: &[u8]) -> std::io::Result<()>
-    ensures { OnOk result (Appends (E.contents errors.old) (E.contents errors.new) (line.now ++ 10 ∷ [])) }
+    ensures { OnOk result (
+        Appends (E.contents errors.old) (E.contents errors.new) (line.now ++ 10 ∷ [])) }
 {
     errors.write_all(line)?;
     errors.write_all(b"\n")
 }
 
-/// Makes the file that shows that the conftest was seen. The conftest that waits then looks for the file of the other.
+/// Makes the file that shows that the conftest was seen. The conftest that waits then looks for the
+/// file of the other.
 fn meet<F: Files>(alloc: Global, files: &F, name: Option<&Bytes>) -> Result<u8, AllocError>
     ensures status { IfOk result (λ status. (status ≡ 0) ⊎ (status ≡ 1)) }
     ensures waited { IfOk result (λ status. status ≡ 1 → option_copied name.entry ≡ Some waiting) }

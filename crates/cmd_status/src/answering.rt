@@ -11,7 +11,8 @@ use std::alloc::Global;
 use std::io::Write;
 use std::rt::Files;
 
-/// Answers as the stand-in for a compiler with this command line, and returns the exit status (own).
+/// Answers as the stand-in for a compiler with this command line, and returns the exit status
+/// (own).
 pub fn run_standin<F: Files, D: Disk, E: Write>(
     alloc: Global,
     files: &F,

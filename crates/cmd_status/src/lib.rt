@@ -1,24 +1,25 @@
 //! The commands that start no child, and what the command that does leaves for its user.
 //!
-//! [`run_status`] makes the outputs of a record again, and [`run_standin`] answers in place of a compiler.
-//! [`tell_result`] prints and logs the result of a whole run, and [`tell_shown`] prints a text that is shown. The crate `cmd_configure` makes that run, with given
-//! arguments or with those of a record. So this crate needs `engine_frame`, and no crate that runs a plan.
+//! [`run_status`] makes the outputs of a record again, and [`run_standin`] answers in place of a
+//! compiler. [`tell_result`] prints and logs the result of a whole run, and [`tell_shown`] prints a
+//! text that is shown. The crate `cmd_configure` makes that run, with given arguments or with those
+//! of a record. So this crate needs `engine_frame`, and no crate that runs a plan.
 //!
-//! For example, `acrun status Makefile` is [`run_status`] with the tag `Makefile`: it reads `config.status`, prints
-//! `config.status: creating Makefile` and returns 0.
+//! For example, `acrun status Makefile` is [`run_status`] with the tag `Makefile`: it reads
+//! `config.status`, prints `config.status: creating Makefile` and returns 0.
 //!
 //! "own" marks a rule that no manual gives.
 //!
-//! In `specs`, read `Printed` (what a run prints), `Left` (what it leaves in files) and `MadeAgain`. In `src`, read
-//! `reporting` and `remaking`; `answering` and `errors` are small.
+//! In `specs`, read `Printed` (what a run prints), `Left` (what it leaves in files) and
+//! `MadeAgain`. In `src`, read `reporting` and `remaking`; `answering` and `fault_lines` are small.
 #![tactic(auto)]
 
 mod answering;
-mod errors;
+mod fault_lines;
 mod remaking;
 mod reporting;
 
 pub use answering::run_standin;
-pub use errors::{tell_remake, tell_run, tell_unread};
+pub use fault_lines::{tell_remake, tell_run, tell_unread};
 pub use remaking::{RECORD, run_status};
 pub use reporting::{tell_result, tell_shown};

@@ -7,7 +7,7 @@ ghost use Rattle.file_texts.specs.Held.{GuardsMore, IsUnused, fresh};
 ghost use Rattle.cmd_call.specs.Guarded.{AreGuarded, inputs_of};
 ghost use Rattle.cmd_call.specs.Supplies.{AreTemplates, ReadsWhole};
 
-use crate::errors::{tell_remake, tell_unread, tell_written};
+use crate::fault_lines::{tell_remake, tell_unread, tell_written};
 use cmd_call::{FAULT, Terminal, keep_inputs, print_lines, record_templates, tell_memory};
 use cmd_explain::Why;
 use deftable::Bytes;
@@ -32,7 +32,8 @@ fn print_made<W: Write, E: Write>(
     output: &mut W,
     errors: &mut E,
 ) -> bool
-    ensures prints { IsTrue result → Appends (W.contents output.old) (W.contents output.new) lines.now }
+    ensures prints { IsTrue result
+        → Appends (W.contents output.old) (W.contents output.new) lines.now }
     ensures silent { IsTrue result → errors.new ≡ errors.old }
 {
     let done = print_lines(lines, false, output);
@@ -102,9 +103,12 @@ fn make_with<D: Disk, R: Read, W: Write, E: Write>(
 ) -> u8
     requires fresh { terminal.old.outputs ≡ fresh terminal.old.outputs.disk }
     requires found { IsRecordFound (D.known terminal.old.outputs.disk) recorded.now }
-    requires given { AreTemplates (D.known terminal.old.outputs.disk) recorded.now.srcdir (recorded.now.files ++ recorded.now.headers) templates.now }
-    ensures status { result ≢ 2 → (result ≡ 0) × (out : List ℕ)
-        × IsMadeAgain (D.known terminal.old.outputs.disk) (D.known terminal.new.outputs.disk) why.now.args.now out
+    requires given { AreTemplates (D.known terminal.old.outputs.disk) recorded.now.srcdir
+        (recorded.now.files ++ recorded.now.headers) templates.now }
+    ensures status { result ≢ 2
+        → (result ≡ 0) × (out : List ℕ)
+        × IsMadeAgain (D.known terminal.old.outputs.disk) (D.known terminal.new.outputs.disk)
+        why.now.args.now out
         × Appends (W.contents terminal.old.output) (W.contents terminal.new.output) out }
     ensures silent { result ≢ 2 → terminal.new.errors ≡ terminal.old.errors }
     ensures input { terminal.new.input ≡ terminal.old.input }
@@ -137,8 +141,10 @@ fn make_record<D: Disk, R: Read, W: Write, E: Write>(
 ) -> u8
     requires fresh { terminal.old.outputs ≡ fresh terminal.old.outputs.disk }
     requires found { IsRecordFound (D.known terminal.old.outputs.disk) recorded.now }
-    ensures status { result ≢ 2 → (result ≡ 0) × (out : List ℕ)
-        × IsMadeAgain (D.known terminal.old.outputs.disk) (D.known terminal.new.outputs.disk) tags.now out
+    ensures status { result ≢ 2
+        → (result ≡ 0) × (out : List ℕ)
+        × IsMadeAgain (D.known terminal.old.outputs.disk) (D.known terminal.new.outputs.disk)
+        tags.now out
         × Appends (W.contents terminal.old.output) (W.contents terminal.new.output) out }
     ensures silent { result ≢ 2 → terminal.new.errors ≡ terminal.old.errors }
     ensures input { terminal.new.input ≡ terminal.old.input }
@@ -159,9 +165,12 @@ fn make_text<D: Disk, R: Read, W: Write, E: Write>(
     tags: &[Bytes],
 ) -> u8
     requires fresh { terminal.old.outputs ≡ fresh terminal.old.outputs.disk }
-    requires found { ReadsWhole (D.known terminal.old.outputs.disk) (codes "config.status") (Some text.now) }
-    ensures status { result ≢ 2 → (result ≡ 0) × (out : List ℕ)
-        × IsMadeAgain (D.known terminal.old.outputs.disk) (D.known terminal.new.outputs.disk) tags.now out
+    requires found { ReadsWhole (D.known terminal.old.outputs.disk) (codes "config.status")
+        (Some text.now) }
+    ensures status { result ≢ 2
+        → (result ≡ 0) × (out : List ℕ)
+        × IsMadeAgain (D.known terminal.old.outputs.disk) (D.known terminal.new.outputs.disk)
+        tags.now out
         × Appends (W.contents terminal.old.output) (W.contents terminal.new.output) out }
     ensures silent { result ≢ 2 → terminal.new.errors ≡ terminal.old.errors }
     ensures input { terminal.new.input ≡ terminal.old.input }
@@ -185,18 +194,21 @@ fn make_text<D: Disk, R: Read, W: Write, E: Write>(
     }
 }
 
-/// Makes the outputs of the record in the current directory that have these names, or all if there are no names, and returns the
-/// exit status.
+/// Makes the outputs of the record in the current directory that have these names, or all if there
+/// are no names, and returns the exit status.
 ///
-/// If anything is wrong, the status is 2, and standard error has a line for it (own); outputs may have been made before that. If
-/// it is asked, further lines may say why. Nothing else is written there.
+/// If anything is wrong, the status is 2, and standard error has a line for it (own); outputs may
+/// have been made before that. If it is asked, further lines may say why. Nothing else is written
+/// there.
 pub fn run_status<D: Disk, R: Read, W: Write, E: Write>(
     terminal: &mut Terminal<'_, D, R, W, E>,
     tags: &[Bytes],
 ) -> u8
     requires fresh { terminal.old.outputs ≡ fresh terminal.old.outputs.disk }
-    ensures status { result ≢ 2 → (result ≡ 0) × (out : List ℕ)
-        × IsMadeAgain (D.known terminal.old.outputs.disk) (D.known terminal.new.outputs.disk) tags.now out
+    ensures status { result ≢ 2
+        → (result ≡ 0) × (out : List ℕ)
+        × IsMadeAgain (D.known terminal.old.outputs.disk) (D.known terminal.new.outputs.disk)
+        tags.now out
         × Appends (W.contents terminal.old.output) (W.contents terminal.new.output) out }
     ensures silent { result ≢ 2 → terminal.new.errors ≡ terminal.old.errors }
     ensures input { terminal.new.input ≡ terminal.old.input }

@@ -1,4 +1,5 @@
-//! What a run leaves for its user: its messages, the lines on its outputs, its log, and its exit status.
+//! What a run leaves for its user: its messages, the lines on its outputs, its log, and its exit
+//! status.
 
 ghost use Rattle.std.specs.Prelude.{◌≡◌, ◌≢◌, [], None, Ok, IsTrue, false};
 ghost use Rattle.std.specs.Io.KnownBytes.{Appends};
@@ -10,7 +11,7 @@ ghost use Rattle.engine_frame.specs.Told as words;
 ghost use Rattle.cmd_call.specs.Errors.{AreTold, errors_of};
 ghost use Rattle.cmd_call.specs.Logged.{HasLogged, IsHeld};
 
-use crate::errors::{tell_run, tell_written};
+use crate::fault_lines::{tell_run, tell_written};
 use crate::remaking::OUTPUT;
 use cmd_call::{FAULT, LOG, Terminal, print_all, tell_put, write_log};
 use cmd_explain::{Given, Why, explain_compilers, explain_cut, explain_words};
@@ -54,16 +55,20 @@ fn explain_short<C: Causes, E: Write>(
     }
 }
 
-/// Prints the messages of a run and the lines of its outputs, and says why it was cut, if it is asked. Returns whether standard output
-/// took them.
+/// Prints the messages of a run and the lines of its outputs, and says why it was cut, if it is
+/// asked. Returns whether standard output took them.
 fn print_report<D: Disk, C: Causes, R: Read, W: Write, E: Write>(
     terminal: &mut Terminal<'_, D, R, W, E>,
     settings: &Settings,
     report: &Report,
     crew: &C,
 ) -> bool
-    ensures run { IsTrue result → Appends (W.contents terminal.old.output) (W.contents terminal.new.output) (printed settings.now.quiet report.now.messages terminal.old.outputs.lines) }
-    ensures told { terminal.old.is_asked ≡ false → IsTrue result → AreTold (E.contents terminal.old.errors) (E.contents terminal.new.errors) (errors_of report.now.messages) }
+    ensures run { IsTrue result
+        → Appends (W.contents terminal.old.output) (W.contents terminal.new.output)
+        (printed settings.now.quiet report.now.messages terminal.old.outputs.lines) }
+    ensures told { terminal.old.is_asked ≡ false → IsTrue result
+        → AreTold (E.contents terminal.old.errors) (E.contents terminal.new.errors)
+        (errors_of report.now.messages) }
     ensures held { IsHeld D.known terminal.old.outputs }
     ensures outputs { terminal.new.outputs ≡ terminal.old.outputs }
     ensures input { terminal.new.input ≡ terminal.old.input }
@@ -81,7 +86,8 @@ fn print_report<D: Disk, C: Causes, R: Read, W: Write, E: Write>(
     tell_written(alloc, is_asked, OUTPUT, done, errors)
 }
 
-/// Reports the put that was refused, if one was, and says why if it is asked. Returns whether none was.
+/// Reports the put that was refused, if one was, and says why if it is asked. Returns whether none
+/// was.
 fn tell_refused<E: Write>(
     alloc: Global,
     is_asked: bool,
@@ -110,7 +116,8 @@ fn log_report<D: Disk, E: Write>(
     report: &Report,
     errors: &mut E,
 ) -> bool
-    ensures log { IsTrue result → HasLogged D.known outputs.old outputs.new (log_of report.now.log) }
+    ensures log { IsTrue result
+        → HasLogged D.known outputs.old outputs.new (log_of report.now.log) }
     ensures silent { IsTrue result → errors.new ≡ errors.old }
 {
     let done = write_log(alloc, outputs, report.log.as_slice());
@@ -125,10 +132,14 @@ fn tell_report<D: Disk, C: Causes, R: Read, W: Write, E: Write>(
     refused: Option<u64>,
     crew: &C,
 ) -> u8
-    ensures run { result ≢ 2 → (refused ≡ None) × (result ≡ words.status_of report.now.outcome)
-        × Appends (W.contents terminal.old.output) (W.contents terminal.new.output) (printed settings.now.quiet report.now.messages terminal.old.outputs.lines)
+    ensures run { result ≢ 2
+        → (refused ≡ None) × (result ≡ words.status_of report.now.outcome)
+        × Appends (W.contents terminal.old.output) (W.contents terminal.new.output)
+        (printed settings.now.quiet report.now.messages terminal.old.outputs.lines)
         × Logs D.known terminal.old.outputs terminal.new.outputs report.now
-        × (terminal.old.is_asked ≡ false → AreTold (E.contents terminal.old.errors) (E.contents terminal.new.errors) (errors_of report.now.messages)) }
+        × (terminal.old.is_asked ≡ false
+        → AreTold (E.contents terminal.old.errors) (E.contents terminal.new.errors)
+        (errors_of report.now.messages)) }
     ensures input { terminal.new.input ≡ terminal.old.input }
 {
     let alloc = terminal.alloc;
@@ -145,7 +156,8 @@ fn tell_report<D: Disk, C: Causes, R: Read, W: Write, E: Write>(
     }
 }
 
-/// Prints and writes what follows from the result of a run, and returns the exit status. `given` is what the run was given.
+/// Prints and writes what follows from the result of a run, and returns the exit status. `given` is
+/// what the run was given.
 ///
 /// A report leaves its messages, the lines on its outputs and its log, also if a put was refused,
 /// which is told then. Any other fault is told alone. The status is 2 if there is a fault, if the
@@ -158,10 +170,14 @@ pub fn tell_result<D: Disk, C: Causes, R: Read, W: Write, E: Write>(
     answer: Result<Report, Fault>,
     crew: &C,
 ) -> u8
-    ensures run { result ≢ 2 → (report : Report) × (answer ≡ Ok report) × (result ≡ words.status_of report.outcome)
-        × Appends (W.contents terminal.old.output) (W.contents terminal.new.output) (printed given.now.settings.now.quiet report.messages terminal.old.outputs.lines)
+    ensures run { result ≢ 2
+        → (report : Report) × (answer ≡ Ok report) × (result ≡ words.status_of report.outcome)
+        × Appends (W.contents terminal.old.output) (W.contents terminal.new.output)
+        (printed given.now.settings.now.quiet report.messages terminal.old.outputs.lines)
         × Logs D.known terminal.old.outputs terminal.new.outputs report
-        × (terminal.old.is_asked ≡ false → AreTold (E.contents terminal.old.errors) (E.contents terminal.new.errors) (errors_of report.messages)) }
+        × (terminal.old.is_asked ≡ false
+        → AreTold (E.contents terminal.old.errors) (E.contents terminal.new.errors)
+        (errors_of report.messages)) }
     ensures input { terminal.new.input ≡ terminal.old.input }
 {
     match answer {
@@ -183,14 +199,18 @@ pub fn tell_result<D: Disk, C: Causes, R: Read, W: Write, E: Write>(
     }
 }
 
-/// Prints the text of a report that shows one, and returns the exit status, which is 0 if standard output takes it.
+/// Prints the text of a report that shows one, and returns the exit status, which is 0 if standard
+/// output takes it.
 pub fn tell_shown<D: Disk, R: Read, W: Write, E: Write>(
     terminal: &mut Terminal<'_, D, R, W, E>,
     report: &Report,
 ) -> u8
-    ensures run { result ≢ 2 → (result ≡ 0)
-        × Appends (W.contents terminal.old.output) (W.contents terminal.new.output) (printed false report.now.messages [])
-        × AreTold (E.contents terminal.old.errors) (E.contents terminal.new.errors) (errors_of report.now.messages) }
+    ensures run { result ≢ 2
+        → (result ≡ 0)
+        × Appends (W.contents terminal.old.output) (W.contents terminal.new.output)
+        (printed false report.now.messages [])
+        × AreTold (E.contents terminal.old.errors) (E.contents terminal.new.errors)
+        (errors_of report.now.messages) }
     ensures outputs { terminal.new.outputs ≡ terminal.old.outputs }
     ensures input { terminal.new.input ≡ terminal.old.input }
 {

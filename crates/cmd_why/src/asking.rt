@@ -35,8 +35,11 @@ fn answer_with(
     checks: &[Check<'_>],
     word: &[u8],
 ) -> Result<Answer, AllocError>
-    ensures text { IfOk result (λ answer. answer.text.items ≡ printed seen.now (map line_seen lines.now) word.now (map check_seen checks.now)) }
-    ensures status { IfOk result (λ answer. answer.status ≡ status_of word.now (map check_seen checks.now)) }
+    ensures text { IfOk result (λ answer.
+        answer.text.items
+        ≡ printed seen.now (map line_seen lines.now) word.now (map check_seen checks.now)) }
+    ensures status { IfOk result (λ answer.
+        answer.status ≡ status_of word.now (map check_seen checks.now)) }
     ensures bound { IfOk result (λ answer. answer.status ≤ 1) }
 {
     let mut text = Vec::new(alloc);
@@ -44,8 +47,8 @@ fn answer_with(
     Ok(Answer { text, status })
 }
 
-/// Returns what is printed for a word of the lines of a log, or `None` if they have nothing of a run: none begins a check, and none
-/// is an error, a warning or a notice.
+/// Returns what is printed for a word of the lines of a log, or `None` if they have nothing of a
+/// run: none begins a check, and none is an error, a warning or a notice.
 #[tactic(auto, using(crate::proofs::Explained::answered))]
 fn answer_of(
     alloc: Global,
@@ -53,7 +56,10 @@ fn answer_of(
     lines: &[LogLine<'_>],
     word: &[u8],
 ) -> Result<Option<Answer>, AllocError>
-    ensures answer { IfOk result (λ o. IfSome o (λ answer. specs.IsAnswer seen.now word.now (map line_seen lines.now) answer.text.items answer.status)) }
+    ensures answer { IfOk result (λ o.
+        IfSome o (λ answer.
+        specs.IsAnswer seen.now word.now (map line_seen lines.now) answer.text.items
+        answer.status)) }
     ensures bound { IfOk result (λ o. IfSome o (λ answer. answer.status ≤ 1)) }
 {
     let checks = checks_of(alloc, lines)?;
@@ -72,7 +78,9 @@ fn answer_in(
     text: &[u8],
     word: &[u8],
 ) -> Result<Option<Answer>, AllocError>
-    ensures answer { IfOk result (λ o. IfSome o (λ answer. specs.IsInLog seen.now text.now word.now answer.text.items answer.status)) }
+    ensures answer { IfOk result (λ o.
+        IfSome o (λ answer.
+        specs.IsInLog seen.now text.now word.now answer.text.items answer.status)) }
     ensures bound { IfOk result (λ o. IfSome o (λ answer. answer.status ≤ 1)) }
 {
     match read_log(alloc, text)? {
@@ -98,9 +106,9 @@ fn put_text<W: Write, E: Write>(text: &[u8], status: u8, output: &mut W, errors:
     }
 }
 
-/// Explains the word by the text of a log, and returns the exit status.
+/// Writes what the text of a log says about the word, and returns the exit status.
 #[tactic(auto, using(crate::proofs::Explained::written))]
-fn explain_text<W: Write, E: Write>(
+fn write_from_text<W: Write, E: Write>(
     alloc: Global,
     seen: &Seen,
     text: &[u8],
@@ -111,7 +119,9 @@ fn explain_text<W: Write, E: Write>(
 ) -> u8
     ensures status { result ≤ 2 }
     ensures silent { result ≢ 2 → errors.new ≡ errors.old }
-    ensures answer { result ≢ 2 → (out : List ℕ) × specs.IsInLog seen.now text.now word.now out result × Appends (W.contents output.old) (W.contents output.new) out }
+    ensures answer { result ≢ 2
+        → (out : List ℕ) × specs.IsInLog seen.now text.now word.now out result
+        × Appends (W.contents output.old) (W.contents output.new) out }
 {
     match answer_in(alloc, seen, text, word) {
         Ok(Some(answer)) => put_text(answer.text.as_slice(), answer.status, output, errors),
@@ -120,9 +130,9 @@ fn explain_text<W: Write, E: Write>(
     }
 }
 
-/// Explains the word by the text of the log of this name, and returns the exit status.
+/// Writes what the text of the log of this name says about the word, and returns the exit status.
 #[tactic(auto, using(crate::proofs::Explained::by_seen))]
-fn explain_seen<D: Disk, W: Write, E: Write>(
+fn write_from_seen<D: Disk, W: Write, E: Write>(
     alloc: Global,
     disk: &D,
     text: &[u8],
@@ -133,17 +143,20 @@ fn explain_seen<D: Disk, W: Write, E: Write>(
 ) -> u8
     ensures status { result ≤ 2 }
     ensures silent { result ≢ 2 → errors.new ≡ errors.old }
-    ensures answer { result ≢ 2 → (seen : Seen) × IsSeenFor (D.known disk.now) name.now seen × ((out : List ℕ) × specs.IsInLog seen text.now word.now out result × Appends (W.contents output.old) (W.contents output.new) out) }
+    ensures answer { result ≢ 2
+        → (seen : Seen) × IsSeenFor (D.known disk.now) name.now seen
+        × ((out : List ℕ) × specs.IsInLog seen text.now word.now out result
+        × Appends (W.contents output.old) (W.contents output.new) out) }
 {
     match &seen_for(alloc, disk, name) {
-        Ok(seen) => explain_text(alloc, seen, text, word, name, output, errors),
+        Ok(seen) => write_from_text(alloc, seen, text, word, name, output, errors),
         Err(_) => tell_memory(errors),
     }
 }
 
-/// Explains the word by a log, and returns the exit status.
+/// Writes what a log says about the word, and returns the exit status.
 #[tactic(auto, using(crate::proofs::Explained::explained))]
-fn explain_file<D: Disk, W: Write, E: Write>(
+fn write_from_log<D: Disk, W: Write, E: Write>(
     alloc: Global,
     disk: &D,
     word: &[u8],
@@ -153,10 +166,12 @@ fn explain_file<D: Disk, W: Write, E: Write>(
 ) -> u8
     ensures status { result ≤ 2 }
     ensures silent { result ≢ 2 → errors.new ≡ errors.old }
-    ensures answer { result ≢ 2 → (out : List ℕ) × specs.IsOfLog (D.known disk.now) name.now word.now out result × Appends (W.contents output.old) (W.contents output.new) out }
+    ensures answer { result ≢ 2
+        → (out : List ℕ) × specs.IsOfLog (D.known disk.now) name.now word.now out result
+        × Appends (W.contents output.old) (W.contents output.new) out }
 {
     match read_text(alloc, disk, name) {
-        Ok(Some(text)) => explain_seen(alloc, disk, text.as_slice(), word, name, output, errors),
+        Ok(Some(text)) => write_from_seen(alloc, disk, text.as_slice(), word, name, output, errors),
         Ok(None) => tell_file(errors, name),
         Err(_) => tell_memory(errors),
     }
@@ -178,8 +193,10 @@ fn log_named(more: &[Bytes]) -> Option<&[u8]>
     }
 }
 
-/// Explains the word by the log of this name, and returns the exit status. If there is none, the words have no meaning.
-fn explain_word<D: Disk, W: Write, E: Write>(
+/// Writes what the log of this name says about the word, and returns the exit status. If there is
+/// no name, the
+/// words have no meaning.
+fn write_for_word<D: Disk, W: Write, E: Write>(
     alloc: Global,
     disk: &D,
     word: &[u8],
@@ -189,21 +206,26 @@ fn explain_word<D: Disk, W: Write, E: Write>(
 ) -> u8
     ensures status { result ≤ 2 }
     ensures silent { result ≢ 2 → errors.new ≡ errors.old }
-    ensures answer { result ≢ 2 → (out : List ℕ) × specs.IsOfWord (D.known disk.now) word.now (option_map (λ name. name.now) name.entry) out result × Appends (W.contents output.old) (W.contents output.new) out }
+    ensures answer { result ≢ 2
+        → (out : List ℕ)
+        × specs.IsOfWord (D.known disk.now) word.now (option_map (λ name. name.now) name.entry)
+        out result × Appends (W.contents output.old) (W.contents output.new) out }
 {
     match name {
-        Some(name) => explain_file(alloc, disk, word, name, output, errors),
+        Some(name) => write_from_log(alloc, disk, word, name, output, errors),
         None => tell_usage(errors),
     }
 }
 
-/// Shows the run that the record in this text is of, and returns the exit status. If the text is no record with arguments, a word is
-/// missing.
+/// Shows the run that the record in this text is of, and returns the exit status. If the text is no
+/// record with arguments, a word is missing.
 #[tactic(auto, using(crate::proofs::Explained::line_written))]
 fn show_record<W: Write, E: Write>(alloc: Global, text: &[u8], output: &mut W, errors: &mut E) -> u8
     ensures status { result ≤ 2 }
     ensures silent { result ≢ 2 → errors.new ≡ errors.old }
-    ensures line { result ≢ 2 → (out : List ℕ) × specs.IsLineIn text.now out × (result ≡ 0) × Appends (W.contents output.old) (W.contents output.new) out }
+    ensures line { result ≢ 2
+        → (out : List ℕ) × specs.IsLineIn text.now out × (result ≡ 0)
+        × Appends (W.contents output.old) (W.contents output.new) out }
 {
     match line_in(alloc, text) {
         Ok(Some(line)) => put_text(line.as_slice(), FOUND, output, errors),
@@ -212,7 +234,8 @@ fn show_record<W: Write, E: Write>(alloc: Global, text: &[u8], output: &mut W, e
     }
 }
 
-/// Shows the run that the record is of, and returns the exit status. If there is no record with arguments, a word is missing.
+/// Shows the run that the record is of, and returns the exit status. If there is no record with
+/// arguments, a word is missing.
 fn show_run<D: Disk, W: Write, E: Write>(
     alloc: Global,
     disk: &D,
@@ -221,7 +244,9 @@ fn show_run<D: Disk, W: Write, E: Write>(
 ) -> u8
     ensures status { result ≤ 2 }
     ensures silent { result ≢ 2 → errors.new ≡ errors.old }
-    ensures run { result ≢ 2 → (out : List ℕ) × specs.IsOfRecord (D.known disk.now) out result × Appends (W.contents output.old) (W.contents output.new) out }
+    ensures run { result ≢ 2
+        → (out : List ℕ) × specs.IsOfRecord (D.known disk.now) out result
+        × Appends (W.contents output.old) (W.contents output.new) out }
 {
     match read_text(alloc, disk, RECORD) {
         Ok(Some(text)) => show_record(alloc, text.as_slice(), output, errors),
@@ -232,17 +257,20 @@ fn show_run<D: Disk, W: Write, E: Write>(
 
 /// Shows why the checks that a word is about have their answers, and returns the exit status (own).
 ///
-/// The words are WORD, and the name of the log, which is `config.log` if it isn't given. WORD is a part of a check's message, or a
-/// name that derives from a header, a function, a declaration, a type or a library: that of the cached value, or one with `HAVE_`.
-/// Each such check is printed with its answer, then the command, the diagnostics and the status of each of its children, with the
-/// child's number in the log, and last the program that failed last.
+/// The words are WORD, and the name of the log, which is `config.log` if it isn't given. WORD is a
+/// part of a check's message, or a name that derives from a header, a function, a declaration, a
+/// type or a library: that of the cached value, or one with `HAVE_`. Each such check is printed
+/// with its answer, then the command, the diagnostics and the status of each of its children, with
+/// the child's number in the log, and last the program that failed last.
 ///
-/// Without words, it prints the call of the run that `config.status` is of, with its arguments as words of a shell. A run that is
-/// stopped or cut writes no `config.status`, so this may be an earlier run than that of the log.
+/// Without words, it prints the call of the run that `config.status` is of, with its arguments as
+/// words of a shell. A run that is stopped or cut writes no `config.status`, so this may be an
+/// earlier run than that of the log.
 ///
-/// The status is 0 if a check or such a call is shown, and 1 if no check is about WORD: then the checks that are nearest to WORD are printed. It is 2 if the
-/// words aren't these, if there are none and no `config.status` with arguments can be read, or if the log can't be read, is no log, or
-/// can't be explained on standard output. Then standard error has a line that says which.
+/// The status is 0 if a check or such a call is shown, and 1 if no check is about WORD: then the
+/// checks that are nearest to WORD are printed. It is 2 if the words aren't these, if there are
+/// none and no `config.status` with arguments can be read, or if the log can't be read, is no log,
+/// or can't be explained on standard output. Then standard error has a line that says which.
 pub fn run_why<D: Disk, W: Write, E: Write>(
     alloc: Global,
     disk: &D,
@@ -253,11 +281,14 @@ pub fn run_why<D: Disk, W: Write, E: Write>(
     ensures status { result ≤ 2 }
     // Standard error has something only if the status is 2.
     ensures silent { result ≢ 2 → errors.new ≡ errors.old }
-    // Unless the status is 2, what is written is the answer for these words, by the log or the record.
-    ensures answer { result ≢ 2 → (out : List ℕ) × specs.IsWhy (D.known disk.now) words.now out result × Appends (W.contents output.old) (W.contents output.new) out }
+    // Unless the status is 2, what is written is the answer for these words, by the log or the
+    // record.
+    ensures answer { result ≢ 2
+        → (out : List ℕ) × specs.IsWhy (D.known disk.now) words.now out result
+        × Appends (W.contents output.old) (W.contents output.new) out }
 {
     match words.split_first() {
-        Some((word, more)) => explain_word(
+        Some((word, more)) => write_for_word(
             alloc,
             disk,
             word.as_slice(),

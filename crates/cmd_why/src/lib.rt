@@ -1,11 +1,14 @@
-//! The command `acrun why [WORD [LOG]]`: why a check has the answer that it has, by the log of the run.
+//! The command `acrun why [WORD [LOG]]`: why a check has the answer that it has, by the log of the
+//! run.
 //!
-//! [`run_why`] reads a log, looks for the checks that WORD is about, and prints each with its answer, its children, and the program
-//! that failed. If WORD is about none, it prints the checks that are nearest to it. Without WORD, it prints with which arguments the run was
-//! made that `config.status` is of.
+//! [`run_why`] reads a log, looks for the checks that WORD is about, and prints each with its
+//! answer, its children, and the program that failed. If WORD is about none, it prints the checks
+//! that are nearest to it. Without WORD, it prints with which arguments the run was made that
+//! `config.status` is of.
 //!
-//! A check is read from its first line to its answer. So the time is in proportion to the log and to how many checks are open at
-//! once, and the memory to the log and to what is printed. "own" marks a rule that no manual gives.
+//! A check is read from its first line to its answer. So the time is in proportion to the log and
+//! to how many checks are open at once, and the memory to the log and to what is printed. "own"
+//! marks a rule that no manual gives.
 //!
 //! ```text
 //! run_why(alloc, disk, ["sys/stat.h"], output, errors)
@@ -18,9 +21,11 @@
 //! // | #include <sys/stat.h>
 //! ```
 //!
-//! In `specs`, read `Lines` (the checks of a log, and which lines are a check's), `Subjects` (what a check is about), `Names` (which
-//! names a check has), `Shown`, `Nearest`, and then `Why`, which says what is printed for words and files. `Views` has the lines of the
-//! code as the definitions have them. In `src`, read `lines`, `subject`, `names`, `nearest`, `showing`, `record`, and then `asking`.
+//! In `specs`, read `Lines` (the checks of a log, and which lines are a check's), `Subjects` (what
+//! a check is about), `Names` (which names a check has), `Shown`, `Nearest`, and then `Why`, which
+//! says what is printed for words and files. `Views` has the lines of the code as the definitions
+//! have them. In `src`, read `lines`, `subject`, `names`, `nearest`, `showing`, `record`, and then
+//! `asking`.
 #![tactic(auto)]
 
 mod asking;

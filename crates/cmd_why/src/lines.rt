@@ -38,7 +38,10 @@ fn begun_after(child: usize, part: LineKind) -> usize
 
 /// Returns the lines of a log, each with the number of children.
 pub(crate) fn counted<'a>(alloc: Global, lines: &[Line<'a>]) -> Result<Vec<LogLine<'a>>, AllocError>
-    ensures { IfOk result (λ v. map line_seen v.items ≡ specs.counted 0 (map {B = LineKind × List ℕ} (λ line. (line.part, line.text.now)) lines.now)) }
+    ensures { IfOk result (λ v.
+        map line_seen v.items
+        ≡ specs.counted 0
+        (map {B = LineKind × List ℕ} (λ line. (line.part, line.text.now)) lines.now)) }
 {
     let mut counted = Vec::new(alloc);
     let mut child = 0usize;
@@ -170,7 +173,11 @@ fn put_check<'a>(
     line: &LogLine<'a>,
     rest: &'a [LogLine<'a>],
 ) -> Result<(), AllocError>
-    ensures { OnOk result (map check_seen checks.new.items ≡ map check_seen checks.old.items ++ specs.check_at (specs.message_of (line_seen line.now)) (map line_seen rest.now)) }
+    ensures { OnOk result (
+        map check_seen checks.new.items
+        ≡ map check_seen checks.old.items
+        ++ specs.check_at (specs.message_of (line_seen line.now))
+        (map line_seen rest.now)) }
 {
     if let Some(message) = message_of(line.part, line.text) {
         checks.push(Check { message, rest })?;

@@ -40,7 +40,8 @@ fn names_library(
     function: &[u8],
     library: &[u8],
 ) -> Result<bool, AllocError>
-    ensures { IfOk result (λ b. b ≡ specs.is_among word.now (specs.names_of (Library function.now library.now))) }
+    ensures { IfOk result (λ b.
+        b ≡ specs.is_among word.now (specs.names_of (Library function.now library.now))) }
 {
     let cached = library_name(alloc, library, function)?;
     let defined = library_definition(alloc, library)?;
@@ -48,21 +49,24 @@ fn names_library(
 }
 
 fn names_libraries(alloc: Global, word: &[u8], function: &[u8]) -> Result<bool, AllocError>
-    ensures { IfOk result (λ b. b ≡ specs.is_among word.now (specs.names_of (Libraries function.now))) }
+    ensures { IfOk result (λ b.
+        b ≡ specs.is_among word.now (specs.names_of (Libraries function.now))) }
 {
     let cached = libraries_name(alloc, function)?;
     Ok(word == cached.as_slice())
 }
 
 fn names_declaration(alloc: Global, word: &[u8], name: &[u8]) -> Result<bool, AllocError>
-    ensures { IfOk result (λ b. b ≡ specs.is_among word.now (specs.names_of (Declaration name.now))) }
+    ensures { IfOk result (λ b.
+        b ≡ specs.is_among word.now (specs.names_of (Declaration name.now))) }
 {
     names_sought(alloc, word, Sought::Entry(Listed::Declaration), name)
 }
 
 /// Returns whether the word is a name of the test of a subject.
 fn names(alloc: Global, word: &[u8], about: Subject<'_>) -> Result<bool, AllocError>
-    ensures { IfOk result (λ b. b ≡ specs.is_among word.now (specs.names_of (subject about.entry))) }
+    ensures { IfOk result (λ b.
+        b ≡ specs.is_among word.now (specs.names_of (subject about.entry))) }
 {
     match about {
         Subject::Entry(name) => names_entry(alloc, word, name),
@@ -81,7 +85,8 @@ fn is_part(word: &[u8], text: &[u8]) -> bool
     text.split_once_str(word).is_some()
 }
 
-/// Returns whether the word is about the check with this message: it is a part of the message, or a name of the check.
+/// Returns whether the word is about the check with this message: it is a part of the message, or a
+/// name of the check.
 #[tactic(auto, unfolding(crate::specs::Names::is_about))]
 pub(crate) fn is_about(alloc: Global, word: &[u8], message: &[u8]) -> Result<bool, AllocError>
     ensures { IfOk result (λ b. b ≡ specs.is_about word.now message.now) }
@@ -103,7 +108,8 @@ fn put_sought_name(
     out.extend_from_slice(cached.as_slice())
 }
 
-/// Appends the names that the cached value of a function, a type or a program may have. The message doesn't say which it is.
+/// Appends the names that the cached value of a function, a type or a program may have. The message
+/// doesn't say which it is.
 fn put_other_names(alloc: Global, out: &mut Vec<u8>, name: &[u8]) -> Result<(), AllocError>
     ensures { OnOk result (out.new.items ≡ out.old.items ++ specs.other_names name.now) }
 {
@@ -129,7 +135,8 @@ fn put_library_name(
     function: &[u8],
     library: &[u8],
 ) -> Result<(), AllocError>
-    ensures { OnOk result (out.new.items ≡ out.old.items ++ library_name_of library.now function.now) }
+    ensures { OnOk result (
+        out.new.items ≡ out.old.items ++ library_name_of library.now function.now) }
 {
     let cached = library_name(alloc, library, function)?;
     out.extend_from_slice(cached.as_slice())
@@ -142,13 +149,15 @@ fn put_libraries_name(alloc: Global, out: &mut Vec<u8>, function: &[u8]) -> Resu
     out.extend_from_slice(cached.as_slice())
 }
 
-/// Appends the name under which a cache has the value of the test of a subject, as far as the message gives it.
+/// Appends the name under which a cache has the value of the test of a subject, as far as the
+/// message gives it.
 pub(crate) fn put_cache_name(
     alloc: Global,
     out: &mut Vec<u8>,
     about: Subject<'_>,
 ) -> Result<(), AllocError>
-    ensures { OnOk result (out.new.items ≡ out.old.items ++ specs.cache_name (subject about.entry)) }
+    ensures { OnOk result (
+        out.new.items ≡ out.old.items ++ specs.cache_name (subject about.entry)) }
 {
     match about {
         Subject::Entry(name) => put_entry_names(alloc, out, name),

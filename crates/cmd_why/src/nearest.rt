@@ -75,7 +75,8 @@ fn folded(alloc: Global, text: &[u8]) -> Result<Vec<u8>, AllocError>
     text.iter().map(|byte| compared(*byte)).collect(alloc)
 }
 
-/// Returns how many edits lead from one word, as it is compared, to another, or `None` if they have nothing in common.
+/// Returns how many edits lead from one word, as it is compared, to another, or `None` if they have
+/// nothing in common.
 fn distance_between(alloc: Global, word: &[u8], name: &[u8]) -> Result<Option<usize>, AllocError>
     ensures { IfOk result (λ d. d ≡ specs.if_near word.now name.now) }
 {
@@ -86,8 +87,8 @@ fn distance_between(alloc: Global, word: &[u8], name: &[u8]) -> Result<Option<us
     Ok(Some(distance))
 }
 
-/// Returns how many edits lead from a word, as it is compared, to the name of a check, or `None` if they have nothing in common or
-/// are too long.
+/// Returns how many edits lead from a word, as it is compared, to the name of a check, or `None` if
+/// they have nothing in common or are too long.
 #[tactic(auto, unfolding(crate::specs::Nearest::distance_to))]
 fn distance_to(alloc: Global, word: &[u8], message: &[u8]) -> Result<Option<usize>, AllocError>
     ensures { IfOk result (λ d. d ≡ specs.distance_to word.now message.now) }
@@ -135,18 +136,24 @@ fn insert_near<'a>(
     near: Near<'a>,
 ) -> Result<(), AllocError>
     requires { place ≤ length nearest.old.items }
-    ensures { OnOk result (map near_seen nearest.new.items
-        ≡ take 5 (take place (map near_seen nearest.old.items) ++ near_seen near.entry ∷ drop place (map near_seen nearest.old.items))) }
+    ensures { OnOk result (
+        map near_seen nearest.new.items
+        ≡ take 5 (
+        take place (map near_seen nearest.old.items) ++ near_seen near.entry
+        ∷ drop place (map near_seen nearest.old.items))) }
 {
     nearest.insert(place, near)?;
     nearest.truncate(MOST);
     Ok(())
 }
 
-/// Adds a check to those that are nearest, unless one with its message is there or others are nearer.
+/// Adds a check to those that are nearest, unless one with its message is there or others are
+/// nearer.
 #[tactic(auto, unfolding(crate::specs::Nearest::with_near))]
 fn add_near<'a>(nearest: &mut Vec<Near<'a>>, near: Near<'a>) -> Result<(), AllocError>
-    ensures { OnOk result (map near_seen nearest.new.items ≡ specs.with_near (map near_seen nearest.old.items) (near_seen near.entry)) }
+    ensures { OnOk result (
+        map near_seen nearest.new.items
+        ≡ specs.with_near (map near_seen nearest.old.items) (near_seen near.entry)) }
 {
     if has_message(nearest, near.message) {
         return Ok(());
@@ -161,7 +168,9 @@ fn offer<'a>(
     message: &'a [u8],
     distance: Option<usize>,
 ) -> Result<(), AllocError>
-    ensures { OnOk result (map near_seen nearest.new.items ≡ specs.offered (map near_seen nearest.old.items) message.now distance) }
+    ensures { OnOk result (
+        map near_seen nearest.new.items
+        ≡ specs.offered (map near_seen nearest.old.items) message.now distance) }
 {
     match distance {
         Some(distance) => add_near(nearest, Near { message, distance }),
@@ -176,7 +185,10 @@ fn offer_check<'a>(
     word: &[u8],
     check: &Check<'a>,
 ) -> Result<(), AllocError>
-    ensures { OnOk result (map near_seen nearest.new.items ≡ specs.offered (map near_seen nearest.old.items) check.now.message.now (specs.distance_to word.now check.now.message.now)) }
+    ensures { OnOk result (
+        map near_seen nearest.new.items
+        ≡ specs.offered (map near_seen nearest.old.items) check.now.message.now
+        (specs.distance_to word.now check.now.message.now)) }
 {
     let distance = distance_to(alloc, word, check.message)?;
     offer(nearest, check.message, distance)
@@ -188,7 +200,9 @@ fn nearest_among<'a>(
     word: &[u8],
     checks: &[Check<'a>],
 ) -> Result<Vec<Near<'a>>, AllocError>
-    ensures { IfOk result (λ v. map near_seen v.items ≡ specs.nearest_among word.now (map (λ check. check.message.now) checks.now)) }
+    ensures { IfOk result (λ v.
+        map near_seen v.items
+        ≡ specs.nearest_among word.now (map (λ check. check.message.now) checks.now)) }
 {
     let mut nearest = Vec::new(alloc);
     for check in checks {
@@ -204,7 +218,9 @@ fn nearest_to<'a>(
     word: &[u8],
     checks: &[Check<'a>],
 ) -> Result<Vec<Near<'a>>, AllocError>
-    ensures { IfOk result (λ v. map near_seen v.items ≡ specs.nearest_to word.now (map (λ check. check.message.now) checks.now)) }
+    ensures { IfOk result (λ v.
+        map near_seen v.items
+        ≡ specs.nearest_to word.now (map (λ check. check.message.now) checks.now)) }
 {
     let word = folded(alloc, without_prefix(word))?;
     nearest_among(alloc, word.as_slice(), checks)
@@ -222,7 +238,8 @@ fn put_near(out: &mut Vec<u8>, near: &Near<'_>) -> Result<(), AllocError>
 
 /// Appends the lines of the checks that are near.
 fn put_each(out: &mut Vec<u8>, nearest: &[Near<'_>]) -> Result<(), AllocError>
-    ensures { OnOk result (out.new.items ≡ out.old.items ++ flat_map specs.near_line (map near_seen nearest.now)) }
+    ensures { OnOk result (
+        out.new.items ≡ out.old.items ++ flat_map specs.near_line (map near_seen nearest.now)) }
 {
     for near in nearest {
         put_near(out, near)?;
@@ -240,7 +257,8 @@ fn put_heading(out: &mut Vec<u8>) -> Result<(), AllocError>
 
 /// Appends a heading and the lines of the checks that are near.
 fn put_headed(out: &mut Vec<u8>, nearest: &[Near<'_>]) -> Result<(), AllocError>
-    ensures { OnOk result (out.new.items ≡ out.old.items ++ specs.headed_lines (map near_seen nearest.now)) }
+    ensures { OnOk result (
+        out.new.items ≡ out.old.items ++ specs.headed_lines (map near_seen nearest.now)) }
 {
     put_heading(out)?;
     put_each(out, nearest)
@@ -249,7 +267,8 @@ fn put_headed(out: &mut Vec<u8>, nearest: &[Near<'_>]) -> Result<(), AllocError>
 /// Appends the lines of the checks that are near, with a heading, if there are some.
 #[tactic(auto, unfolding(crate::specs::Nearest::near_lines))]
 fn put_all(out: &mut Vec<u8>, nearest: &[Near<'_>]) -> Result<(), AllocError>
-    ensures { OnOk result (out.new.items ≡ out.old.items ++ specs.near_lines (map near_seen nearest.now)) }
+    ensures { OnOk result (
+        out.new.items ≡ out.old.items ++ specs.near_lines (map near_seen nearest.now)) }
 {
     if nearest.is_empty() {
         return Ok(());
@@ -282,7 +301,10 @@ pub(crate) fn put_nearest(
     word: &[u8],
     checks: &[Check<'_>],
 ) -> Result<(), AllocError>
-    ensures { OnOk result (out.new.items ≡ out.old.items ++ specs.none_text word.now (map (λ check. check.message.now) checks.now)) }
+    ensures { OnOk result (
+        out.new.items
+        ≡ out.old.items
+        ++ specs.none_text word.now (map (λ check. check.message.now) checks.now)) }
 {
     put_none(out, word)?;
     let nearest = nearest_to(alloc, word, checks)?;

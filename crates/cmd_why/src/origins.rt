@@ -32,7 +32,8 @@ fn cache_named(name: &[u8]) -> Option<&[u8]>
 
 /// Returns the cache after an option with this value.
 fn cache_of_value<'a>(target: Target, value: &'a [u8], cache: Option<&'a [u8]>) -> Option<&'a [u8]>
-    ensures { option_map (λ name. name.now) result ≡ specs.cache_of_value target value.now (option_map (λ name. name.now) cache.entry) }
+    ensures { option_map (λ name. name.now) result
+        ≡ specs.cache_of_value target value.now (option_map (λ name. name.now) cache.entry) }
 {
     match target {
         Target::CacheFile => cache_named(value),
@@ -43,7 +44,8 @@ fn cache_of_value<'a>(target: Target, value: &'a [u8], cache: Option<&'a [u8]>) 
 
 /// Returns the cache after an argument with this reading.
 fn cache_said<'a>(said: Argument<'a>, cache: Option<&'a [u8]>) -> Option<&'a [u8]>
-    ensures { option_map (λ name. name.now) result ≡ specs.cache_said (argument_of said.entry) (option_map (λ name. name.now) cache.entry) }
+    ensures { option_map (λ name. name.now) result
+        ≡ specs.cache_said (argument_of said.entry) (option_map (λ name. name.now) cache.entry) }
 {
     match said {
         Argument::Flag(Switch::ConfigCache) => Some(b"config.cache"),
@@ -59,7 +61,8 @@ fn cache_after<'a>(
     argument: &'a Bytes,
     cache: Option<&'a [u8]>,
 ) -> Option<&'a [u8]>
-    ensures { option_map (λ name. name.now) result ≡ specs.cache_after awaited argument.now (option_map (λ name. name.now) cache.entry) }
+    ensures { option_map (λ name. name.now) result
+        ≡ specs.cache_after awaited argument.now (option_map (λ name. name.now) cache.entry) }
 {
     match awaited {
         Some(target) => cache_of_value(target, argument.as_slice(), cache),
@@ -67,7 +70,8 @@ fn cache_after<'a>(
     }
 }
 
-/// Returns the option that needs the next argument as its value, after an argument with this reading.
+/// Returns the option that needs the next argument as its value, after an argument with this
+/// reading.
 fn awaited_by(said: Argument<'_>) -> Option<Target>
     ensures { result ≡ arguments.awaited_by (argument_of said.entry) }
 {
@@ -77,7 +81,8 @@ fn awaited_by(said: Argument<'_>) -> Option<Target>
     }
 }
 
-/// Returns the option that needs the next argument as its value, after an argument that may be such a value itself.
+/// Returns the option that needs the next argument as its value, after an argument that may be such
+/// a value itself.
 fn awaited_after(awaited: Option<Target>, argument: &Bytes) -> Option<Target>
     ensures { result ≡ arguments.awaited_after awaited argument.now }
 {
@@ -122,7 +127,8 @@ fn sets_said(names: &[Bytes], said: Argument<'_>) -> bool
     }
 }
 
-/// Returns whether an argument, which may be the value of the option before it, sets one of these names.
+/// Returns whether an argument, which may be the value of the option before it, sets one of these
+/// names.
 #[tactic(auto, unfolding(crate::specs::Origins::sets_after))]
 fn sets_after(names: &[Bytes], awaited: Option<Target>, argument: &Bytes) -> bool
     ensures { result ≡ specs.sets_after names.now awaited argument.now }
@@ -140,7 +146,9 @@ fn setter_after<'a>(
     argument: &'a Bytes,
     setter: Option<&'a [u8]>,
 ) -> Option<&'a [u8]>
-    ensures { option_map (λ argument. argument.now) result ≡ specs.setter_after names.now awaited argument.now (option_map (λ argument. argument.now) setter.entry) }
+    ensures { option_map (λ argument. argument.now) result
+        ≡ specs.setter_after names.now awaited argument.now
+        (option_map (λ argument. argument.now) setter.entry) }
 {
     if sets_after(names, awaited, argument) {
         Some(argument.as_slice())
@@ -210,7 +218,9 @@ fn lines_setting<'a>(
     names: &[Bytes],
     lines: &[&'a [u8]],
 ) -> Result<Vec<&'a [u8]>, AllocError>
-    ensures { IfOk result (λ v. map (λ line. line.now) v.items ≡ specs.lines_setting names.now (map (λ line. line.now) lines.now)) }
+    ensures { IfOk result (λ v.
+        map (λ line. line.now) v.items
+        ≡ specs.lines_setting names.now (map (λ line. line.now) lines.now)) }
 {
     let mut setting = Vec::new(alloc);
     for line in lines {
@@ -239,7 +249,10 @@ fn put_setter_end(out: &mut Vec<u8>) -> Result<(), AllocError>
 
 /// Appends what is said of an argument that sets the name.
 fn put_argument(alloc: Global, out: &mut Vec<u8>, argument: &[u8]) -> Result<(), AllocError>
-    ensures { OnOk result (out.new.items ≡ out.old.items ++ (specs.setter_front ++ (shell_word argument.now ++ specs.setter_end))) }
+    ensures { OnOk result (
+        out.new.items
+        ≡ out.old.items
+        ++ (specs.setter_front ++ (shell_word argument.now ++ specs.setter_end))) }
 {
     put_setter_front(out)?;
     put_word(alloc, out, argument)?;
@@ -248,7 +261,10 @@ fn put_argument(alloc: Global, out: &mut Vec<u8>, argument: &[u8]) -> Result<(),
 
 /// Appends what is said of the last argument that sets the name.
 fn put_setter(alloc: Global, out: &mut Vec<u8>, setter: Option<&[u8]>) -> Result<(), AllocError>
-    ensures { OnOk result (out.new.items ≡ out.old.items ++ specs.setter_text (option_map (λ argument. argument.now) setter.entry)) }
+    ensures { OnOk result (
+        out.new.items
+        ≡ out.old.items
+        ++ specs.setter_text (option_map (λ argument. argument.now) setter.entry)) }
 {
     match setter {
         Some(argument) => put_argument(alloc, out, argument),
@@ -268,7 +284,9 @@ fn put_cache_line(out: &mut Vec<u8>, line: &[u8]) -> Result<(), AllocError>
 
 /// Appends lines of a cache.
 fn put_cache_lines(out: &mut Vec<u8>, lines: &[&[u8]]) -> Result<(), AllocError>
-    ensures { OnOk result (out.new.items ≡ out.old.items ++ flat_map specs.cache_line (map (λ line. line.now) lines.now)) }
+    ensures { OnOk result (
+        out.new.items
+        ≡ out.old.items ++ flat_map specs.cache_line (map (λ line. line.now) lines.now)) }
 {
     for line in lines {
         put_cache_line(out, *line)?;
@@ -286,7 +304,9 @@ fn put_lines_heading(out: &mut Vec<u8>) -> Result<(), AllocError>
 
 /// Appends lines of the cache of this name, with what is said before them.
 fn put_headed_lines(out: &mut Vec<u8>, name: &[u8], lines: &[&[u8]]) -> Result<(), AllocError>
-    ensures { OnOk result (out.new.items ≡ out.old.items ++ specs.headed_lines name.now (map (λ line. line.now) lines.now)) }
+    ensures { OnOk result (
+        out.new.items
+        ≡ out.old.items ++ specs.headed_lines name.now (map (λ line. line.now) lines.now)) }
 {
     out.extend_from_slice(b"The cache ")?;
     out.extend_from_slice(name)?;
@@ -297,7 +317,9 @@ fn put_headed_lines(out: &mut Vec<u8>, name: &[u8], lines: &[&[u8]]) -> Result<(
 /// Appends what is said of the lines that set the name in the cache of this name.
 #[tactic(auto, unfolding(crate::specs::Origins::lines_text))]
 fn put_lines_setting(out: &mut Vec<u8>, name: &[u8], lines: &[&[u8]]) -> Result<(), AllocError>
-    ensures { OnOk result (out.new.items ≡ out.old.items ++ specs.lines_text name.now (map (λ line. line.now) lines.now)) }
+    ensures { OnOk result (
+        out.new.items
+        ≡ out.old.items ++ specs.lines_text name.now (map (λ line. line.now) lines.now)) }
 {
     if lines.is_empty() {
         return Ok(());
@@ -313,7 +335,11 @@ fn put_cache_text(
     name: &[u8],
     text: &[u8],
 ) -> Result<(), AllocError>
-    ensures { OnOk result (out.new.items ≡ out.old.items ++ specs.lines_text name.now (specs.lines_setting names.now (parts_of 10 text.now))) }
+    ensures { OnOk result (
+        out.new.items
+        ≡ out.old.items
+        ++ specs.lines_text name.now
+        (specs.lines_setting names.now (parts_of 10 text.now))) }
 {
     let lines = parts(alloc, text, b'\n')?;
     let setting = lines_setting(alloc, names, lines.as_slice())?;
@@ -343,7 +369,10 @@ fn found_text(
     args: &[Bytes],
     cache: &Option<(Bytes, Bytes)>,
 ) -> Result<Vec<u8>, AllocError>
-    ensures { IfOk result (λ v. v.items ≡ specs.setter_text (specs.setter_of names.now args.now) ++ specs.cache_text names.now cache.now) }
+    ensures { IfOk result (λ v.
+        v.items
+        ≡ specs.setter_text (specs.setter_of names.now args.now)
+        ++ specs.cache_text names.now cache.now) }
 {
     let mut text = Vec::new(alloc);
     put_setter(alloc, &mut text, setter_of(names, args))?;
@@ -372,7 +401,12 @@ fn put_found(
     args: &[Bytes],
     cache: &Option<(Bytes, Bytes)>,
 ) -> Result<(), AllocError>
-    ensures { OnOk result (out.new.items ≡ out.old.items ++ specs.or_nothing (specs.setter_text (specs.setter_of names.now args.now) ++ specs.cache_text names.now cache.now)) }
+    ensures { OnOk result (
+        out.new.items
+        ≡ out.old.items
+        ++ specs.or_nothing (
+        specs.setter_text (specs.setter_of names.now args.now)
+        ++ specs.cache_text names.now cache.now)) }
 {
     let text = found_text(alloc, names, args, cache)?;
     put_or_nothing(out, text.as_slice())
@@ -415,7 +449,8 @@ pub(crate) fn put_cached(
     seen: &Seen,
     message: &[u8],
 ) -> Result<(), AllocError>
-    ensures { OnOk result (out.new.items ≡ out.old.items ++ specs.cached_text seen.now message.now) }
+    ensures { OnOk result (
+        out.new.items ≡ out.old.items ++ specs.cached_text seen.now message.now) }
 {
     put_cached_front(out)?;
     put_cache_name(alloc, out, subject_of(message))?;

@@ -67,7 +67,8 @@ fn args_of(made: Record) -> Option<Texts>
     args
 }
 
-/// Returns the arguments of the record in a text, or `None` if the text is no record, or the record has no arguments.
+/// Returns the arguments of the record in a text, or `None` if the text is no record, or the record
+/// has no arguments.
 #[tactic(auto, using(crate::proofs::Records::no_arguments))]
 pub(crate) fn args_in(alloc: Global, text: &[u8]) -> Result<Option<Texts>, AllocError>
     ensures { IfOk result (λ args. args ≡ specs.arguments_in (record_in text.now)) }
@@ -79,8 +80,8 @@ pub(crate) fn args_in(alloc: Global, text: &[u8]) -> Result<Option<Texts>, Alloc
     }
 }
 
-/// Returns the line of the run that the record in a text is of, with the arguments as words of a shell, or `None` if the text is no
-/// record, or the record has no arguments.
+/// Returns the line of the run that the record in a text is of, with the arguments as words of a
+/// shell, or `None` if the text is no record, or the record has no arguments.
 pub(crate) fn line_in(alloc: Global, text: &[u8]) -> Result<Option<Vec<u8>>, AllocError>
     ensures { IfOk result (λ o. IfSome o (λ line. IsLineIn text.now line.items)) }
 {

@@ -22,7 +22,8 @@ pub(crate) enum Seen {
     Unlooked,
     /// No record with arguments can be read.
     Unrecorded,
-    /// The arguments of the record, and the name and the text of the cache that they name, if it can be read.
+    /// The arguments of the record, and the name and the text of the cache that they name, if it
+    /// can be read.
     Recorded(Texts, Option<(Bytes, Bytes)>),
 }
 
@@ -46,7 +47,8 @@ fn cache_named<D: Disk>(
     disk: &D,
     args: &[Bytes],
 ) -> Result<Option<(Bytes, Bytes)>, AllocError>
-    ensures { IfOk result (λ cache. specs.IsCacheNamed (D.known disk.now) (cache_of_args args.now) cache) }
+    ensures { IfOk result (λ cache.
+        specs.IsCacheNamed (D.known disk.now) (cache_of_args args.now) cache) }
 {
     match cache_of(args) {
         Some(name) => cache_at(alloc, disk, name),

@@ -60,7 +60,8 @@ fn put_line(alloc: Global, out: &mut Vec<u8>, line: &LogLine<'_>) -> Result<(), 
 
 /// Appends the lines of a check that are shown where they stand.
 fn put_lines(alloc: Global, out: &mut Vec<u8>, lines: &[LogLine<'_>]) -> Result<(), AllocError>
-    ensures { OnOk result (out.new.items ≡ out.old.items ++ flat_map specs.line_text (map line_seen lines.now)) }
+    ensures { OnOk result (
+        out.new.items ≡ out.old.items ++ flat_map specs.line_text (map line_seen lines.now)) }
 {
     for line in lines {
         put_line(alloc, out, line)?;
@@ -78,7 +79,8 @@ fn begin_program(program: &mut Vec<u8>, heading: &[u8]) -> Result<(), AllocError
 
 /// Takes a line of a check for the program that failed last, if it is one of such a program.
 fn take_program(program: &mut Vec<u8>, line: &LogLine<'_>) -> Result<(), AllocError>
-    ensures { OnOk result (program.new.items ≡ specs.program_after program.old.items line.now.part line.now.text.now) }
+    ensures { OnOk result (
+        program.new.items ≡ specs.program_after program.old.items line.now.part line.now.text.now) }
 {
     match line.part {
         LineKind::Heading => begin_program(program, line.text),
@@ -107,7 +109,8 @@ fn put_given(
     message: &[u8],
     answer: &[u8],
 ) -> Result<(), AllocError>
-    ensures { OnOk result (out.new.items ≡ out.old.items ++ specs.answer_text seen.now message.now (Some answer.now)) }
+    ensures { OnOk result (
+        out.new.items ≡ out.old.items ++ specs.answer_text seen.now message.now (Some answer.now)) }
 {
     out.extend_from_slice(answer)?;
     if is_cached(answer) {
@@ -125,7 +128,10 @@ fn put_answer(
     message: &[u8],
     answer: Option<&[u8]>,
 ) -> Result<(), AllocError>
-    ensures { OnOk result (out.new.items ≡ out.old.items ++ specs.answer_text seen.now message.now (option_map (λ t. t.now) answer.entry)) }
+    ensures { OnOk result (
+        out.new.items
+        ≡ out.old.items
+        ++ specs.answer_text seen.now message.now (option_map (λ t. t.now) answer.entry)) }
 {
     match answer {
         Some(answer) => put_given(alloc, out, seen, message, answer),
@@ -140,7 +146,8 @@ fn put_first_line(
     seen: &Seen,
     check: &Check<'_>,
 ) -> Result<(), AllocError>
-    ensures { OnOk result (out.new.items ≡ out.old.items ++ specs.first_line seen.now (check_seen check.now)) }
+    ensures { OnOk result (
+        out.new.items ≡ out.old.items ++ specs.first_line seen.now (check_seen check.now)) }
 {
     out.extend_from_slice(b"checking ")?;
     out.extend_from_slice(check.message)?;
@@ -148,8 +155,8 @@ fn put_first_line(
     put_answer(alloc, out, seen, check.message, answer_in(check.rest))
 }
 
-/// Appends what is printed of a check: its message and answer, the command, the diagnostics and the status of each of its children,
-/// and the program that failed last.
+/// Appends what is printed of a check: its message and answer, the command, the diagnostics and the
+/// status of each of its children, and the program that failed last.
 #[tactic(auto, unfolding(crate::specs::Shown::check_text))]
 fn put_check(
     alloc: Global,
@@ -157,7 +164,8 @@ fn put_check(
     seen: &Seen,
     check: &Check<'_>,
 ) -> Result<(), AllocError>
-    ensures { OnOk result (out.new.items ≡ out.old.items ++ specs.check_text seen.now (check_seen check.now)) }
+    ensures { OnOk result (
+        out.new.items ≡ out.old.items ++ specs.check_text seen.now (check_seen check.now)) }
 {
     put_first_line(alloc, out, seen, check)?;
     let lines = own(alloc, check.rest)?;
@@ -172,7 +180,8 @@ fn chosen<'a>(
     word: &[u8],
     checks: &[Check<'a>],
 ) -> Result<Vec<Check<'a>>, AllocError>
-    ensures { IfOk result (λ v. map check_seen v.items ≡ specs.chosen word.now (map check_seen checks.now)) }
+    ensures { IfOk result (λ v.
+        map check_seen v.items ≡ specs.chosen word.now (map check_seen checks.now)) }
 {
     let mut chosen = Vec::new(alloc);
     for check in checks {
@@ -190,7 +199,9 @@ fn put_checks(
     seen: &Seen,
     checks: &[Check<'_>],
 ) -> Result<(), AllocError>
-    ensures { OnOk result (out.new.items ≡ out.old.items ++ flat_map (specs.check_text seen.now) (map check_seen checks.now)) }
+    ensures { OnOk result (
+        out.new.items
+        ≡ out.old.items ++ flat_map (specs.check_text seen.now) (map check_seen checks.now)) }
 {
     for check in checks {
         put_check(alloc, out, seen, check)?;
@@ -272,7 +283,8 @@ fn put_count_front(out: &mut Vec<u8>) -> Result<(), AllocError>
 /// Appends how many answers of a log were there before their checks.
 #[tactic(auto, unfolding(crate::specs::Shown::count_text))]
 fn put_count(alloc: Global, out: &mut Vec<u8>, log: &[LogLine<'_>]) -> Result<(), AllocError>
-    ensures { OnOk result (out.new.items ≡ out.old.items ++ specs.count_text (map line_seen log.now)) }
+    ensures { OnOk result (
+        out.new.items ≡ out.old.items ++ specs.count_text (map line_seen log.now)) }
 {
     put_count_front(out)?;
     put_decimal(alloc, out, cached_answers(log))?;
@@ -290,7 +302,10 @@ fn put_taken(
     log: &[LogLine<'_>],
     taken: &[Check<'_>],
 ) -> Result<(), AllocError>
-    ensures { OnOk result (out.new.items ≡ out.old.items ++ specs.taken_text seen.now (map line_seen log.now) (map check_seen taken.now)) }
+    ensures { OnOk result (
+        out.new.items
+        ≡ out.old.items
+        ++ specs.taken_text seen.now (map line_seen log.now) (map check_seen taken.now)) }
 {
     put_checks(alloc, out, seen, taken)?;
     if has_cached(taken) {
@@ -299,7 +314,8 @@ fn put_taken(
     Ok(())
 }
 
-/// Appends what is chosen for a word of a log, or else the checks that are nearest to it, and returns the exit status.
+/// Appends what is chosen for a word of a log, or else the checks that are nearest to it, and
+/// returns the exit status.
 fn put_chosen(
     alloc: Global,
     out: &mut Vec<u8>,
@@ -309,7 +325,11 @@ fn put_chosen(
     checks: &[Check<'_>],
     chosen: &[Check<'_>],
 ) -> Result<u8, AllocError>
-    ensures text { OnOk result (out.new.items ≡ out.old.items ++ specs.text_for seen.now (map line_seen log.now) word.now (map (λ check. check.message.now) checks.now) (map check_seen chosen.now)) }
+    ensures text { OnOk result (
+        out.new.items
+        ≡ out.old.items
+        ++ specs.text_for seen.now (map line_seen log.now) word.now
+        (map (λ check. check.message.now) checks.now) (map check_seen chosen.now)) }
     ensures status { IfOk result (λ status. status ≡ specs.status_for (map check_seen chosen.now)) }
     ensures bound { IfOk result (λ status. status ≤ 1) }
 {
@@ -331,8 +351,13 @@ pub(crate) fn put_printed(
     word: &[u8],
     checks: &[Check<'_>],
 ) -> Result<u8, AllocError>
-    ensures text { OnOk result (out.new.items ≡ out.old.items ++ specs.printed seen.now (map line_seen log.now) word.now (map check_seen checks.now)) }
-    ensures status { IfOk result (λ status. status ≡ specs.status_of word.now (map check_seen checks.now)) }
+    ensures text { OnOk result (
+        out.new.items
+        ≡ out.old.items
+        ++ specs.printed seen.now (map line_seen log.now) word.now
+        (map check_seen checks.now)) }
+    ensures status { IfOk result (λ status.
+        status ≡ specs.status_of word.now (map check_seen checks.now)) }
     ensures bound { IfOk result (λ status. status ≤ 1) }
 {
     let chosen = chosen(alloc, word, checks)?;

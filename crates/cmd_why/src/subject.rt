@@ -25,7 +25,8 @@ pub(crate) enum Subject<'a> {
 
 /// Returns the subject of a text, which is cut at the first ` in -l`.
 fn cut(text: &[u8]) -> Subject<'_>
-    ensures { specs.subject result ≡ specs.cut_at (first_of (matches text.now (codes " in -l") 0)) text.now }
+    ensures { specs.subject result
+        ≡ specs.cut_at (first_of (matches text.now (codes " in -l") 0)) text.now }
 {
     match text.split_once_str(b" in -l") {
         Some((function, library)) => Subject::Library(function, library),
@@ -45,7 +46,8 @@ fn sought(text: &[u8]) -> Subject<'_>
 
 /// Returns the subject of a message that is about no declaration.
 fn of_search(message: &[u8]) -> Subject<'_>
-    ensures { specs.subject result ≡ specs.sought (specs_lines.after_front (codes "for ") message.now) }
+    ensures { specs.subject result
+        ≡ specs.sought (specs_lines.after_front (codes "for ") message.now) }
 {
     match after_front(b"for ", message) {
         Some(text) => sought(text),

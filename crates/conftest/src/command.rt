@@ -60,7 +60,10 @@ pub(crate) fn preprocessor(alloc: Global, vars: &Vars) -> Result<Words, AllocErr
 
 /// Appends the flags of every command that compiles.
 fn push_flags(alloc: Global, words: &mut Words, vars: &Vars) -> Result<(), AllocError>
-    ensures { OnOk result (words.new ≡ words.old ++ probe.words_of vars.now (codes "CFLAGS") ++ probe.words_of vars.now (codes "CPPFLAGS")) }
+    ensures { OnOk result (
+        words.new
+        ≡ words.old ++ probe.words_of vars.now (codes "CFLAGS")
+        ++ probe.words_of vars.now (codes "CPPFLAGS")) }
 {
     push_value(alloc, words, vars, b"CFLAGS")?;
     push_value(alloc, words, vars, b"CPPFLAGS")
@@ -98,7 +101,8 @@ pub(crate) fn push_compile_words(
     push_file(alloc, words, number)
 }
 
-/// Appends the arguments of a link job to the compiler's own words. `libraries` is the value of LIBS.
+/// Appends the arguments of a link job to the compiler's own words. `libraries` is the value of
+/// LIBS.
 #[tactic(auto, unfolding(crew_jobs::specs::Probe::link_words_with))]
 pub(crate) fn push_link_words(
     alloc: Global,
@@ -108,7 +112,8 @@ pub(crate) fn push_link_words(
     number: u64,
 ) -> Result<(), AllocError>
     requires { words.old ≡ probe.words_of vars.now (codes "CC") }
-    ensures { OnOk result (words.new ≡ probe.link_words_with (cuts.fields libraries.now) number vars.now) }
+    ensures { OnOk result (
+        words.new ≡ probe.link_words_with (cuts.fields libraries.now) number vars.now) }
 {
     words.push(b"-o")?;
     push_out(alloc, words, number)?;

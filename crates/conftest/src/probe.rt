@@ -16,11 +16,11 @@ use crew_jobs::{Job, Words};
 use deftable::{Bytes, Defs, Vars};
 use std::alloc::{AllocError, Global};
 
-/// Returns the job that compiles `source` to an object file: `$CC -c $CFLAGS $CPPFLAGS FILE` (Autoconf's manual,
-/// "Running the Compiler").
+/// Returns the job that compiles `source` to an object file: `$CC -c $CFLAGS $CPPFLAGS FILE`
+/// (Autoconf's manual, "Running the Compiler").
 ///
-/// The file is `conftest.c`, or `conftestN.c` if the number `N` isn't 0. A value is split at blanks only, and quotes in
-/// it have no meaning (own).
+/// The file is `conftest.c`, or `conftestN.c` if the number `N` isn't 0. A value is split at blanks
+/// only, and quotes in it have no meaning (own).
 ///
 /// # Errors
 ///
@@ -33,8 +33,10 @@ pub fn compile_job(
     source: &[u8],
     number: u64,
 ) -> Result<Job, JobFault>
-    ensures job { IfOk result (λ job. job_of (Compile source.now) number vars.now defs.now ≡ Some job) }
-    ensures fault { IsErrOf result NoCompiler → job_of (Compile source.now) number vars.now defs.now ≡ None }
+    ensures job { IfOk result (λ job.
+        job_of (Compile source.now) number vars.now defs.now ≡ Some job) }
+    ensures fault { IsErrOf result NoCompiler
+        → job_of (Compile source.now) number vars.now defs.now ≡ None }
 {
     let mut words = compiler(alloc, vars)?;
     if words.as_slice().is_empty() {
@@ -54,8 +56,14 @@ fn linked(
     source: &[u8],
     number: u64,
 ) -> Result<Job, JobFault>
-    ensures job { IfOk result (λ job. job_if (probe.words_of vars.now (codes "CC")) (probe.link_words_with (fields libraries.now) number vars.now) number defs.now source.now ≡ Some job) }
-    ensures fault { IsErrOf result NoCompiler → job_if (probe.words_of vars.now (codes "CC")) (probe.link_words_with (fields libraries.now) number vars.now) number defs.now source.now ≡ None }
+    ensures job { IfOk result (λ job.
+        job_if (probe.words_of vars.now (codes "CC"))
+        (probe.link_words_with (fields libraries.now) number vars.now) number defs.now
+        source.now ≡ Some job) }
+    ensures fault { IsErrOf result NoCompiler
+        → job_if (probe.words_of vars.now (codes "CC"))
+        (probe.link_words_with (fields libraries.now) number vars.now) number defs.now
+        source.now ≡ None }
 {
     let mut words = compiler(alloc, vars)?;
     if words.as_slice().is_empty() {
@@ -66,10 +74,11 @@ fn linked(
     Ok(job)
 }
 
-/// Returns the job that compiles and links `source` to a program: `$CC -o OUT $CFLAGS $CPPFLAGS $LDFLAGS FILE $LIBS`
-/// (Autoconf's manual, "Running the Linker").
+/// Returns the job that compiles and links `source` to a program:
+/// `$CC -o OUT $CFLAGS $CPPFLAGS $LDFLAGS FILE $LIBS` (Autoconf's manual, "Running the Linker").
 ///
-/// The program is `conftest`, or `conftestN` if the number `N` isn't 0. The file and the words are as in [`compile_job`].
+/// The program is `conftest`, or `conftestN` if the number `N` isn't 0. The file and the words are
+/// as in [`compile_job`].
 ///
 /// # Errors
 ///
@@ -82,8 +91,10 @@ pub fn link_job(
     source: &[u8],
     number: u64,
 ) -> Result<Job, JobFault>
-    ensures job { IfOk result (λ job. job_of (Link source.now) number vars.now defs.now ≡ Some job) }
-    ensures fault { IsErrOf result NoCompiler → job_of (Link source.now) number vars.now defs.now ≡ None }
+    ensures job { IfOk result (λ job.
+        job_of (Link source.now) number vars.now defs.now ≡ Some job) }
+    ensures fault { IsErrOf result NoCompiler
+        → job_of (Link source.now) number vars.now defs.now ≡ None }
 {
     linked(
         alloc,
@@ -95,7 +106,8 @@ pub fn link_job(
     )
 }
 
-/// Returns the job of [`link_job`] for variables in which LIBS has this value. The variables stay as they are.
+/// Returns the job of [`link_job`] for variables in which LIBS has this value. The variables stay
+/// as they are.
 ///
 /// # Errors
 ///
@@ -108,14 +120,18 @@ pub fn link_job_with(
     source: &[u8],
     number: u64,
 ) -> Result<Job, JobFault>
-    ensures job { IfOk result (λ job. job_of (Link source.now) number (with_entry vars.now (codes "LIBS") libraries.now) defs.now ≡ Some job) }
-    ensures fault { IsErrOf result NoCompiler → job_of (Link source.now) number (with_entry vars.now (codes "LIBS") libraries.now) defs.now ≡ None }
+    ensures job { IfOk result (λ job.
+        job_of (Link source.now) number (with_entry vars.now (codes "LIBS") libraries.now) defs.now
+        ≡ Some job) }
+    ensures fault { IsErrOf result NoCompiler
+        → job_of (Link source.now) number (with_entry vars.now (codes "LIBS") libraries.now)
+        defs.now ≡ None }
 {
     linked(alloc, vars, libraries, defs, source, number)
 }
 
-/// Returns the job that preprocesses `source`: `$CPP $CPPFLAGS FILE`, or `$CC -E $CPPFLAGS FILE` if CPP is unset or has
-/// no word (Autoconf's manual, "Running the Preprocessor").
+/// Returns the job that preprocesses `source`: `$CPP $CPPFLAGS FILE`, or `$CC -E $CPPFLAGS FILE` if
+/// CPP is unset or has no word (Autoconf's manual, "Running the Preprocessor").
 ///
 /// The file and the words are as in [`compile_job`].
 ///
@@ -130,8 +146,10 @@ pub fn preproc_job(
     source: &[u8],
     number: u64,
 ) -> Result<Job, JobFault>
-    ensures job { IfOk result (λ job. job_of (Preprocess source.now) number vars.now defs.now ≡ Some job) }
-    ensures fault { IsErrOf result NoCompiler → job_of (Preprocess source.now) number vars.now defs.now ≡ None }
+    ensures job { IfOk result (λ job.
+        job_of (Preprocess source.now) number vars.now defs.now ≡ Some job) }
+    ensures fault { IsErrOf result NoCompiler
+        → job_of (Preprocess source.now) number vars.now defs.now ≡ None }
 {
     let mut words = preprocessor(alloc, vars)?;
     if words.as_slice().is_empty() {
@@ -142,8 +160,8 @@ pub fn preproc_job(
     Ok(job)
 }
 
-/// Returns the job that runs the program of the link job with this number: `./conftest`, or `./conftestN` (Autoconf's
-/// manual, "Runtime").
+/// Returns the job that runs the program of the link job with this number: `./conftest`, or
+/// `./conftestN` (Autoconf's manual, "Runtime").
 #[tactic(auto, unfolding(crew_jobs::specs::Probe::run_of))]
 pub fn run_job(alloc: Global, number: u64) -> Result<Job, AllocError>
     ensures { IfOk result (λ job. job ≡ run_of number) }
@@ -164,7 +182,8 @@ fn program_path(alloc: Global, number: u64) -> Result<Vec<u8>, AllocError>
     Ok(path)
 }
 
-/// Returns the job that succeeds if `file` is a regular file that may be executed. A shell tests it with POSIX's `test` (own).
+/// Returns the job that succeeds if `file` is a regular file that may be executed. A shell tests it
+/// with POSIX's `test` (own).
 #[tactic(auto, unfolding(crew_jobs::specs::Probe::path_of))]
 pub fn path_job(alloc: Global, file: &[u8]) -> Result<Job, AllocError>
     ensures { IfOk result (λ job. job ≡ path_of file.now) }
@@ -194,7 +213,12 @@ fn with_conftest(
     source: &[u8],
     number: u64,
 ) -> Result<Job, AllocError>
-    ensures { IfOk result (λ job. job ≡ record { words = words; file = Some (file_name number, conftest_text defs.now source.now) }) }
+    ensures { IfOk result (λ job.
+        job
+        ≡ record {
+          words = words;
+          file = Some (file_name number, conftest_text defs.now source.now);
+        }) }
 {
     let name = Bytes::from_vec(file_name(alloc, number)?);
     let text = conftest_text(alloc, defs, source)?;

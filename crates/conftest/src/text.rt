@@ -61,7 +61,8 @@ fn put_defines(text: &mut Vec<u8>, defs: &Defs) -> Result<(), AllocError>
 
 #[tactic(auto, unfolding(crew_jobs::specs::Probe::define_line))]
 fn put_define(text: &mut Vec<u8>, name: &[u8], value: &[u8]) -> Result<(), AllocError>
-    ensures { OnOk result (text.new.items ≡ text.old.items ++ probe.define_line (name.now, value.now)) }
+    ensures { OnOk result (
+        text.new.items ≡ text.old.items ++ probe.define_line (name.now, value.now)) }
 {
     text.extend_from_slice(b"#define ")?;
     text.extend_from_slice(name)?;

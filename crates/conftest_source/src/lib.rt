@@ -1,11 +1,12 @@
 //! The C programs that checks compile, and the default includes.
 //!
-//! A check of a header, function, declaration or type makes its program here. A program of a configure.ac, as
-//! AC_LANG_PROGRAM gives it, gets its `main` from [`program_source`]. The texts of the programs are own: no manual
-//! gives them. The crate `conftest` writes the definitions made so far before them.
+//! A check of a header, function, declaration or type makes its program here. A program of a
+//! configure.ac, as AC_LANG_PROGRAM gives it, gets its `main` from [`program_source`]. The texts of
+//! the programs are own: no manual gives them. The crate `conftest` writes the definitions made so
+//! far before them.
 //!
-//! For example, `header_source(alloc, default_includes(), b"sys/stat.h")` returns the default includes followed by
-//! `#include <sys/stat.h>`.
+//! For example, `header_source(alloc, default_includes(), b"sys/stat.h")` returns the default
+//! includes followed by `#include <sys/stat.h>`.
 //!
 //! A call that returns a `Result` fails only if memory runs out, and no other call allocates.
 //!

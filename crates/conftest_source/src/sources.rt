@@ -9,8 +9,8 @@ use std::alloc::{AllocError, Global};
 const DEFAULT_INCLUDES: &[u8] =
     b"#include <stddef.h>\n#include <stdio.h>\n#include <stdlib.h>\n#include <string.h>\n#include <sys/types.h>\n";
 
-/// Returns the includes of a program for which no others are given (Autoconf's manual, "Default Includes"; which
-/// headers these are is own).
+/// Returns the includes of a program for which no others are given (Autoconf's manual, "Default
+/// Includes"; which headers these are is own).
 #[tactic(auto, unfolding(crate::specs::Sources::default_includes))]
 pub fn default_includes() -> &'static [u8]
     ensures { result.now ≡ sources.default_includes }
@@ -35,7 +35,8 @@ pub fn put_ended(text: &mut Vec<u8>, more: &[u8]) -> Result<(), AllocError>
     Ok(())
 }
 
-/// Returns a whole program: the prologue, and then a function `main` with the body (Autoconf's manual, "Generating Sources").
+/// Returns a whole program: the prologue, and then a function `main` with the body (Autoconf's
+/// manual, "Generating Sources").
 #[tactic(auto, unfolding(crate::specs::Sources::program_source))]
 pub fn program_source(alloc: Global, prologue: &[u8], body: &[u8]) -> Result<Bytes, AllocError>
     ensures { IfOk result (λ text. text ≡ sources.program_source prologue.now body.now) }
@@ -47,7 +48,8 @@ pub fn program_source(alloc: Global, prologue: &[u8], body: &[u8]) -> Result<Byt
     Ok(Bytes::from_vec(text))
 }
 
-/// Returns a program that includes `header` after `includes`, to be compiled (Autoconf's manual, "Generic Headers").
+/// Returns a program that includes `header` after `includes`, to be compiled (Autoconf's manual,
+/// "Generic Headers").
 #[tactic(auto, unfolding(crate::specs::Sources::header_source))]
 pub fn header_source(alloc: Global, includes: &[u8], header: &[u8]) -> Result<Bytes, AllocError>
     ensures { IfOk result (λ text. text ≡ sources.header_source includes.now header.now) }
@@ -60,7 +62,8 @@ pub fn header_source(alloc: Global, includes: &[u8], header: &[u8]) -> Result<By
     Ok(Bytes::from_vec(text))
 }
 
-/// Returns a program that declares the function and calls it, to be linked (Autoconf's manual, "Generic Functions").
+/// Returns a program that declares the function and calls it, to be linked (Autoconf's manual,
+/// "Generic Functions").
 #[tactic(auto, unfolding(crate::specs::Sources::function_source))]
 pub fn function_source(alloc: Global, name: &[u8]) -> Result<Bytes, AllocError>
     ensures { IfOk result (λ text. text ≡ sources.function_source name.now) }
@@ -70,7 +73,8 @@ pub fn function_source(alloc: Global, name: &[u8]) -> Result<Bytes, AllocError>
     program_source(alloc, prologue.as_slice(), body.as_slice())
 }
 
-/// Returns a program that uses the name unless it is a macro, to be compiled (Autoconf's manual, "Generic Declarations").
+/// Returns a program that uses the name unless it is a macro, to be compiled (Autoconf's manual,
+/// "Generic Declarations").
 #[tactic(auto, unfolding(crate::specs::Sources::declaration_source))]
 pub fn declaration_source(alloc: Global, includes: &[u8], name: &[u8]) -> Result<Bytes, AllocError>
     ensures { IfOk result (λ text. text ≡ sources.declaration_source includes.now name.now) }
@@ -79,7 +83,8 @@ pub fn declaration_source(alloc: Global, includes: &[u8], name: &[u8]) -> Result
     program_source(alloc, includes, body.as_slice())
 }
 
-/// Returns a program that takes the size of the named type or value, to be compiled (Autoconf's manual, "Generic Types").
+/// Returns a program that takes the size of the named type or value, to be compiled (Autoconf's
+/// manual, "Generic Types").
 #[tactic(auto, unfolding(crate::specs::Sources::type_source))]
 pub fn type_source(alloc: Global, includes: &[u8], name: &[u8]) -> Result<Bytes, AllocError>
     ensures { IfOk result (λ text. text ≡ sources.type_source includes.now name.now) }
@@ -88,10 +93,11 @@ pub fn type_source(alloc: Global, includes: &[u8], name: &[u8]) -> Result<Bytes,
     program_source(alloc, includes, body.as_slice())
 }
 
-/// Returns the program of [`type_source`] with the name in parentheses, to be compiled (Autoconf's manual, "Generic Types").
+/// Returns the program of [`type_source`] with the name in parentheses, to be compiled (Autoconf's
+/// manual, "Generic Types").
 ///
-/// In parentheses a value still has a size, but a type has none. If the program of [`type_source`] compiles and this
-/// one doesn't, the name is a type.
+/// In parentheses a value still has a size, but a type has none. If the program of [`type_source`]
+/// compiles and this one doesn't, the name is a type.
 #[tactic(auto, unfolding(crate::specs::Sources::second_type_source))]
 pub fn second_type_source(alloc: Global, includes: &[u8], name: &[u8]) -> Result<Bytes, AllocError>
     ensures { IfOk result (λ text. text ≡ sources.second_type_source includes.now name.now) }
@@ -117,7 +123,8 @@ fn around_twice(
     between: &[u8],
     back: &[u8],
 ) -> Result<Vec<u8>, AllocError>
-    ensures { IfOk result (λ v. v.items ≡ front.now ++ text.now ++ between.now ++ text.now ++ back.now) }
+    ensures { IfOk result (λ v.
+        v.items ≡ front.now ++ text.now ++ between.now ++ text.now ++ back.now) }
 {
     let mut all = around(alloc, front, text, between)?;
     all.extend_from_slice(text)?;

@@ -92,7 +92,8 @@ impl<L: Launcher + Drop> Children<L> {
         started_in(self.events.as_slice())
     }
 
-    /// Returns the place of the first child that has ended, in the order in which they were started, or 0 if none has.
+    /// Returns the place of the first child that has ended, in the order in which they were
+    /// started, or 0 if none has.
     ///
     /// It looks once at each child, and waits for none.
     pub(crate) fn place_of_ended(&mut self) -> usize
@@ -103,8 +104,8 @@ impl<L: Launcher + Drop> Children<L> {
         place_of_ended(&mut self.table, &self.slots)
     }
 
-    /// Waits for the end of the child in a place, counted from 0 in the order in which the children in flight were started. Frees its
-    /// slot, and returns the slot with the reply.
+    /// Waits for the end of the child in a place, counted from 0 in the order in which the children
+    /// in flight were started. Frees its slot, and returns the slot with the reply.
     pub(crate) fn end_at(&mut self, place: usize) -> (usize, Reply)
         requires flying { IsSomeBusy self.old.account.events }
         requires place { 0 < place → place < length (slots_in_flight self.old.account.events) }
@@ -229,7 +230,8 @@ fn launched<L: Launcher>(
     number: u64,
 ) -> Result<(), Refused>
     requires { slot < 16 }
-    ensures taken { OnOk result (Adds (L.calls launcher.old) (L.calls launcher.new) (launch job.now)) }
+    ensures taken { OnOk result (
+        Adds (L.calls launcher.old) (L.calls launcher.new) (launch job.now)) }
     ensures child { OnOk result (Starts table.old table.new slot number) }
     ensures refused { OnErr result (Adds (L.calls launcher.old) (L.calls launcher.new) []
         ⊎ Adds (L.calls launcher.old) (L.calls launcher.new) (failing job.now)) }
@@ -239,7 +241,8 @@ fn launched<L: Launcher>(
     ensures events { events.new.items ≡ events.old.items }
     ensures slots { slots.new.items ≡ slots.old.items }
     ensures grown { vec_capacity events.old ≤ vec_capacity events.new }
-    ensures room { OnOk result (length events.new.items + length slots.new.items + 2 ≤ vec_capacity events.new) }
+    ensures room { OnOk result (
+        length events.new.items + length slots.new.items + 2 ≤ vec_capacity events.new) }
     ensures slot { OnOk result (length slots.new.items < deque_capacity slots.new) }
 {
     if !make_room(events, slots) {
@@ -259,12 +262,14 @@ fn launched<L: Launcher>(
     }
 }
 
-/// Reserves room for the event of a start, and for the ends of its child and of those in flight. Returns whether there is room.
+/// Reserves room for the event of a start, and for the ends of its child and of those in flight.
+/// Returns whether there is room.
 fn make_room(events: &mut Vec<CrewEvent>, slots: &mut VecDeque<usize>) -> bool
     ensures events { events.new.items ≡ events.old.items }
     ensures slots { slots.new.items ≡ slots.old.items }
     ensures grown { vec_capacity events.old ≤ vec_capacity events.new }
-    ensures room { OnTrue result (length events.new.items + length slots.new.items + 2 ≤ vec_capacity events.new) }
+    ensures room { OnTrue result (
+        length events.new.items + length slots.new.items + 2 ≤ vec_capacity events.new) }
     ensures slot { OnTrue result (length slots.new.items < deque_capacity slots.new) }
 {
     let room = slots.len() + 2;

@@ -5,7 +5,8 @@ ghost use Rattle.std.specs.Prelude.{◌≡◌};
 use crew_trait::Reply;
 use std::marker::Model;
 
-/// A child of a crew in memory, with the reply that it will give, once for the caller and once for the account.
+/// A child of a crew in memory, with the reply that it will give, once for the caller and once for
+/// the account.
 #[derive(Drop)]
 pub struct Flight {
     slot: usize,

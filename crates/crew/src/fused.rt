@@ -47,7 +47,8 @@ impl<C: Crew + Drop> Model for Fused<C> {
 }
 
 impl<C: Crew + Drop> Fused<C> {
-    /// Returns a crew around `inner`, which refuses the `k`-th call of this kind from now on, counted from 1.
+    /// Returns a crew around `inner`, which refuses the `k`-th call of this kind from now on,
+    /// counted from 1.
     ///
     /// If `k` is 0, it passes on all calls.
     pub fn new(inner: C, kind: FuseKind, k: u64) -> Fused<C>
@@ -80,17 +81,23 @@ impl<C: Crew + Drop> Crew for Fused<C> {
         requires free { busy slot (account_of C.account self.old).events ≡ false }
         requires attempts { (account_of C.account self.old).attempts < 2 ^ 62 }
         requires failures { (account_of C.account self.old).failures < 2 ^ 62 }
-        ensures number { (account_of C.account self.new).attempts ≡ (account_of C.account self.old).attempts + 1 }
-        ensures taken { OnOk result ((account_of C.account self.new).events
-            ≡ (account_of C.account self.old).events ++ Started slot job ((account_of C.account self.old).attempts + 1) ∷ []) }
+        ensures number { (account_of C.account self.new).attempts
+            ≡ (account_of C.account self.old).attempts + 1 }
+        ensures taken { OnOk result (
+            (account_of C.account self.new).events
+            ≡ (account_of C.account self.old).events
+            ++ Started slot job ((account_of C.account self.old).attempts + 1) ∷ []) }
         ensures taken_count { OnOk result
             ((account_of C.account self.new).failures ≡ (account_of C.account self.old).failures) }
         ensures refused { OnErr result
             ((account_of C.account self.new).events ≡ (account_of C.account self.old).events) }
-        ensures refused_count { OnErr result
-            ((account_of C.account self.new).failures ≡ (account_of C.account self.old).failures + 1) }
-        ensures is_refused { OnTrue (is_due Start self.old.kind self.old.left) (is_ok result ≡ false) }
-        ensures unseen { OnTrue (is_due Start self.old.kind self.old.left) (self.new.inner ≡ self.old.inner) }
+        ensures refused_count { OnErr result (
+            (account_of C.account self.new).failures
+            ≡ (account_of C.account self.old).failures + 1) }
+        ensures is_refused { OnTrue (is_due Start self.old.kind self.old.left)
+            (is_ok result ≡ false) }
+        ensures unseen { OnTrue (is_due Start self.old.kind self.old.left)
+            (self.new.inner ≡ self.old.inner) }
         ensures kind { self.new.kind ≡ self.old.kind }
         ensures left { self.new.left ≡ left_after Start self.old.kind self.old.left }
         ensures later { self.new.later
@@ -111,16 +118,20 @@ impl<C: Crew + Drop> Crew for Fused<C> {
         requires flying { IsSomeBusy (account_of C.account self.old).events }
         requires failures { (account_of C.account self.old).failures < 2 ^ 62 }
         ensures was_busy { busy result.0 (account_of C.account self.old).events ≡ true }
-        ensures ended { (account_of C.account self.new).events ≡ (account_of C.account self.old).events
+        ensures ended { (account_of C.account self.new).events
+            ≡ (account_of C.account self.old).events
             ++ Ended result.0 result.1 (account_of C.account self.old).attempts ∷ [] }
-        ensures number { (account_of C.account self.new).attempts ≡ (account_of C.account self.old).attempts }
+        ensures number { (account_of C.account self.new).attempts
+            ≡ (account_of C.account self.old).attempts }
         ensures reply { result.1 ≢ StartRefused }
         ensures count { (account_of C.account self.new).failures
             ≡ (account_of C.account self.old).failures + failure_of result.1 }
-        ensures is_refused { OnTrue (is_due End self.old.kind self.old.left) (result.1 ≡ EndRefused) }
+        ensures is_refused { OnTrue (is_due End self.old.kind self.old.left)
+            (result.1 ≡ EndRefused) }
         ensures kind { self.new.kind ≡ self.old.kind }
         ensures left { self.new.left ≡ left_after End self.old.kind self.old.left }
-        ensures later { self.new.later ≡ later_after (is_due End self.old.kind self.old.left) true self.old.later }
+        ensures later { self.new.later
+            ≡ later_after (is_due End self.old.kind self.old.left) true self.old.later }
     {
         let (slot, reply) = self.inner.next();
         if is_due(FuseKind::End, self.kind, &mut self.left) {
@@ -135,7 +146,8 @@ impl<C: Crew + Drop> Crew for Fused<C> {
 impl<C: Crew + Causes + Drop> Causes for Fused<C> {
     ghost known = { known_of C.known };
 
-    /// Returns what the crew inside knows. After a start that it didn't see nothing is known, because it counts its children otherwise.
+    /// Returns what the crew inside knows. After a start that it didn't see nothing is known,
+    /// because it counts its children otherwise.
     fn cause(&self, child: u64) -> Option<&[u8]> {
         if is_unseen(self.kind, self.later) {
             return None;

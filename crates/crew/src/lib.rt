@@ -10,17 +10,18 @@
 //!
 //! "own" marks a rule that no manual gives.
 //!
-//! [`MemoryCrew`], in `memory`, is a crew for tests. It answers from a list of replies, in a given `order`, and lists its
-//! calls (`event`); `specs/Scripted.antt` defines the effect of each call, and `flight` is one of its children.
-//! [`ProcessCrew`], in `process`, and [`ReadyCrew`], in `ready`, start real children by the crate
-//! `crew_launch`. They differ in which child `next` ends. `children` keeps their account. `table` has
-//! the child of each slot, the child that ended last, and why calls were refused, and `numbered` is
-//! one of these children. `specs/Runs.antt` defines the jobs that were started, and
-//! `specs/Holding.antt` which child is in a slot, and that a reply is that of its child. All crews
-//! use `failures`, which counts refused calls, `counting`, which counts children, and `room`.
+//! [`MemoryCrew`], in `memory`, is a crew for tests. It answers from a list of replies, in a given
+//! `order`, and lists its calls (`event`); `specs/Scripted.antt` defines the effect of each call,
+//! and `flight` is one of its children. [`ProcessCrew`], in `process`, and [`ReadyCrew`], in
+//! `ready`, start real children by the crate `crew_launch`. They differ in which child `next` ends.
+//! `children` keeps their account. `table` has the child of each slot, the child that ended last,
+//! and why calls were refused, and `numbered` is one of these children. `specs/Runs.antt` defines
+//! the jobs that were started, and `specs/Holding.antt` which child is in a slot, and that a reply
+//! is that of its child. All crews use `failures`, which counts refused calls, `counting`, which
+//! counts children, and `room`.
 //!
-//! [`Fused`], in `fused`, is a crew around any other crew, for tests: it refuses one start or one end. `specs/Fused.antt`
-//! defines its account by the account of the crew inside.
+//! [`Fused`], in `fused`, is a crew around any other crew, for tests: it refuses one start or one
+//! end. `specs/Fused.antt` defines its account by the account of the crew inside.
 #![tactic(auto)]
 
 mod children;

@@ -19,10 +19,11 @@ use crew_trait::{Crew, CrewEvent, Refused, Reply};
 use std::alloc::{AllocError, Global};
 use std::marker::Model;
 
-/// A crew for tests: answers the n-th attempted start with the n-th reply of a list, and ends its children in a given order.
+/// A crew for tests: answers the n-th attempted start with the n-th reply of a list, and ends its
+/// children in a given order.
 ///
-/// A start is refused if its reply is [`Reply::StartRefused`] or the list has no more replies, and only then. The calls
-/// of [`Crew`] don't allocate.
+/// A start is refused if its reply is [`Reply::StartRefused`] or the list has no more replies, and
+/// only then. The calls of [`Crew`] don't allocate.
 #[derive(Drop)]
 pub struct MemoryCrew {
     // The replies to come, the next one last. `copies` is equal, for the account.
@@ -84,7 +85,8 @@ impl MemoryCrew {
         })
     }
 
-    /// Returns the calls so far, in order. Starts after the end of the list of replies are left out.
+    /// Returns the calls so far, in order. Starts after the end of the list of replies are left
+    /// out.
     pub fn events(&self) -> &[Event]
         ensures listed { result.now ≡ self.now.listed }
         // If no call is listed, no start was taken.
@@ -170,7 +172,8 @@ impl Crew for MemoryCrew {
             ≡ self.old.account.events ++ Started slot job (self.old.account.attempts + 1) ∷ []) }
         ensures taken_count { OnOk result (self.new.account.failures ≡ self.old.account.failures) }
         ensures refused { OnErr result (self.new.account.events ≡ self.old.account.events) }
-        ensures refused_count { OnErr result (self.new.account.failures ≡ self.old.account.failures + 1) }
+        ensures refused_count { OnErr result (
+            self.new.account.failures ≡ self.old.account.failures + 1) }
         ensures after { self.new ≡ after_start slot job self.old }
         ensures answer { is_ok result ≡ is_taken self.old.replies }
     {
@@ -197,7 +200,8 @@ impl Crew for MemoryCrew {
             ≡ self.old.account.events ++ Ended result.0 result.1 self.old.account.attempts ∷ [] }
         ensures number { self.new.account.attempts ≡ self.old.account.attempts }
         ensures reply { result.1 ≢ Reply.StartRefused }
-        ensures count { self.new.account.failures ≡ self.old.account.failures + failure_of result.1 }
+        ensures count { self.new.account.failures
+            ≡ self.old.account.failures + failure_of result.1 }
         ensures after { self.new ≡ after_next self.old }
         ensures answer { result ≡ ((ending self.old).slot, (ending self.old).reply) }
     {

@@ -13,7 +13,8 @@ pub enum Order {
     Oldest,
     /// The child that was started last.
     Youngest,
-    /// The child in the next slot of the list. If that slot has no child, or the list has ended, the oldest child.
+    /// The child in the next slot of the list. If that slot has no child, or the list has ended,
+    /// the oldest child.
     Slots(SlotList),
 }
 
@@ -49,7 +50,8 @@ impl SlotList {
     }
 }
 
-/// Returns the index of the child that ends next. If the order is a list of slots, its first slot is removed.
+/// Returns the index of the child that ends next. If the order is a list of slots, its first slot
+/// is removed.
 pub(crate) fn next_place(order: &mut Order, children: &[Flight]) -> usize
     requires { 0 < length children.now }
     ensures place { result ≡ scripted.place order.old children.now }

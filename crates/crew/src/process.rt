@@ -21,14 +21,16 @@ use std::rt::Files;
 
 /// A crew that starts real children, in the directory and with the environment of the program.
 ///
-/// `start` writes the conftest to a new file, in the place of a regular file or a link of its name if there is one, and starts the
-/// child with empty standard input; its standard output is dropped. The start is refused if the job has no word, if a word isn't
-/// UTF-8, if the conftest can't be written or the child can't be started, or if memory for its record runs out.
+/// `start` writes the conftest to a new file, in the place of a regular file or a link of its name
+/// if there is one, and starts the child with empty standard input; its standard output is dropped.
+/// The start is refused if the job has no word, if a word isn't UTF-8, if the conftest can't be
+/// written or the child can't be started, or if memory for its record runs out.
 ///
-/// `next` waits for the oldest child. It reads what the child writes to standard error, with at most 1,024 reads of at
-/// most 4,096 bytes each, and keeps the first 65,536 bytes. A read that a signal interrupts is tried up to 1,024 times,
-/// and counts once. It then closes the pipe and waits for the child. The end is refused if a read or the wait fails, or
-/// if memory for its record runs out. The child is waited for even if a read fails.
+/// `next` waits for the oldest child. It reads what the child writes to standard error, with at
+/// most 1,024 reads of at most 4,096 bytes each, and keeps the first 65,536 bytes. A read that a
+/// signal interrupts is tried up to 1,024 times, and counts once. It then closes the pipe and waits
+/// for the child. The end is refused if a read or the wait fails, or if memory for its record runs
+/// out. The child is waited for even if a read fails.
 #[derive(Drop)]
 pub struct ProcessCrew<R: Files + Processes + Drop> {
     children: Children<DiskLauncher<System<R>>>,
@@ -58,9 +60,10 @@ impl<R: Files + Processes + Drop> ProcessCrew<R> {
         Ok(ProcessCrew { children })
     }
 
-    /// Returns a crew that has started nothing, and that removes a file before the first start that it attempts, such as a log that
-    /// an earlier run left. Only a regular file or a link is removed, and that it can't be is not reported. If the system refuses to
-    /// look at it, that start is refused.
+    /// Returns a crew that has started nothing, and that removes a file before the first start that
+    /// it attempts, such as a log that an earlier run left. Only a regular file or a link is
+    /// removed, and that it can't be is not reported. If the system refuses to look at it, that
+    /// start is refused.
     ///
     /// # Errors
     ///

@@ -19,10 +19,12 @@ use std::marker::Model;
 use std::process::Processes;
 use std::rt::Files;
 
-/// A crew of real children, as [`ProcessCrew`](crate::ProcessCrew), whose `next` takes the first child that has ended.
+/// A crew of real children, as [`ProcessCrew`](crate::ProcessCrew), whose `next` takes the first
+/// child that has ended.
 ///
-/// `next` looks once at each child, from the oldest on, and takes the first that has ended. If none has, it waits for the oldest, which
-/// may write to standard error until then. So no child is polled.
+/// `next` looks once at each child, from the oldest on, and takes the first that has ended. If none
+/// has, it waits for the oldest, which may write to standard error until then. So no child is
+/// polled.
 #[derive(Drop)]
 pub struct ReadyCrew<R: Files + Processes + Drop> {
     children: Children<DiskLauncher<System<R>>>,
@@ -52,8 +54,8 @@ impl<R: Files + Processes + Drop> ReadyCrew<R> {
         Ok(ReadyCrew { children })
     }
 
-    /// Returns a crew that has started nothing, and that removes a file before the first start that it attempts, as
-    /// [`ProcessCrew::removing`](crate::ProcessCrew::removing) says.
+    /// Returns a crew that has started nothing, and that removes a file before the first start that
+    /// it attempts, as [`ProcessCrew::removing`](crate::ProcessCrew::removing) says.
     ///
     /// # Errors
     ///

@@ -15,7 +15,8 @@ use std::alloc::Global;
 use std::io;
 use std::process::{ExitStatus, OpenProcess};
 
-/// Reads what the child writes to standard error, and then waits for the child, even if the reads failed.
+/// Reads what the child writes to standard error, and then waits for the child, even if the reads
+/// failed.
 ///
 /// The pipe is closed before the wait. Returns its reply, and if that is [`Reply::EndRefused`] the
 /// cause.

@@ -29,11 +29,13 @@ pub trait Launcher {
     ///
     /// Fails if the system refuses that, and then the file may be there without its whole text.
     fn write(&mut self, name: &str, text: &[u8]) -> io::Result<()>
-        ensures done { OnOk result (Adds (calls self.old) (calls self.new) (Wrote name.now text.now ∷ [])) }
+        ensures done { OnOk result (
+            Adds (calls self.old) (calls self.new) (Wrote name.now text.now ∷ [])) }
         ensures refused { OnErr result (Adds (calls self.old) (calls self.new) []) }
         ensures once { stale self.new ≡ None };
 
-    /// Starts the command with empty standard input. Its standard output is dropped, and its standard error can be read.
+    /// Starts the command with empty standard input. Its standard output is dropped, and its
+    /// standard error can be read.
     ///
     /// # Errors
     ///
@@ -62,17 +64,22 @@ impl<D: Disk + Processes> Model for DiskLauncher<D> {
 }
 
 impl<D: Disk + Processes> DiskLauncher<D> {
-    /// Returns a launcher. Before it first writes a file or starts a command, it removes the file that is stale, if there is one.
+    /// Returns a launcher. Before it first writes a file or starts a command, it removes the file
+    /// that is stale, if there is one.
     pub fn new(system: D, stale: Option<&'static str>) -> DiskLauncher<D>
-        ensures { result ≡ record { disk = system; stale = option_map (λ name. name.now) stale.entry } }
+        ensures { result
+            ≡ record { disk = system; stale = option_map (λ name. name.now) stale.entry } }
     {
         DiskLauncher { system, stale }
     }
 
     /// Removes the file that is stale, once.
     fn clear(&mut self) -> io::Result<()>
-        ensures cleared { OnOk result (DoesAll (D.known self.old.disk) (D.known self.new.disk) (clearing_stale self.old.stale)) }
-        ensures refused { OnErr result (DoesAll (D.known self.old.disk) (D.known self.new.disk) (λ _. [])) }
+        ensures cleared { OnOk result (
+            DoesAll (D.known self.old.disk) (D.known self.new.disk)
+            (clearing_stale self.old.stale)) }
+        ensures refused { OnErr result (
+            DoesAll (D.known self.old.disk) (D.known self.new.disk) (λ _. [])) }
         ensures once { self.new.stale ≡ None }
     {
         match self.stale.take() {
@@ -102,8 +109,12 @@ impl<D: Disk + Processes> Launcher for DiskLauncher<D> {
     }
 
     fn spawn(&mut self, command: &mut Command) -> io::Result<Child<D::Started>>
-        ensures started { OnOk result (DoesAll (D.known self.old.disk) (D.known self.new.disk) (clearing_stale self.old.stale)) }
-        ensures failed { OnErr result (DoesFront (D.known self.old.disk) (D.known self.new.disk) (clearing_stale self.old.stale)) }
+        ensures started { OnOk result (
+            DoesAll (D.known self.old.disk) (D.known self.new.disk)
+            (clearing_stale self.old.stale)) }
+        ensures failed { OnErr result (
+            DoesFront (D.known self.old.disk) (D.known self.new.disk)
+            (clearing_stale self.old.stale)) }
         ensures once { self.new.stale ≡ None }
     {
         self.clear()?;

@@ -8,15 +8,17 @@
 //!
 //! "own" marks a rule that no manual gives.
 //!
-//! [`Launcher`] is what writes files and starts commands; what is asked of a launcher is proved for every launcher.
-//! [`DiskLauncher`] is that of the program, over any disk that can start programs. It is proved by which steps it writes a file; that it
-//! starts the command only tests check. [`System`] is a real disk with its programs, of which nothing is known. If a start or an end is refused, a cause comes
-//! with it.
+//! [`Launcher`] is what writes files and starts commands; what is asked of a launcher is proved for
+//! every launcher. [`DiskLauncher`] is that of the program, over any disk that can start programs.
+//! It is proved by which steps it writes a file; that it starts the command only tests check.
+//! [`System`] is a real disk with its programs, of which nothing is known. If a start or an end is
+//! refused, a cause comes with it.
 //!
-//! Read `specs/Launch.antt`, which defines the requests for a job, `specs/Fresh.antt`, which defines what is done to files for them, and
-//! `specs/Ending.antt`, which defines the reply at the end of a child. `specs/Piped.antt` defines what is counted of its reads. Then
-//! read `launcher`, `fresh`, which writes new files, `system`, `pipe`, `started`, which is a child, `starting`, `ending`, and
-//! `diagnostics`, which reads what a child writes.
+//! Read `specs/Launch.antt`, which defines the requests for a job, `specs/Fresh.antt`, which
+//! defines what is done to files for them, and `specs/Ending.antt`, which defines the reply at the
+//! end of a child. `specs/Piped.antt` defines what is counted of its reads. Then read `launcher`,
+//! `fresh`, which writes new files, `system`, `pipe`, `started`, which is a child, `starting`,
+//! `ending`, and `diagnostics`, which reads what a child writes.
 #![tactic(auto)]
 
 mod diagnostics;

@@ -10,7 +10,8 @@ use std::marker::Model;
 /// How often a read is tried that a signal interrupts.
 const MOST_TRIES: u32 = 1024;
 
-/// A pipe, unless there is none or it is closed. It counts its reads, and keeps whether one gave its end and whether one failed.
+/// A pipe, unless there is none or it is closed. It counts its reads, and keeps whether one gave
+/// its end and whether one failed.
 #[derive(Drop)]
 pub struct Pipe<R: Read + Drop> {
     reader: Option<R>,
@@ -92,8 +93,11 @@ impl<R: Read + Drop> Pipe<R> {
 /// Reads once, if there is a reader.
 fn read_from<R: Read>(reader: &mut Option<R>, piece: &mut [u8]) -> io::Result<usize>
     ensures within { IfOk result (λ n. n ≤ length piece.new) }
-    ensures bytes { IfOk result (λ n. Consumes (left_of (option_map R.remaining reader.old)) (left_of (option_map R.remaining reader.new)) (take n piece.new)) }
-    ensures end { IfOk result (λ n. n ≡ 0 → 0 < length piece.old → IsAtEnd (left_of (option_map R.remaining reader.new))) }
+    ensures bytes { IfOk result (λ n.
+        Consumes (left_of (option_map R.remaining reader.old))
+        (left_of (option_map R.remaining reader.new)) (take n piece.new)) }
+    ensures end { IfOk result (λ n.
+        n ≡ 0 → 0 < length piece.old → IsAtEnd (left_of (option_map R.remaining reader.new))) }
 {
     match reader {
         Some(reader) => read_some(reader, piece),
@@ -104,7 +108,8 @@ fn read_from<R: Read>(reader: &mut Option<R>, piece: &mut [u8]) -> io::Result<us
 /// Reads once, and tries again if a signal interrupts the read. Fails if the last try does.
 fn read_some<R: Read>(pipe: &mut R, piece: &mut [u8]) -> io::Result<usize>
     ensures within { IfOk result (λ n. n ≤ length piece.new) }
-    ensures bytes { IfOk result (λ n. Consumes (R.remaining pipe.old) (R.remaining pipe.new) (take n piece.new)) }
+    ensures bytes { IfOk result (λ n.
+        Consumes (R.remaining pipe.old) (R.remaining pipe.new) (take n piece.new)) }
     ensures end { IfOk result (λ n. n ≡ 0 → 0 < length piece.old → IsAtEnd (R.remaining pipe.new)) }
 {
     for _ in 0..MOST_TRIES {

@@ -50,7 +50,8 @@ impl<P: OpenProcess + Drop> Started<P> {
         matches!(self.child.try_wait(), Ok(Some(_)))
     }
 
-    /// Reads what the child writes to standard error, and closes the pipe. Returns the text to keep.
+    /// Reads what the child writes to standard error, and closes the pipe. Returns the text to
+    /// keep.
     pub(crate) fn read(&mut self, alloc: Global) -> Result<Vec<u8>, Cause>
         requires { IsUnread self.old.pipe }
         ensures kept { IfOk result (λ text. IsKept self.old.pipe.left text.items) }

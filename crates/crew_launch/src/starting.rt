@@ -20,15 +20,16 @@ use std::process::Command;
 ///
 /// # Errors
 ///
-/// If the job has no word, if a word isn't UTF-8, if the conftest can't be written or the command can't be started, or if memory runs
-/// out, nothing is started, and the cause is returned.
+/// If the job has no word, if a word isn't UTF-8, if the conftest can't be written or the command
+/// can't be started, or if memory runs out, nothing is started, and the cause is returned.
 #[tactic(auto, using(crate::proofs::Naming::all_more, crate::proofs::Naming::of_words))]
 pub fn start_child<L: Launcher>(
     launcher: &mut L,
     alloc: Global,
     job: &Job,
 ) -> Result<Started<L::Process>, Cause>
-    ensures taken { OnOk result (Adds (L.calls launcher.old) (L.calls launcher.new) (launch job.now)) }
+    ensures taken { OnOk result (
+        Adds (L.calls launcher.old) (L.calls launcher.new) (launch job.now)) }
     ensures unread { IfOk result (λ child. IsUnread child.pipe) }
     ensures refused { OnErr result (Adds (L.calls launcher.old) (L.calls launcher.new) []
         ⊎ Adds (L.calls launcher.old) (L.calls launcher.new) (failing job.now)) }
@@ -129,7 +130,8 @@ fn spawn<L: Launcher>(
     ensures taken { OnOk result (Adds (L.calls launcher.old) (L.calls launcher.new)
         (Spawned (command_program command.old ∷ command_args command.old) ∷ [])) }
     ensures unread { IfOk result (λ child. IsUnread child.pipe) }
-    ensures refused { OnErr result (Adds (L.calls launcher.old) (L.calls launcher.new) (Failed ∷ [])) }
+    ensures refused { OnErr result (
+        Adds (L.calls launcher.old) (L.calls launcher.new) (Failed ∷ [])) }
     ensures cause { IfErr result (λ cause. IfSome cause (IsOfOne (program.now ∷ arguments.now))) }
     ensures stale { L.stale launcher.new ≡ None }
 {
@@ -139,7 +141,8 @@ fn spawn<L: Launcher>(
     }
 }
 
-/// Returns why a command wasn't started: a word with a NUL, which no word of a command can have, or else the error.
+/// Returns why a command wasn't started: a word with a NUL, which no word of a command can have, or
+/// else the error.
 #[tactic(auto, using(crate::proofs::Naming::of_first))]
 fn spawn_cause(alloc: Global, program: &[u8], arguments: &[Bytes], error: &io::Error) -> Cause
     ensures { IfSome result (IsOfOne (program.now ∷ arguments.now)) }
@@ -172,7 +175,8 @@ fn write_conftest<L: Launcher>(
     alloc: Global,
     file: &Option<(Bytes, Bytes)>,
 ) -> Result<(), Cause>
-    ensures written { OnOk result (Adds (L.calls launcher.old) (L.calls launcher.new) (writing file.now)) }
+    ensures written { OnOk result (
+        Adds (L.calls launcher.old) (L.calls launcher.new) (writing file.now)) }
     ensures refused { OnErr result (Adds (L.calls launcher.old) (L.calls launcher.new) []) }
     ensures cause { IfErr result (λ cause. IfSome cause (IsOfFile file.now)) }
     ensures stale { IsClearing (L.stale launcher.old) (L.stale launcher.new) }
@@ -189,7 +193,8 @@ fn write_file<L: Launcher>(
     name: &[u8],
     text: &[u8],
 ) -> Result<(), Cause>
-    ensures written { OnOk result (Adds (L.calls launcher.old) (L.calls launcher.new) (Wrote name.now text.now ∷ [])) }
+    ensures written { OnOk result (
+        Adds (L.calls launcher.old) (L.calls launcher.new) (Wrote name.now text.now ∷ [])) }
     ensures refused { OnErr result (Adds (L.calls launcher.old) (L.calls launcher.new) []) }
     ensures cause { IfErr result (λ cause. IfSome cause (IsCauseOf name.now)) }
     ensures stale { IsClearing (L.stale launcher.old) (L.stale launcher.new) }
@@ -203,7 +208,8 @@ fn write_file<L: Launcher>(
     }
 }
 
-/// Returns the program and the arguments, or an error if there is no word or the program isn't UTF-8.
+/// Returns the program and the arguments, or an error if there is no word or the program isn't
+/// UTF-8.
 #[tactic(auto, using(crate::proofs::Naming::of_first, crate::proofs::Naming::of_second))]
 fn program_of(alloc: Global, words: &[Bytes]) -> Result<(&str, &[Bytes]), Cause>
     ensures words { IfOk result (λ p. p.0.now ∷ p.1.now ≡ words.now) }
@@ -222,8 +228,10 @@ fn program_of(alloc: Global, words: &[Bytes]) -> Result<(&str, &[Bytes]), Cause>
 /// Adds arguments to a command, up to the first that isn't UTF-8. Returns whether all were added.
 fn put_arguments(command: &mut Command, arguments: &[Bytes]) -> Result<bool, AllocError>
     requires { command_args command.old ≡ [] }
-    ensures words { IfOk result (λ all. OnTrue all
-        ((command_program command.new ≡ command_program command.old) × (command_args command.new ≡ arguments.now))) }
+    ensures words { IfOk result (λ all.
+        OnTrue all (
+        (command_program command.new ≡ command_program command.old)
+        × (command_args command.new ≡ arguments.now))) }
     ensures fault { IfOk result (λ all. OnFalse all (¬ (All IsUtf8 arguments.now))) }
 {
     for argument in arguments {

@@ -36,7 +36,8 @@ fn put_words(row: &mut Row, words: &[Bytes])
 /// Appends what a child is for.
 fn put_purpose(row: &mut Row, told: Option<(&[u8], &[u8])>)
     ensures { (text : List ℕ) → IsShowing 396 row.old.line.items row.old.is_cut text
-        → IsShowing 396 row.new.line.items row.new.is_cut (text ++ child.purpose (option_map (λ t. t.0.now ++ t.1.now) told.entry)) }
+        → IsShowing 396 row.new.line.items row.new.is_cut
+        (text ++ child.purpose (option_map (λ t. t.0.now ++ t.1.now) told.entry)) }
 {
     if let Some((kind, name)) = told {
         put(row, b",");
@@ -48,7 +49,8 @@ fn put_purpose(row: &mut Row, told: Option<(&[u8], &[u8])>)
 /// Appends what is said of a child.
 fn put_child(row: &mut Row, number: u64, job: &Job)
     ensures { (text : List ℕ) → IsShowing 396 row.old.line.items row.old.is_cut text
-        → IsShowing 396 row.new.line.items row.new.is_cut (text ++ child.child_text number job.now) }
+        → IsShowing 396 row.new.line.items row.new.is_cut
+        (text ++ child.child_text number job.now) }
 {
     let mut digits = Buffer::new();
     put(row, b"acrun: child ");
@@ -71,7 +73,8 @@ fn ended(row: &Row, end: &[u8]) -> Text
 
 /// Returns a line with its mark, if it is cut, and with its newline.
 fn marked(row: &Row) -> Text
-    ensures { (text : List ℕ) → IsShowing 396 row.now.line.items row.now.is_cut text → result.items ≡ child.row text }
+    ensures { (text : List ℕ) → IsShowing 396 row.now.line.items row.now.is_cut text
+        → result.items ≡ child.row text }
 {
     if row.is_cut {
         return ended(row, b"...\n");

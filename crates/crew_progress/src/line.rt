@@ -44,7 +44,8 @@ fn erasure() -> Text
 
 /// Returns the erasure, and then the line, which isn't wrapped.
 fn after_erasure(line: &Line) -> Text
-    ensures { result.items ≡ progress.erasure ++ (progress.wrapping_off ++ line.now.items ++ progress.wrapping_on) }
+    ensures { result.items
+        ≡ progress.erasure ++ (progress.wrapping_off ++ line.now.items ++ progress.wrapping_on) }
 {
     let mut text = erasure();
     let _fits = text.try_extend_from_slice(&WRAPPING_OFF);
@@ -53,7 +54,8 @@ fn after_erasure(line: &Line) -> Text
     text
 }
 
-/// Returns what is written after so many starts and ends. As long as fewer have ended, the line says what was started last.
+/// Returns what is written after so many starts and ends. As long as fewer have ended, the line
+/// says what was started last.
 pub(crate) fn text_of(started: u64, ended: u64, subject: &Line) -> Text
     ensures { result.items ≡ progress.text_of started ended subject.now.items }
 {

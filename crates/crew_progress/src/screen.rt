@@ -28,7 +28,8 @@ pub(crate) fn empty<const N: usize>() -> Screen<N>
 
 /// Appends the form of one byte, if there is room and there was room before.
 fn put_form<const N: usize>(screen: &mut Screen<N>, form: &[u8])
-    ensures { (text : List ℕ) (byte : ℕ) → form.now ≡ shown_byte byte → IsShowing N screen.old.line.items screen.old.is_cut text
+    ensures { (text : List ℕ) (byte : ℕ) → form.now ≡ shown_byte byte
+        → IsShowing N screen.old.line.items screen.old.is_cut text
         → IsShowing N screen.new.line.items screen.new.is_cut (text ++ byte ∷ []) }
 {
     if screen.is_cut {

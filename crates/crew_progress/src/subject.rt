@@ -42,7 +42,8 @@ fn between<'a>(front: &[u8], back: &[u8], text: &'a [u8]) -> Option<&'a [u8]>
     after_front(front, last_line(before))
 }
 
-/// Returns what is tested, after a word for its kind, if the text tests something between this front of a line and its end.
+/// Returns what is tested, after a word for its kind, if the text tests something between this
+/// front of a line and its end.
 #[tactic(auto, unfolding(crate::specs::Subject::named))]
 fn named<'a>(
     kind: &'a [u8],
@@ -50,7 +51,8 @@ fn named<'a>(
     back: &[u8],
     text: &'a [u8],
 ) -> Option<(&'a [u8], &'a [u8])>
-    ensures { option_map (λ t. t.0.now ++ t.1.now) result ≡ subject.named kind.now front.now back.now text.now }
+    ensures { option_map (λ t. t.0.now ++ t.1.now) result
+        ≡ subject.named kind.now front.now back.now text.now }
 {
     let name = between(front, back, text)?;
     Some((kind, name))
@@ -111,7 +113,8 @@ pub(crate) fn told_by(file: &Option<(Bytes, Bytes)>) -> Option<(&[u8], &[u8])>
 
 /// Appends the bytes that fit.
 fn put_front(line: &mut Line, more: &[u8])
-    ensures { (text : List ℕ) → line.old.items ≡ subject.line_front text → line.new.items ≡ subject.line_front (text ++ more.now) }
+    ensures { (text : List ℕ) → line.old.items ≡ subject.line_front text
+        → line.new.items ≡ subject.line_front (text ++ more.now) }
 {
     let room = line.remaining_capacity().min(more.len());
     let _fits = line.try_extend_from_slice(&more[..room]);
@@ -119,7 +122,8 @@ fn put_front(line: &mut Line, more: &[u8])
 
 /// Appends a word after a blank.
 fn put_word(line: &mut Line, word: &Bytes)
-    ensures { (text : List ℕ) → line.old.items ≡ subject.line_front text → line.new.items ≡ subject.line_front (text ++ 32 ∷ word.now) }
+    ensures { (text : List ℕ) → line.old.items ≡ subject.line_front text
+        → line.new.items ≡ subject.line_front (text ++ 32 ∷ word.now) }
 {
     put_front(line, b" ");
     put_front(line, word.as_slice());
@@ -146,8 +150,8 @@ fn joined(kind: &[u8], name: &[u8]) -> Line
     line
 }
 
-/// Returns what the line of a terminal says of a job: what its conftest tests if the text shows that, and otherwise the words of the
-/// command.
+/// Returns what the line of a terminal says of a job: what its conftest tests if the text shows
+/// that, and otherwise the words of the command.
 #[tactic(auto, unfolding(crate::specs::Subject::subject_of))]
 pub(crate) fn subject_of(job: &Job) -> Line
     ensures { result.items ≡ subject.subject_of job.now }

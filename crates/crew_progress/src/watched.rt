@@ -18,10 +18,12 @@ use crew_jobs::Job;
 use std::io::Write;
 use std::marker::Model;
 
-/// A crew that shows its children on a stream (own): in the line of a terminal, which says how many were started, how many have ended
-/// and what was started last, or in a line of its own for each that is started, which has its number and its words.
+/// A crew that shows its children on a stream (own): in the line of a terminal, which says how many
+/// were started, how many have ended and what was started last, or in a line of its own for each
+/// that is started, which has its number and its words.
 ///
-/// Each line is one write. If a write fails, no further one is tried. What a call returns never depends on it.
+/// Each line is one write. If a write fails, no further one is tried. What a call returns never
+/// depends on it.
 #[derive(Drop)]
 pub struct Watched<C: Crew + Drop, W: Write + Drop> {
     pub(crate) crew: C,
@@ -45,7 +47,8 @@ impl<C: Crew + Drop, W: Write + Drop> Model for Watched<C, W> {
     ghost invariant = { λ w. IsCounted (C.account w.crew) w.attempts w.started w.ended w.command.items };
 }
 
-/// Returns what is written once a child was started: the text of the terminal's line, or the line of the child.
+/// Returns what is written once a child was started: the text of the terminal's line, or the line
+/// of the child.
 fn text_at_start(
     showing: Showing,
     started: u64,
@@ -54,7 +57,8 @@ fn text_at_start(
     number: u64,
     job: &Job,
 ) -> Text
-    ensures line { showing ≡ line → result.items ≡ progress.text_of started ended command.now.items }
+    ensures line { showing ≡ line
+        → result.items ≡ progress.text_of started ended command.now.items }
     ensures lines { showing ≡ lines → result.items ≡ child.child_line number job.now }
 {
     match showing {
@@ -68,7 +72,8 @@ fn text_at_start(
 fn write_text<W: Write>(stream: &mut W, showing: Showing, text: &Text) -> Showing
     ensures off { showing ≡ Nothing → (result ≡ Nothing) × (stream.new ≡ stream.old) }
     ensures kept { result ≢ Nothing → result ≡ showing }
-    ensures written { result ≢ Nothing → Appends (W.contents stream.old) (W.contents stream.new) text.now.items }
+    ensures written { result ≢ Nothing
+        → Appends (W.contents stream.old) (W.contents stream.new) text.now.items }
 {
     match showing {
         Showing::Nothing => Showing::Nothing,
@@ -83,7 +88,8 @@ fn write_text<W: Write>(stream: &mut W, showing: Showing, text: &Text) -> Showin
 fn write_end<W: Write>(stream: &mut W, showing: Showing, text: &Text) -> Showing
     ensures off { showing ≢ line → (result ≡ showing) × (stream.new ≡ stream.old) }
     ensures kept { result ≢ Nothing → result ≡ showing }
-    ensures written { result ≡ line → Appends (W.contents stream.old) (W.contents stream.new) text.now.items }
+    ensures written { result ≡ line
+        → Appends (W.contents stream.old) (W.contents stream.new) text.now.items }
 {
     match showing {
         Showing::Line => write_text(stream, showing, text),
@@ -137,8 +143,10 @@ impl<C: Crew + Drop, W: Write + Drop> Crew for Watched<C, W> {
             ((C.account self.new.crew).events ≡ (C.account self.old.crew).events) }
         ensures refused_count { OnErr result
             ((C.account self.new.crew).failures ≡ (C.account self.old.crew).failures + 1) }
-        // If nothing is shown, nothing is written, and it never is. Nor is anything written after a start that is refused.
-        ensures off { self.old.showing ≡ Nothing → self.new ≡ record self.old { crew = self.new.crew } }
+        // If nothing is shown, nothing is written, and it never is. Nor is anything written after a
+        // start that is refused.
+        ensures off { self.old.showing ≡ Nothing
+            → self.new ≡ record self.old { crew = self.new.crew } }
         ensures untouched { OnErr result (self.new ≡ record self.old { crew = self.new.crew }) }
         // What is shown stays the same, unless a write fails. Then nothing is.
         ensures kept { self.new.showing ≢ Nothing → self.new.showing ≡ self.old.showing }
@@ -146,7 +154,8 @@ impl<C: Crew + Drop, W: Write + Drop> Crew for Watched<C, W> {
         ensures written { OnOk result (self.new.showing ≡ line
             → Appends (W.contents self.old.stream) (W.contents self.new.stream)
             (progress.text_after (C.account self.new.crew).events)) }
-        // If there are lines, the child's is written, under the number of this attempt, unless the write fails.
+        // If there are lines, the child's is written, under the number of this attempt, unless the
+        // write fails.
         ensures told { OnOk result (self.new.showing ≡ lines
             → Appends (W.contents self.old.stream) (W.contents self.new.stream)
             (child.child_line (C.account self.new.crew).attempts job)) }
@@ -181,7 +190,8 @@ impl<C: Crew + Drop, W: Write + Drop> Crew for Watched<C, W> {
         ensures count { (C.account self.new.crew).failures
             ≡ (C.account self.old.crew).failures + failure_of result.1 }
         // If nothing is shown, or lines are, nothing is written.
-        ensures off { self.old.showing ≢ line → self.new ≡ record self.old { crew = self.new.crew } }
+        ensures off { self.old.showing ≢ line
+            → self.new ≡ record self.old { crew = self.new.crew } }
         ensures kept { self.new.showing ≢ Nothing → self.new.showing ≡ self.old.showing }
         // On a terminal the text for all events so far is written, unless the write fails.
         ensures written { self.new.showing ≡ line

@@ -33,8 +33,8 @@ impl Model for Cause {
 }
 
 impl Cause {
-    /// Returns the cause that is an error of the system about something of this name. If memory runs
-    /// out, it has no line.
+    /// Returns the cause that is an error of the system about something of this name. If memory
+    /// runs out, it has no line.
     pub fn of_error(alloc: Global, name: &[u8], error: &io::Error) -> Cause
         ensures { IfSome result (IsCauseOf name.now) }
     {

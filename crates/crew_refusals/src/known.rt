@@ -8,9 +8,11 @@ pub trait Causes {
     // The line that says why the child of a number was refused, if there is one.
     ghost known: { Self → ℕ → Option (List ℕ) };
 
-    /// Returns why the start or the end of the child of this number was refused, or `None` if that is not known.
+    /// Returns why the start or the end of the child of this number was refused, or `None` if that
+    /// is not known.
     ///
-    /// Children are counted from 1 in the order of the attempts to start them. The cause is a line without a newline at its end.
+    /// Children are counted from 1 in the order of the attempts to start them. The cause is a line
+    /// without a newline at its end.
     fn cause(&self, child: u64) -> Option<&[u8]>
         ensures cause { option_map (λ line. line.now) result ≡ known self.now child }
         ensures shown { IfSome result (λ cause. IsShown cause.now) };

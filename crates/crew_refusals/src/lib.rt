@@ -5,13 +5,13 @@
 //! crew.cause(2)                              // Some(b"cc: No such file or directory"), or None if it isn't known
 //! ```
 //!
-//! [`words_of`] makes the line of an error of the system. [`Causes`] is what a crew offers that keeps such lines. A line has no
-//! control byte and no newline, so it can't drive a terminal.
+//! [`words_of`] makes the line of an error of the system. [`Causes`] is what a crew offers that
+//! keeps such lines. A line has no control byte and no newline, so it can't drive a terminal.
 //!
 //! "own" marks a rule that no manual gives.
 //!
-//! Read `specs/Shown.antt` first, and then `showing`, `words` and `known`. [`Cause`], in `cause`, is
-//! a line, unless memory ran out for it, and [`CauseList`], in `list`, keeps the first ones;
+//! Read `specs/Shown.antt` first, and then `showing`, `words` and `known`. [`Cause`], in `cause`,
+//! is a line, unless memory ran out for it, and [`CauseList`], in `list`, keeps the first ones;
 //! `specs/Known.antt` defines which of them is that of a child.
 #![tactic(auto)]
 

@@ -11,7 +11,8 @@ use std::marker::Model;
 /// The most causes that a list has.
 const MOST: usize = 16;
 
-/// The causes of the first children that were refused, at most 16, each with the number of its child.
+/// The causes of the first children that were refused, at most 16, each with the number of its
+/// child.
 pub struct CauseList {
     entries: Vec<(u64, Cause)>,
 }

@@ -52,7 +52,8 @@ pub(crate) fn put_shown(out: &mut Vec<u8>, text: &[u8]) -> Result<(), AllocError
     put(out, is_text(text), text)
 }
 
-/// Returns a text as it is shown: a control byte is written as `\xNN`, and so is each byte above 127 if the text isn't UTF-8.
+/// Returns a text as it is shown: a control byte is written as `\xNN`, and so is each byte above
+/// 127 if the text isn't UTF-8.
 ///
 /// # Errors
 ///

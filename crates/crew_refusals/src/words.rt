@@ -42,7 +42,8 @@ pub fn line_of(alloc: Global, name: &[u8], words: &[u8]) -> Result<Bytes, AllocE
     Ok(line)
 }
 
-/// Returns why the system refused something of this name: `NAME: No such file or directory`, with the words that `strerror` gives.
+/// Returns why the system refused something of this name: `NAME: No such file or directory`, with
+/// the words that `strerror` gives.
 ///
 /// # Errors
 ///

@@ -56,7 +56,8 @@ impl<W: Write + Drop> Write for Counted<W> {
 
     fn write(&mut self, buf: &[u8]) -> io::Result<usize>
         ensures bound { WritesAtMost result buf.now }
-        ensures bytes { WriteAppends (W.contents self.old.stream) (W.contents self.new.stream) result buf.now }
+        ensures bytes { WriteAppends (W.contents self.old.stream) (W.contents self.new.stream)
+            result buf.now }
         // Only what was taken is counted.
         ensures counted { MatchResult result
             (λ n. self.new.tally ≡ after_text self.old.tally (take n buf.now))
@@ -68,7 +69,8 @@ impl<W: Write + Drop> Write for Counted<W> {
     }
 
     fn write_all(&mut self, buf: &[u8]) -> io::Result<()>
-        ensures bytes { OnOk result (Appends (W.contents self.old.stream) (W.contents self.new.stream) buf.now) }
+        ensures bytes { OnOk result (
+            Appends (W.contents self.old.stream) (W.contents self.new.stream) buf.now) }
         ensures counted { OnOk result (self.new.tally ≡ after_text self.old.tally buf.now) }
         ensures uncounted { OnErr result (self.new.tally ≡ self.old.tally) }
     {

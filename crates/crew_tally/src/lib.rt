@@ -1,5 +1,5 @@
-//! The last line of a run on a terminal: how many checks it made, how many answers the cache had, how many children it started, and
-//! how long it took.
+//! The last line of a run on a terminal: how many checks it made, how many answers the cache had,
+//! how many children it started, and how long it took.
 //!
 //! ```text
 //! let mut output = Counted::new(rt.stdout());
@@ -7,8 +7,8 @@
 //! put_summary(alloc, output.tally(), 0, 12, errors)?;    // acrun: 1 check, 1 from the cache, no children, 12 ms
 //! ```
 //!
-//! The checks are counted in what is printed: each line that begins with `checking ` is one, and if it has `(cached) `, the cache
-//! had its answer.
+//! The checks are counted in what is printed: each line that begins with `checking ` is one, and if
+//! it has `(cached) `, the cache had its answer.
 //!
 //! "own" marks a rule that no manual gives.
 //!

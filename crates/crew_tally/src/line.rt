@@ -54,8 +54,9 @@ fn line_of(alloc: Global, tally: &Tally, children: u64, millis: u64) -> Result<S
     Ok(line)
 }
 
-/// Writes what a run made of checks: their number, the number that the cache answered, the number of children, and the time (own). A
-/// run without checks has no such line, and neither has one for which memory runs out.
+/// Writes what a run made of checks: their number, the number that the cache answered, the number
+/// of children, and the time (own). A run without checks has no such line, and neither has one for
+/// which memory runs out.
 ///
 /// # Errors
 ///

@@ -39,8 +39,8 @@ fn has_at(word: &[u8], count: usize, byte: u8) -> bool
     }
 }
 
-/// Returns how many bytes of a word a text ends with after one more byte, if it ended with so many before. No byte of the word but
-/// its first is equal to the first.
+/// Returns how many bytes of a word a text ends with after one more byte, if it ended with so many
+/// before. No byte of the word but its first is equal to the first.
 fn matched(word: &[u8], count: usize, byte: u8) -> usize
     ensures { result ≡ specs.matched word.now count byte }
 {
@@ -76,7 +76,8 @@ impl Tally {
         self.cached
     }
 
-    /// Counts a byte that may be of the front of a line of a check, of which there are so many already.
+    /// Counts a byte that may be of the front of a line of a check, of which there are so many
+    /// already.
     fn add_front(&mut self, count: usize, byte: u8)
         ensures { self.new ≡ specs.after_front count byte self.old }
     {

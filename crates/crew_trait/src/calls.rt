@@ -23,9 +23,12 @@ pub trait Crew {
         requires attempts { (account self.old).attempts < 2 ^ 62 }
         requires failures { (account self.old).failures < 2 ^ 62 }
         ensures number { (account self.new).attempts ≡ (account self.old).attempts + 1 }
-        ensures taken { OnOk result ((account self.new).events
-            ≡ (account self.old).events ++ Started slot job ((account self.old).attempts + 1) ∷ []) }
-        ensures taken_count { OnOk result ((account self.new).failures ≡ (account self.old).failures) }
+        ensures taken { OnOk result (
+            (account self.new).events
+            ≡ (account self.old).events ++ Started slot job ((account self.old).attempts + 1)
+            ∷ []) }
+        ensures taken_count { OnOk result (
+            (account self.new).failures ≡ (account self.old).failures) }
         ensures refused { OnErr result ((account self.new).events ≡ (account self.old).events) }
         ensures refused_count { OnErr result ((account self.new).failures ≡ (account self.old).failures + 1) };
 
@@ -37,7 +40,8 @@ pub trait Crew {
         requires failures { (account self.old).failures < 2 ^ 62 }
         ensures was_busy { busy result.0 (account self.old).events ≡ true }
         ensures ended { (account self.new).events
-            ≡ (account self.old).events ++ Ended result.0 result.1 (account self.old).attempts ∷ [] }
+            ≡ (account self.old).events ++ Ended result.0 result.1 (account self.old).attempts
+            ∷ [] }
         ensures number { (account self.new).attempts ≡ (account self.old).attempts }
         ensures reply { result.1 ≢ Reply.StartRefused }
         ensures count { (account self.new).failures ≡ (account self.old).failures + failure_of result.1 };

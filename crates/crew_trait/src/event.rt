@@ -4,8 +4,8 @@ use crate::reply::Reply;
 use crew_jobs::Job;
 use thiserror::Error;
 
-/// A start that was taken, or the end of a child. `number` is the number of starts attempted up to and including this
-/// event.
+/// A start that was taken, or the end of a child. `number` is the number of starts attempted up to
+/// and including this event.
 #[derive(Drop)]
 pub enum CrewEvent {
     /// A job was started in the slot.

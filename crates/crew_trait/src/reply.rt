@@ -8,8 +8,8 @@ use std::alloc::{AllocError, Global};
 /// The result of a job that was given to a crew.
 #[derive(Drop)]
 pub enum Reply {
-    /// The child ended. `status` is its exit status, or 256 if a signal ended it. `text` is what it wrote to standard
-    /// error, up to the limit of the crew.
+    /// The child ended. `status` is its exit status, or 256 if a signal ended it. `text` is what it
+    /// wrote to standard error, up to the limit of the crew.
     Answer { status: u32, text: Bytes },
     /// The child wasn't started.
     StartRefused,

@@ -18,8 +18,8 @@ fn has_cv(text: &[u8]) -> bool
     false
 }
 
-/// Returns whether the text is a cache name: a shell name that contains `_cv_` (Autoconf's manual, "Cache Variable
-/// Names").
+/// Returns whether the text is a cache name: a shell name that contains `_cv_` (Autoconf's manual,
+/// "Cache Variable Names").
 #[tactic(auto, unfolding(crate::specs::CacheName::is_cache_name))]
 pub fn is_cache_name(name: &[u8]) -> bool
     ensures value { result ≡ words.is_cache_name name.now }

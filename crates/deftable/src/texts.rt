@@ -6,8 +6,8 @@ use crate::bytes::Bytes;
 use std::alloc::{AllocError, Global};
 use std::marker::Model;
 
-/// A list of byte texts, such as the words of a command or the names of programs. In contracts, its value is the list of
-/// the texts.
+/// A list of byte texts, such as the words of a command or the names of programs. In contracts, its
+/// value is the list of the texts.
 pub struct Texts {
     texts: Vec<Bytes>,
 }

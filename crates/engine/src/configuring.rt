@@ -43,11 +43,17 @@ fn run_ready<C: Crew>(
     requires may_run { MayRun (C.account crew.old) }
     ensures idle { IsIdle (C.account crew.new).events }
     ensures landed { in_flight (C.account crew.new).events ≡ in_flight (C.account crew.old).events }
-    ensures begun { OnErr result (HasRunPart window (script_in needs.now) start (C.account crew.old) (C.account crew.new)) }
-    ensures meaning { IfOk result (λ r. IsMeant window (script_in needs.now) start (C.account crew.old) (C.account crew.new) r.report) }
-    ensures artifacts { IfOk result (λ r. r.artifacts ≡ artifacts (script_in needs.now) start templates.now r.report) }
+    ensures begun { OnErr result (
+        HasRunPart window (script_in needs.now) start (C.account crew.old) (C.account crew.new)) }
+    ensures meaning { IfOk result (λ r.
+        IsMeant window (script_in needs.now) start (C.account crew.old) (C.account crew.new)
+        r.report) }
+    ensures artifacts { IfOk result (λ r.
+        r.artifacts ≡ artifacts (script_in needs.now) start templates.now r.report) }
     ensures reported { IfOk result (λ r. r.report.handed ≡ length r.artifacts) }
-    ensures reads_back { IfOk result (λ r. IfCompleted r.report.outcome (ReadsBack (record_after (script_in needs.now) start r.report))) }
+    ensures reads_back { IfOk result (λ r.
+        IfCompleted r.report.outcome (
+        ReadsBack (record_after (script_in needs.now) start r.report))) }
     ensures saved { IfOk result (λ r. IfNamed start.cache_name (IsCacheOf r.report.vars)) }
 {
     let Start {
@@ -92,8 +98,12 @@ fn run_ready<C: Crew>(
 fn hand_over<O: Outputs>(ready: Ready, outputs: &mut O) -> Result<Report, Fault>
     requires puts { (O.receipt outputs.old).failures < 2 ^ 62 }
     requires reported { ready.report.handed ≡ length ready.artifacts }
-    ensures handed_over { IfOk result (λ report. (report ≡ ready.report) × (O.receipt outputs.new ≡ with_artifacts (O.receipt outputs.old) ready.artifacts)) }
-    ensures cut { IfErr result (λ f. IsRefusedPut ready.report ready.artifacts (O.receipt outputs.old) (O.receipt outputs.new) f) }
+    ensures handed_over { IfOk result (λ report.
+        (report ≡ ready.report)
+        × (O.receipt outputs.new ≡ with_artifacts (O.receipt outputs.old) ready.artifacts)) }
+    ensures cut { IfErr result (λ f.
+        IsRefusedPut ready.report ready.artifacts (O.receipt outputs.old) (O.receipt outputs.new)
+        f) }
     ensures lasting { O.kept outputs.new ≡ O.kept outputs.old }
 {
     let Ready {
@@ -124,7 +134,8 @@ fn configured<C: Crew, O: Outputs>(
     requires puts { (O.receipt outputs.old).failures + 256 ≤ 2 ^ 62 }
     ensures idle { IsIdle (C.account crew.new).events }
     ensures landed { in_flight (C.account crew.new).events ≡ in_flight (C.account crew.old).events }
-    ensures done { IsDone window (script_in needs.now) start templates.now (C.account crew.old) (C.account crew.new) (O.receipt outputs.old) (O.receipt outputs.new) result }
+    ensures done { IsDone window (script_in needs.now) start templates.now (C.account crew.old)
+        (C.account crew.new) (O.receipt outputs.old) (O.receipt outputs.new) result }
     ensures memory { result ≡ Err OutOfMemory → outputs.new ≡ outputs.old }
     ensures lasting { O.kept outputs.new ≡ O.kept outputs.old }
 {
@@ -145,8 +156,10 @@ fn gone<C: Crew, O: Outputs>(
     requires window { IsWindow window }
     requires may_run { MayRun (C.account crew.old) }
     requires puts { (O.receipt outputs.old).failures + 256 ≤ 2 ^ 62 }
-    ensures whole { IsWhole ((crew.new ≡ crew.old) × (outputs.new ≡ outputs.old)) window (going needs.now (option_map (λ c. c.now) cache.entry) templates.now)
-        templates.now (C.account crew.old) (C.account crew.new) (O.receipt outputs.old) (O.receipt outputs.new) result }
+    ensures whole { IsWhole ((crew.new ≡ crew.old) × (outputs.new ≡ outputs.old)) window
+        (going needs.now (option_map (λ c. c.now) cache.entry) templates.now) templates.now
+        (C.account crew.old) (C.account crew.new) (O.receipt outputs.old) (O.receipt outputs.new)
+        result }
     ensures memory { result ≡ Err OutOfMemory → outputs.new ≡ outputs.old }
     ensures lasting { O.kept outputs.new ≡ O.kept outputs.old }
     ensures idle { IsIdle (C.account crew.new).events }
@@ -156,16 +169,18 @@ fn gone<C: Crew, O: Outputs>(
     configured(alloc, needs, start, templates, crew, outputs, window)
 }
 
-/// Runs a source that is judged, with at most `window` children at once, and hands over what the run leaves.
+/// Runs a source that is judged, with at most `window` children at once, and hands over what the
+/// run leaves.
 ///
-/// This is what [`configure`] does once it has judged its source, and it says the same of it. `needs` is what
-/// [`judge`](crate::judge) returned.
+/// This is what [`configure`] does once it has judged its source, and it says the same of it.
+/// `needs` is what [`judge`](crate::judge) returned.
 ///
 /// # Errors
 ///
-/// If the cache has a fault, or a precious variable or a template, returns the first one, in the order of [`Fault`]; nothing
-/// is then started or handed over. If a put is refused, returns `PutRefused` with its number and the report of the run. If
-/// memory runs out, nothing is handed over.
+/// If the cache has a fault, or a precious variable or a template, returns the first one, in the
+/// order of [`Fault`]; nothing is then started or handed over. If a put is refused, returns
+/// `PutRefused` with its number and the report of the run. If memory runs out, nothing is handed
+/// over.
 pub fn go<C: Crew, O: Outputs>(
     alloc: Global,
     needs: &Needs<'_>,
@@ -179,43 +194,71 @@ pub fn go<C: Crew, O: Outputs>(
     requires window { IsWindow window }
     requires may_run { MayRun (C.account crew.old) }
     requires puts { (O.receipt outputs.old).failures + 256 ≤ 2 ^ 62 }
-    // What is given is refused with its first fault, or the source is run. Unless it is run, nothing is started or handed
-    // over.
-    ensures accepted { IsAnswer (going needs.now (option_map (λ c. c.now) cache.entry) templates.now) result }
-    ensures untouched { IsNotRun (going needs.now (option_map (λ c. c.now) cache.entry) templates.now) → (crew.new ≡ crew.old) × (outputs.new ≡ outputs.old) }
+    // What is given is refused with its first fault, or the source is run. Unless it is run,
+    // nothing is started or handed over.
+    ensures accepted { IsAnswer (
+        going needs.now (option_map (λ c. c.now) cache.entry) templates.now) result }
+    ensures untouched { IsNotRun (
+        going needs.now (option_map (λ c. c.now) cache.entry) templates.now)
+        → (crew.new ≡ crew.old) × (outputs.new ≡ outputs.old) }
     // A run is the meaning of its source, from its opening, under the replies of the crew.
-    ensures meaning { IfStarts (going needs.now (option_map (λ c. c.now) cache.entry) templates.now) (λ script start.
-        IfReport result (IsMeant window script start (C.account crew.old) (C.account crew.new))) }
-    // The cache is handed over, if one is named, and after it, if the run is completed, the record and the outputs.
-    ensures artifacts { IfStarts (going needs.now (option_map (λ c. c.now) cache.entry) templates.now) (λ script start.
-        IfOk result (λ report. O.receipt outputs.new ≡ with_artifacts (O.receipt outputs.old) (artifacts script start templates.now report))) }
+    ensures meaning { IfStarts (going needs.now (option_map (λ c. c.now) cache.entry) templates.now)
+        (λ script start.
+        IfReport result (
+        IsMeant window script start (C.account crew.old) (C.account crew.new))) }
+    // The cache is handed over, if one is named, and after it, if the run is completed, the record
+    // and the outputs.
+    ensures artifacts { IfStarts
+        (going needs.now (option_map (λ c. c.now) cache.entry) templates.now) (λ script start.
+        IfOk result (λ report.
+        O.receipt outputs.new
+        ≡ with_artifacts (O.receipt outputs.old)
+        (artifacts script start templates.now report))) }
     // The text of the record of a completed run is read as the record that its outputs are made of.
-    ensures remade { IfStarts (going needs.now (option_map (λ c. c.now) cache.entry) templates.now) (λ script start.
-        IfReport result (λ report. IfCompleted report.outcome (ReadsBack (record_after script start report)))) }
+    ensures remade { IfStarts (going needs.now (option_map (λ c. c.now) cache.entry) templates.now)
+        (λ script start.
+        IfReport result (λ report.
+        IfCompleted report.outcome (ReadsBack (record_after script start report)))) }
     // The report counts what was handed over.
-    ensures reported { IfStarts (going needs.now (option_map (λ c. c.now) cache.entry) templates.now) (λ script start.
-        IfOk result (λ report. report.handed ≡ length (artifacts script start templates.now report))) }
-    // If a put was refused, the artifacts before it were handed over, each whole, and nothing after them.
-    ensures cut { IfStarts (going needs.now (option_map (λ c. c.now) cache.entry) templates.now) (λ script start.
-        IfPutRefused result (λ number report. IsCut (artifacts script start templates.now report) (O.receipt outputs.old) (O.receipt outputs.new) number report)) }
-    // If a cache is named, its text holds the name of each test that came to its end and left it set,
-    // which is a cache name, and each cache name that was set when the run began or that a statement
-    // assigned, with its value at the end, unless that has a newline. It holds nothing else.
-    ensures kept { IfStarts (going needs.now (option_map (λ c. c.now) cache.entry) templates.now) (λ script start.
-        IfReport result (λ report. IfNamed start.cache_name (IsKept window script start (C.account crew.old) (C.account crew.new) report))) }
+    ensures reported { IfStarts
+        (going needs.now (option_map (λ c. c.now) cache.entry) templates.now) (λ script start.
+        IfOk result (λ report.
+        report.handed ≡ length (artifacts script start templates.now report))) }
+    // If a put was refused, the artifacts before it were handed over, each whole, and nothing after
+    // them.
+    ensures cut { IfStarts (going needs.now (option_map (λ c. c.now) cache.entry) templates.now)
+        (λ script start.
+        IfPutRefused result (λ number report.
+        IsCut (artifacts script start templates.now report) (O.receipt outputs.old)
+        (O.receipt outputs.new) number report)) }
+    // If a cache is named, its text holds the name of each test that came to its end and left it
+    // set, which is a cache name, and each cache name that was set when the run began or that a
+    // statement assigned, with its value at the end, unless that has a newline. It holds nothing
+    // else.
+    ensures kept { IfStarts (going needs.now (option_map (λ c. c.now) cache.entry) templates.now)
+        (λ script start.
+        IfReport result (λ report.
+        IfNamed start.cache_name (
+        IsKept window script start (C.account crew.old) (C.account crew.new) report))) }
     // That text is read, if it isn't too large, and sets these names again.
-    ensures reads_back { IfStarts (going needs.now (option_map (λ c. c.now) cache.entry) templates.now) (λ script start.
+    ensures reads_back { IfStarts
+        (going needs.now (option_map (λ c. c.now) cache.entry) templates.now) (λ script start.
         IfReport result (λ report. IfNamed start.cache_name (CacheReadsBack report.vars))) }
     // The record that a completed run hands over, given to `remake` with any templates and tags,
     // gives the outputs that the run makes of those templates.
-    ensures remakes { IfStarts (going needs.now (option_map (λ c. c.now) cache.entry) templates.now) (λ script start.
-        IfReport result (λ report. IfCompleted report.outcome (Remakes script start templates.now report))) }
+    ensures remakes { IfStarts (going needs.now (option_map (λ c. c.now) cache.entry) templates.now)
+        (λ script start.
+        IfReport result (λ report.
+        IfCompleted report.outcome (Remakes script start templates.now report))) }
     ensures memory { result ≡ Err OutOfMemory → outputs.new ≡ outputs.old }
     // What no put changes of a receiver is as it was, such as the names that it guards.
     ensures lasting { O.kept outputs.new ≡ O.kept outputs.old }
-    // If memory runs out, nothing was started, or the starts so far, and their replies, are those of the run.
-    ensures begun { IfStarts (going needs.now (option_map (λ c. c.now) cache.entry) templates.now) (λ script start.
-        result ≡ Err OutOfMemory → HasRunPart window script start (C.account crew.old) (C.account crew.new)) }
+    // If memory runs out, nothing was started, or the starts so far, and their replies, are those
+    // of the run.
+    ensures begun { IfStarts (going needs.now (option_map (λ c. c.now) cache.entry) templates.now)
+        (λ script start.
+        result ≡ Err OutOfMemory
+        → HasRunPart window script start (C.account crew.old) (C.account crew.new)) }
     ensures idle { IsIdle (C.account crew.new).events }
     ensures landed { in_flight (C.account crew.new).events ≡ in_flight (C.account crew.old).events }
 {
@@ -238,8 +281,10 @@ fn whole<C: Crew, O: Outputs>(
     requires window { IsWindow window }
     requires may_run { MayRun (C.account crew.old) }
     requires puts { (O.receipt outputs.old).failures + 256 ≤ 2 ^ 62 }
-    ensures whole { IsWhole ((crew.new ≡ crew.old) × (outputs.new ≡ outputs.old)) window (judged source.now args.now env.now (option_map (λ c. c.now) cache.entry) templates.now)
-        templates.now (C.account crew.old) (C.account crew.new) (O.receipt outputs.old) (O.receipt outputs.new) result }
+    ensures whole { IsWhole ((crew.new ≡ crew.old) × (outputs.new ≡ outputs.old)) window
+        (judged source.now args.now env.now (option_map (λ c. c.now) cache.entry) templates.now)
+        templates.now (C.account crew.old) (C.account crew.new) (O.receipt outputs.old)
+        (O.receipt outputs.new) result }
     ensures memory { result ≡ Err OutOfMemory → outputs.new ≡ outputs.old }
     ensures lasting { O.kept outputs.new ≡ O.kept outputs.old }
     ensures idle { IsIdle (C.account crew.new).events }
@@ -254,17 +299,18 @@ fn whole<C: Crew, O: Outputs>(
 
 /// Runs a configure.ac with at most `window` children at once, and hands over what the run leaves.
 ///
-/// `args` are the arguments without the program's name, `env` the entries of the environment, `cache` is the text of the
-/// cache file if there is one, and `templates` has a name and a text for each template. Of two templates of one name the
-/// first counts. A completed run hands over the cache, if one is named, the record `config.status`, and then files and
-/// headers; any other run hands over the cache alone. All texts are made before the first is handed over. No child is left
+/// `args` are the arguments without the program's name, `env` the entries of the environment,
+/// `cache` is the text of the cache file if there is one, and `templates` has a name and a text for
+/// each template. Of two templates of one name the first counts. A completed run hands over the
+/// cache, if one is named, the record `config.status`, and then files and headers; any other run
+/// hands over the cache alone. All texts are made before the first is handed over. No child is left
 /// in flight, whatever the result.
 ///
 /// # Errors
 ///
-/// If what is given has a fault, returns the first one, in the order of [`Fault`]; nothing is then started or handed over.
-/// If a put is refused, returns `PutRefused` with its number and the report of the run. If memory runs out, nothing is
-/// handed over.
+/// If what is given has a fault, returns the first one, in the order of [`Fault`]; nothing is then
+/// started or handed over. If a put is refused, returns `PutRefused` with its number and the report
+/// of the run. If memory runs out, nothing is handed over.
 pub fn configure<C: Crew, O: Outputs>(
     alloc: Global,
     source: &[u8],
@@ -279,43 +325,82 @@ pub fn configure<C: Crew, O: Outputs>(
     requires window { IsWindow window }
     requires may_run { MayRun (C.account crew.old) }
     requires puts { (O.receipt outputs.old).failures + 256 ≤ 2 ^ 62 }
-    // What is given is refused with its first fault, or a text is shown, or the source is run. Unless it is run, nothing is
-    // started or handed over.
-    ensures accepted { IsAnswer (judged source.now args.now env.now (option_map (λ c. c.now) cache.entry) templates.now) result }
-    ensures untouched { IsNotRun (judged source.now args.now env.now (option_map (λ c. c.now) cache.entry) templates.now) → (crew.new ≡ crew.old) × (outputs.new ≡ outputs.old) }
+    // What is given is refused with its first fault, or a text is shown, or the source is run.
+    // Unless it is run, nothing is started or handed over.
+    ensures accepted { IsAnswer (
+        judged source.now args.now env.now (option_map (λ c. c.now) cache.entry)
+        templates.now) result }
+    ensures untouched { IsNotRun (
+        judged source.now args.now env.now (option_map (λ c. c.now) cache.entry) templates.now)
+        → (crew.new ≡ crew.old) × (outputs.new ≡ outputs.old) }
     // A run is the meaning of its source, from its opening, under the replies of the crew.
-    ensures meaning { IfStarts (judged source.now args.now env.now (option_map (λ c. c.now) cache.entry) templates.now) (λ script start.
-        IfReport result (IsMeant window script start (C.account crew.old) (C.account crew.new))) }
-    // The cache is handed over, if one is named, and after it, if the run is completed, the record and the outputs.
-    ensures artifacts { IfStarts (judged source.now args.now env.now (option_map (λ c. c.now) cache.entry) templates.now) (λ script start.
-        IfOk result (λ report. O.receipt outputs.new ≡ with_artifacts (O.receipt outputs.old) (artifacts script start templates.now report))) }
+    ensures meaning { IfStarts
+        (judged source.now args.now env.now (option_map (λ c. c.now) cache.entry) templates.now)
+        (λ script start.
+        IfReport result (
+        IsMeant window script start (C.account crew.old) (C.account crew.new))) }
+    // The cache is handed over, if one is named, and after it, if the run is completed, the record
+    // and the outputs.
+    ensures artifacts { IfStarts
+        (judged source.now args.now env.now (option_map (λ c. c.now) cache.entry) templates.now)
+        (λ script start.
+        IfOk result (λ report.
+        O.receipt outputs.new
+        ≡ with_artifacts (O.receipt outputs.old)
+        (artifacts script start templates.now report))) }
     // The text of the record of a completed run is read as the record that its outputs are made of.
-    ensures remade { IfStarts (judged source.now args.now env.now (option_map (λ c. c.now) cache.entry) templates.now) (λ script start.
-        IfReport result (λ report. IfCompleted report.outcome (ReadsBack (record_after script start report)))) }
+    ensures remade { IfStarts
+        (judged source.now args.now env.now (option_map (λ c. c.now) cache.entry) templates.now)
+        (λ script start.
+        IfReport result (λ report.
+        IfCompleted report.outcome (ReadsBack (record_after script start report)))) }
     // The report counts what was handed over.
-    ensures reported { IfStarts (judged source.now args.now env.now (option_map (λ c. c.now) cache.entry) templates.now) (λ script start.
-        IfOk result (λ report. report.handed ≡ length (artifacts script start templates.now report))) }
-    // If a put was refused, the artifacts before it were handed over, each whole, and nothing after them.
-    ensures cut { IfStarts (judged source.now args.now env.now (option_map (λ c. c.now) cache.entry) templates.now) (λ script start.
-        IfPutRefused result (λ number report. IsCut (artifacts script start templates.now report) (O.receipt outputs.old) (O.receipt outputs.new) number report)) }
-    // If a cache is named, its text holds the name of each test that came to its end and left it set,
-    // which is a cache name, and each cache name that was set when the run began or that a statement
-    // assigned, with its value at the end, unless that has a newline. It holds nothing else.
-    ensures kept { IfStarts (judged source.now args.now env.now (option_map (λ c. c.now) cache.entry) templates.now) (λ script start.
-        IfReport result (λ report. IfNamed start.cache_name (IsKept window script start (C.account crew.old) (C.account crew.new) report))) }
+    ensures reported { IfStarts
+        (judged source.now args.now env.now (option_map (λ c. c.now) cache.entry) templates.now)
+        (λ script start.
+        IfOk result (λ report.
+        report.handed ≡ length (artifacts script start templates.now report))) }
+    // If a put was refused, the artifacts before it were handed over, each whole, and nothing after
+    // them.
+    ensures cut { IfStarts
+        (judged source.now args.now env.now (option_map (λ c. c.now) cache.entry) templates.now)
+        (λ script start.
+        IfPutRefused result (λ number report.
+        IsCut (artifacts script start templates.now report) (O.receipt outputs.old)
+        (O.receipt outputs.new) number report)) }
+    // If a cache is named, its text holds the name of each test that came to its end and left it
+    // set, which is a cache name, and each cache name that was set when the run began or that a
+    // statement assigned, with its value at the end, unless that has a newline. It holds nothing
+    // else.
+    ensures kept { IfStarts
+        (judged source.now args.now env.now (option_map (λ c. c.now) cache.entry) templates.now)
+        (λ script start.
+        IfReport result (λ report.
+        IfNamed start.cache_name (
+        IsKept window script start (C.account crew.old) (C.account crew.new)
+        report))) }
     // That text is read, if it isn't too large, and sets these names again.
-    ensures reads_back { IfStarts (judged source.now args.now env.now (option_map (λ c. c.now) cache.entry) templates.now) (λ script start.
+    ensures reads_back { IfStarts
+        (judged source.now args.now env.now (option_map (λ c. c.now) cache.entry) templates.now)
+        (λ script start.
         IfReport result (λ report. IfNamed start.cache_name (CacheReadsBack report.vars))) }
     // The record that a completed run hands over, given to `remake` with any templates and tags,
     // gives the outputs that the run makes of those templates.
-    ensures remakes { IfStarts (judged source.now args.now env.now (option_map (λ c. c.now) cache.entry) templates.now) (λ script start.
-        IfReport result (λ report. IfCompleted report.outcome (Remakes script start templates.now report))) }
+    ensures remakes { IfStarts
+        (judged source.now args.now env.now (option_map (λ c. c.now) cache.entry) templates.now)
+        (λ script start.
+        IfReport result (λ report.
+        IfCompleted report.outcome (Remakes script start templates.now report))) }
     ensures memory { result ≡ Err OutOfMemory → outputs.new ≡ outputs.old }
     // What no put changes of a receiver is as it was, such as the names that it guards.
     ensures lasting { O.kept outputs.new ≡ O.kept outputs.old }
-    // If memory runs out, nothing was started, or the starts so far, and their replies, are those of the run.
-    ensures begun { IfStarts (judged source.now args.now env.now (option_map (λ c. c.now) cache.entry) templates.now) (λ script start.
-        result ≡ Err OutOfMemory → HasRunPart window script start (C.account crew.old) (C.account crew.new)) }
+    // If memory runs out, nothing was started, or the starts so far, and their replies, are those
+    // of the run.
+    ensures begun { IfStarts
+        (judged source.now args.now env.now (option_map (λ c. c.now) cache.entry) templates.now)
+        (λ script start.
+        result ≡ Err OutOfMemory
+        → HasRunPart window script start (C.account crew.old) (C.account crew.new)) }
     ensures idle { IsIdle (C.account crew.new).events }
     ensures landed { in_flight (C.account crew.new).events ≡ in_flight (C.account crew.old).events }
 {

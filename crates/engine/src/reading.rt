@@ -15,7 +15,8 @@ use std::alloc::Global;
 /// Reads the source.
 pub(crate) fn parsed(alloc: Global, text: &[u8]) -> Result<Source, Fault>
     ensures exact { Gives script_of result (named of_parse (source_of text.now)) }
-    ensures outputs { IfOk result (λ s. AreOutputs (lists_of (script_of s)).files (lists_of (script_of s)).headers) }
+    ensures outputs { IfOk result (λ s.
+        AreOutputs (lists_of (script_of s)).files (lists_of (script_of s)).headers) }
 {
     Ok(parse(alloc, text)?)
 }

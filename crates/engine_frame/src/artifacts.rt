@@ -32,8 +32,12 @@ fn add_cache(
     name: Option<&Bytes>,
     vars: &Vars,
 ) -> Result<(), AllocError>
-    ensures added { OnOk result (artifacts.new ≡ artifacts.old ++ hands.cache_artifacts (option_map (λ n. n.now) name.entry) vars.now) }
-    ensures saved { OnOk result (hands.IfNamed (option_map (λ n. n.now) name.entry) (hands.IsCacheOf vars.now)) }
+    ensures added { OnOk result (
+        artifacts.new
+        ≡ artifacts.old
+        ++ hands.cache_artifacts (option_map (λ n. n.now) name.entry) vars.now) }
+    ensures saved { OnOk result (
+        hands.IfNamed (option_map (λ n. n.now) name.entry) (hands.IsCacheOf vars.now)) }
 {
     let Some(name) = name else {
         return Ok(());
@@ -49,7 +53,8 @@ fn add_cache(
 
 /// Returns a record as an artifact, given its text.
 fn record_artifact(alloc: Global, text: Bytes) -> Result<Artifact, AllocError>
-    ensures { IfOk result (λ t. t ≡ record { kind = Recorded; name = codes "config.status"; text = text }) }
+    ensures { IfOk result (λ t.
+        t ≡ record { kind = Recorded; name = codes "config.status"; text = text }) }
 {
     let name = Bytes::from_slice(alloc, b"config.status")?;
     Ok(Artifact {
@@ -62,7 +67,8 @@ fn record_artifact(alloc: Global, text: Bytes) -> Result<Artifact, AllocError>
 /// Appends the record.
 fn add_record(alloc: Global, artifacts: &mut Artifacts, recorded: &Record) -> Result<(), AllocError>
     requires { IsRecord recorded.now }
-    ensures added { OnOk result (artifacts.new ≡ artifacts.old ++ hands.record_artifact recorded.now ∷ []) }
+    ensures added { OnOk result (
+        artifacts.new ≡ artifacts.old ++ hands.record_artifact recorded.now ∷ []) }
     ensures reads_back { OnOk result (hands.ReadsBack recorded.now) }
 {
     let text = write_record(alloc, recorded)?;
@@ -70,7 +76,8 @@ fn add_record(alloc: Global, artifacts: &mut Artifacts, recorded: &Record) -> Re
     artifacts.push(artifact)
 }
 
-/// Appends what a completed run hands over after its cache: the record, and the files and headers if they are wanted.
+/// Appends what a completed run hands over after its cache: the record, and the files and headers
+/// if they are wanted.
 fn add_completed(
     alloc: Global,
     artifacts: &mut Artifacts,
@@ -79,7 +86,9 @@ fn add_completed(
     templates: &[(Bytes, Bytes)],
 ) -> Result<(), AllocError>
     requires { IsRecord recorded.now }
-    ensures added { OnOk result (artifacts.new ≡ artifacts.old ++ hands.completed_artifacts no_create templates.now recorded.now) }
+    ensures added { OnOk result (
+        artifacts.new
+        ≡ artifacts.old ++ hands.completed_artifacts no_create templates.now recorded.now) }
     ensures reads_back { OnOk result (hands.ReadsBack recorded.now) }
 {
     add_record(alloc, artifacts, recorded)?;
@@ -98,8 +107,10 @@ fn run_record(
     vars: &Vars,
     defs: &Defs,
 ) -> Result<Record, AllocError>
-    requires { AreOutputs (lists_of (script_of source.now)).files (lists_of (script_of source.now)).headers }
-    ensures value { IfOk result (λ r. r ≡ hands.run_record (script_of source.now) srcdir.now args.now vars.now defs.now) }
+    requires { AreOutputs (lists_of (script_of source.now)).files
+        (lists_of (script_of source.now)).headers }
+    ensures value { IfOk result (λ r.
+        r ≡ hands.run_record (script_of source.now) srcdir.now args.now vars.now defs.now) }
     ensures record { IfOk result IsRecord }
 {
     record_of(
@@ -128,11 +139,19 @@ pub fn artifacts_of(
     vars: &Vars,
     defs: &Defs,
 ) -> Result<Artifacts, AllocError>
-    requires { AreOutputs (lists_of (script_of source.now)).files (lists_of (script_of source.now)).headers }
-    ensures artifacts { IfOk result (λ t. t ≡ hands.artifacts_of (option_map (λ n. n.now) cache_name.entry) no_create templates.now outcome vars.now
+    requires { AreOutputs (lists_of (script_of source.now)).files
+        (lists_of (script_of source.now)).headers }
+    ensures artifacts { IfOk result (λ t.
+        t
+        ≡ hands.artifacts_of (option_map (λ n. n.now) cache_name.entry) no_create templates.now
+        outcome vars.now
         (hands.run_record (script_of source.now) srcdir.now args.now vars.now defs.now)) }
-    ensures saved { IfOk result (λ t. hands.IfNamed (option_map (λ n. n.now) cache_name.entry) (hands.IsCacheOf vars.now)) }
-    ensures reads_back { OnOk result (hands.IfCompleted outcome (hands.ReadsBack (hands.run_record (script_of source.now) srcdir.now args.now vars.now defs.now))) }
+    ensures saved { IfOk result (λ t.
+        hands.IfNamed (option_map (λ n. n.now) cache_name.entry) (hands.IsCacheOf vars.now)) }
+    ensures reads_back { OnOk result (
+        hands.IfCompleted outcome (
+        hands.ReadsBack (
+        hands.run_record (script_of source.now) srcdir.now args.now vars.now defs.now))) }
 {
     let mut artifacts = Artifacts::new(alloc);
     add_cache(alloc, &mut artifacts, cache_name, vars)?;

@@ -17,10 +17,11 @@ use std::alloc::{AllocError, AllocFailed};
 use std::error::Error;
 use std::fmt;
 
-/// What is wrong with what a run is given, or with what it hands over: the first fault, in this order.
+/// What is wrong with what a run is given, or with what it hands over: the first fault, in this
+/// order.
 ///
-/// It prints as its kind, with the numbers of the fault that it holds. The name of a template, which may be any bytes, is left
-/// out.
+/// It prints as its kind, with the numbers of the fault that it holds. The name of a template,
+/// which may be any bytes, is left out.
 #[derive(Drop)]
 pub enum Fault {
     /// The configure.ac has an error.
@@ -33,7 +34,8 @@ pub enum Fault {
     Cache(CacheFault),
     /// A precious variable isn't as it was in the run that made the cache.
     Precious(PreciousFault),
-    /// The template of this name isn't given. If several are not, it is the first in the order of the puts.
+    /// The template of this name isn't given. If several are not, it is the first in the order of
+    /// the puts.
     NoTemplate(Bytes),
     /// The put of this number, counted from 1, was refused. The report is that of the run.
     PutRefused(u64, Report),
@@ -66,17 +68,19 @@ impl fmt::Debug for Fault {
 
 impl Error for Fault {}
 
-/// Why outputs are not made again, or not all of them, or a run can't be done again: the first fault, in this order.
+/// Why outputs are not made again, or not all of them, or a run can't be done again: the first
+/// fault, in this order.
 ///
-/// It prints as its kind, with the numbers of the fault that it holds. The name of a template, which may be any bytes, is left
-/// out.
+/// It prints as its kind, with the numbers of the fault that it holds. The name of a template,
+/// which may be any bytes, is left out.
 #[derive(Debug, Drop)]
 pub enum RemakeFault {
     /// The text is no record.
     Record(RecordFault),
     /// The tag of this number, counted from 1, is the name of no output.
     UnknownTag(u64),
-    /// The template of this name isn't given. If several are not, it is the first in the order of the puts.
+    /// The template of this name isn't given. If several are not, it is the first in the order of
+    /// the puts.
     NoTemplate(Bytes),
     /// The put of this number, counted from 1, was refused.
     PutRefused(u64),

@@ -35,7 +35,8 @@ pub enum Judged<'a> {
 
 /// Compiles the source.
 fn planned<'a>(alloc: Global, source: &'a Source) -> Result<Plan<'a>, Fault>
-    ensures exact { Gives (λ _. tt) result (wants (nat_le (weight (script_of source.now)) heaviest) (Unplanned TooLong)) }
+    ensures exact { Gives (λ _. tt) result
+        (wants (nat_le (weight (script_of source.now)) heaviest) (Unplanned TooLong)) }
     ensures meaning { IfOk result (λ plan. DoesWhat plan (script_of source.now)) }
 {
     Ok(compile(alloc, source)?)
@@ -48,7 +49,11 @@ fn settled(
     args: &[Bytes],
     env: &[(Bytes, Bytes)],
 ) -> Result<Settings, Fault>
-    ensures exact { Gives (λ s. s) result (named of_option (opening (lists_of (script_of source.now)).features (lists_of (script_of source.now)).packages (lists_of (script_of source.now)).precious args.now env.now)) }
+    ensures exact { Gives (λ s. s) result (
+        named of_option (
+        opening (lists_of (script_of source.now)).features
+        (lists_of (script_of source.now)).packages
+        (lists_of (script_of source.now)).precious args.now env.now)) }
     ensures directory { IfOk result (λ s. s.srcdir ≡ srcdir_of args.now) }
 {
     Ok(read_args(alloc, source, args, env)?)
@@ -83,7 +88,8 @@ pub fn judge<'a>(
     args: &'a [Bytes],
     env: &[(Bytes, Bytes)],
 ) -> Result<Judged<'a>, Fault>
-    requires outputs { AreOutputs (lists_of (script_of source.now)).files (lists_of (script_of source.now)).headers }
+    requires outputs { AreOutputs (lists_of (script_of source.now)).files
+        (lists_of (script_of source.now)).headers }
     ensures exact { Gives judged_of result (judgement args.now env.now (script_of source.now)) }
     // The directory of the source is the one that the arguments name, also before they are judged.
     ensures directory { IfOk result (RunsBelow (srcdir_of args.now)) }

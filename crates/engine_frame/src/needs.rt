@@ -6,8 +6,8 @@ use options::Settings;
 use plan::Plan;
 use std::marker::Model;
 
-/// What a run needs besides its cache and its templates. Only [`judge`](crate::judge) makes it, so its plan and
-/// its settings are those of its source and its arguments.
+/// What a run needs besides its cache and its templates. Only [`judge`](crate::judge) makes it, so
+/// its plan and its settings are those of its source and its arguments.
 pub struct Needs<'a> {
     source: &'a Source,
     plan: Plan<'a>,
@@ -56,8 +56,20 @@ impl<'a> Needs<'a> {
         args: &'a [Bytes],
         settings: Settings,
     ) -> Needs<'a>
-        requires asked { IsAsked (record { statements = source.now; plan = plan; arguments = args.now; settings = settings }) }
-        ensures { result ≡ record { statements = source.now; plan = plan.entry; arguments = args.now; settings = settings } }
+        requires asked { IsAsked (
+            record {
+              statements = source.now;
+              plan = plan;
+              arguments = args.now;
+              settings = settings;
+            }) }
+        ensures { result
+            ≡ record {
+              statements = source.now;
+              plan = plan.entry;
+              arguments = args.now;
+              settings = settings;
+            } }
     {
         Needs {
             source,

@@ -41,19 +41,23 @@ fn args_in(alloc: Global, text: &[u8]) -> Result<Texts, RemakeFault>
     args_again(alloc, &recorded.args)
 }
 
-/// Returns the arguments with which a run is done again, given the text of its record (own): those of the record, and then
-/// `--no-create`.
+/// Returns the arguments with which a run is done again, given the text of its record (own): those
+/// of the record, and then `--no-create`.
 ///
 /// # Errors
 ///
-/// Returns `Record` if the text is no record, and `NoArguments` if it is a record of the first version.
+/// Returns `Record` if the text is no record, and `NoArguments` if it is a record of the first
+/// version.
 pub fn recheck_args(alloc: Global, text: &[u8]) -> Result<Texts, RemakeFault>
-    // The text is that of a record with arguments, and they are returned, followed by `--no-create`.
+    // The text is that of a record with arguments, and they are returned, followed by
+    // `--no-create`.
     ensures sound { IfOk result (λ args. words.HasArguments text.now args) }
-    ensures complete { (args : List (List ℕ)) → words.HasArguments text.now args → GivesAgain (λ all. all) result (Ok args) }
+    ensures complete { (args : List (List ℕ)) → words.HasArguments text.now args
+        → GivesAgain (λ all. all) result (Ok args) }
     // The text is that of a record without arguments.
     ensures none_sound { result ≡ Err NoArguments → words.HasNoArguments text.now }
-    ensures none_complete { (r : RecordValue) → IsFirstText text.now r → GivesAgain (λ all. all) result (Err NoArguments) }
+    ensures none_complete { (r : RecordValue) → IsFirstText text.now r
+        → GivesAgain (λ all. all) result (Err NoArguments) }
     // The same as a function: any other text has its first fault returned, unless memory runs out.
     ensures exact { GivesAgain (λ all. all) result (words.rechecked text.now) }
 {

@@ -118,22 +118,24 @@ pub fn remake_record<O: Outputs>(
     outputs: &mut O,
 ) -> Result<usize, RemakeFault>
     requires puts { (O.receipt outputs.old).failures + 256 ≤ 2 ^ 62 }
-    ensures remade { words.IsRemade (words.made_again recorded.now templates.now tags.now) (outputs.new ≡ outputs.old) (O.receipt outputs.old) (O.receipt outputs.new) result }
+    ensures remade { words.IsRemade (words.made_again recorded.now templates.now tags.now)
+        (outputs.new ≡ outputs.old) (O.receipt outputs.old) (O.receipt outputs.new) result }
     ensures lasting { O.kept outputs.new ≡ O.kept outputs.old }
 {
     let artifacts = artifacts_of(alloc, recorded, templates, tags)?;
     put_artifacts(outputs, artifacts.as_slice())
 }
 
-/// Makes the outputs of a record again, from the templates as they are now, and hands them over. Returns their number.
+/// Makes the outputs of a record again, from the templates as they are now, and hands them over.
+/// Returns their number.
 ///
-/// `text` is that of a record. Without tags, all outputs are made, and otherwise those whose names are tags, each once: files
-/// before headers, in the order of the record.
+/// `text` is that of a record. Without tags, all outputs are made, and otherwise those whose names
+/// are tags, each once: files before headers, in the order of the record.
 ///
 /// # Errors
 ///
-/// Returns the first fault, in the order of [`RemakeFault`]. If a put is refused, the artifacts before it were handed over,
-/// each whole; after any other fault nothing is handed over.
+/// Returns the first fault, in the order of [`RemakeFault`]. If a put is refused, the artifacts
+/// before it were handed over, each whole; after any other fault nothing is handed over.
 pub fn remake<O: Outputs>(
     alloc: Global,
     text: &[u8],
@@ -142,7 +144,8 @@ pub fn remake<O: Outputs>(
     outputs: &mut O,
 ) -> Result<usize, RemakeFault>
     requires puts { (O.receipt outputs.old).failures + 256 ≤ 2 ^ 62 }
-    ensures remade { words.IsRemade (words.remade text.now templates.now tags.now) (outputs.new ≡ outputs.old) (O.receipt outputs.old) (O.receipt outputs.new) result }
+    ensures remade { words.IsRemade (words.remade text.now templates.now tags.now)
+        (outputs.new ≡ outputs.old) (O.receipt outputs.old) (O.receipt outputs.new) result }
     ensures lasting { O.kept outputs.new ≡ O.kept outputs.old }
 {
     let recorded = read(alloc, text)?;

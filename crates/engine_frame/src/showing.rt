@@ -25,7 +25,8 @@ fn line_of(alloc: Global, title: &[u8], version: &[u8]) -> Result<Bytes, AllocEr
 
 /// Returns the title and the version, if the effect is that of AC_INIT.
 fn named_package(effect: &Effect) -> Option<(&[u8], &[u8])>
-    ensures { option_map (λ p. words.line_of p.0.now p.1.now) result ≡ words.package_line effect.now }
+    ensures { option_map (λ p. words.line_of p.0.now p.1.now) result
+        ≡ words.package_line effect.now }
 {
     match effect {
         Effect::Package { title, version, .. } => Some((title.as_slice(), version.as_slice())),

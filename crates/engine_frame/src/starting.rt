@@ -44,7 +44,9 @@ fn check_templates(
     templates: &[(Bytes, Bytes)],
     source: &Source,
 ) -> Result<(), Fault>
-    ensures { Gives (λ _. tt) result (given.present no_create templates.now (lists_of (script_of source.now)).files (lists_of (script_of source.now)).headers) }
+    ensures { Gives (λ _. tt) result (
+        given.present no_create templates.now (lists_of (script_of source.now)).files
+        (lists_of (script_of source.now)).headers) }
 {
     if no_create {
         return Ok(());
@@ -68,7 +70,8 @@ fn named_cache(alloc: Global, text: &[u8]) -> Result<OldCache, Fault>
 
 /// Reads the cache, if one is named and given.
 fn old_cache(alloc: Global, name: Option<&Bytes>, text: Option<&[u8]>) -> Result<OldCache, Fault>
-    ensures { Gives (λ c. c) result (given.old_of (option_map (λ n. n.now) name.entry) (option_map (λ t. t.now) text.entry)) }
+    ensures { Gives (λ c. c) result
+        (given.old_of (option_map (λ n. n.now) name.entry) (option_map (λ t. t.now) text.entry)) }
 {
     match (name, text) {
         (Some(_), Some(text)) => named_cache(alloc, text),
@@ -83,7 +86,8 @@ fn check_vars(
     vars: &mut Vars,
     old: &OldCache,
 ) -> Result<Notes, Fault>
-    ensures { Gives (λ notes. (vars.new, notes)) result (named of_precious (checked (lists_of (script_of source.now)).precious vars.old old.now)) }
+    ensures { Gives (λ notes. (vars.new, notes)) result
+        (named of_precious (checked (lists_of (script_of source.now)).precious vars.old old.now)) }
 {
     Ok(check_precious(alloc, source, vars, old)?)
 }
@@ -123,7 +127,16 @@ fn start_with(
     vars: Vars,
     more: Notes,
 ) -> Result<Start, AllocError>
-    ensures { IfOk result (λ s. s ≡ record { cache_name = settings.now.cache_name; srcdir = settings.now.srcdir; no_create = settings.now.no_create; args = kept args.now; vars = vars; notes = settings.now.notes ++ more }) }
+    ensures { IfOk result (λ s.
+        s
+        ≡ record {
+          cache_name = settings.now.cache_name;
+          srcdir = settings.now.srcdir;
+          no_create = settings.now.no_create;
+          args = kept args.now;
+          vars = vars;
+          notes = settings.now.notes ++ more;
+        }) }
 {
     let cache_name = copied(alloc, settings.cache_name.as_ref())?;
     let srcdir = settings.srcdir.copy(alloc)?;
@@ -146,7 +159,8 @@ fn checked_vars(
     vars: &Vars,
     old: &OldCache,
 ) -> Result<(Vars, Notes), Fault>
-    ensures { Gives (λ r. r) result (named of_precious (checked (lists_of (script_of source.now)).precious vars.now old.now)) }
+    ensures { Gives (λ r. r) result
+        (named of_precious (checked (lists_of (script_of source.now)).precious vars.now old.now)) }
 {
     let mut vars = vars.copy(alloc)?;
     let notes = check_vars(alloc, source, &mut vars, old)?;
@@ -163,7 +177,9 @@ fn started(
     cache: Option<&[u8]>,
     templates: &[(Bytes, Bytes)],
 ) -> Result<Start, Fault>
-    ensures { Gives (λ s. s) result (given.started args.now (option_map (λ t. t.now) cache.entry) templates.now (script_of source.now) settings.now) }
+    ensures { Gives (λ s. s) result (
+        given.started args.now (option_map (λ t. t.now) cache.entry) templates.now
+        (script_of source.now) settings.now) }
 {
     let old = old_cache(alloc, settings.cache_name.as_ref(), cache)?;
     let (mut vars, more) = checked_vars(alloc, source, &settings.vars, &old)?;
@@ -173,8 +189,8 @@ fn started(
     Ok(start)
 }
 
-/// Returns what a run begins with, once its inputs are read: the cache over its variables, the precious variables and the
-/// templates.
+/// Returns what a run begins with, once its inputs are read: the cache over its variables, the
+/// precious variables and the templates.
 ///
 /// # Errors
 ///
@@ -185,7 +201,9 @@ pub fn begin(
     cache: Option<&[u8]>,
     templates: &[(Bytes, Bytes)],
 ) -> Result<Start, Fault>
-    ensures { Gives (λ s. s) result (given.started needs.now.arguments (option_map (λ t. t.now) cache.entry) templates.now (script_in needs.now) needs.now.settings) }
+    ensures { Gives (λ s. s) result (
+        given.started needs.now.arguments (option_map (λ t. t.now) cache.entry) templates.now
+        (script_in needs.now) needs.now.settings) }
 {
     let source = needs.source();
     let args = needs.args();

@@ -1,9 +1,9 @@
 //! Laws of calls of `configure` that are cut short and made again.
 //!
 //! There is no code here. Each function does nothing, and its contract is a theorem on the
-//! definitions of `engine` and `meaning_resumption`. Read `specs/Calls.antt` (what a call is given, and what
-//! its report describes), `specs/Second.antt` (a second call is accepted), and then `specs/Law.antt`
-//! (it ends as one call would).
+//! definitions of `engine` and `meaning_resumption`. Read `specs/Calls.antt` (what a call is given,
+//! and what its report describes), `specs/Second.antt` (a second call is accepted), and then
+//! `specs/Law.antt` (it ends as one call would).
 //!
 //! For example, say that a source checks the header `a.h` and then the function `f`, and that the
 //! start of the second child is refused. The call reports that it was cut short, and hands over a

@@ -38,8 +38,8 @@ pub fn inputs_are_kept()
     last_files_are_read();
 }
 
-/// A disk of one directory, whatever texts are in it at first, is changed by what is done to it, and by
-/// nothing else. So there are disks to which these laws apply.
+/// A disk of one directory, whatever texts are in it at first, is changed by what is done to it,
+/// and by nothing else. So there are disks to which these laws apply.
 #[tactic(auto, using(crate::proofs::Flats::is_coherent))]
 pub fn flat_disks_are_coherent()
     ensures { (start : Texts) → IsCoherent (flat start) }

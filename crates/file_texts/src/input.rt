@@ -12,8 +12,8 @@ const MAX_READS: u32 = 65_536;
 /// The largest number of bytes of one read.
 const READ_SIZE: usize = 4096;
 
-/// Returns all that a reader gives, by at most 65,536 reads of at most 4,096 bytes. A read that a signal interrupts
-/// counts, and is tried again (own).
+/// Returns all that a reader gives, by at most 65,536 reads of at most 4,096 bytes. A read that a
+/// signal interrupts counts, and is tried again (own).
 ///
 /// # Errors
 ///

@@ -11,14 +11,16 @@ ghost use Rattle.output_put.specs.declared.artifact.Artifact.{Artifact};
 
 /// What is read under the name of an artifact, after it was put, is its text.
 pub fn puts_are_read()
-    ensures { (k : Known) (guards : List Guard) (places new : List Place) (artifact : Artifact) (line : List ℕ) (deeds : List Deed)
-        → IsCoherent k.files → IsTakenSo k guards places new artifact line deeds
+    ensures { (k : Known) (guards : List Guard) (places new : List Place) (artifact : Artifact)
+        (line : List ℕ) (deeds : List Deed) → IsCoherent k.files
+        → IsTakenSo k guards places new artifact line deeds
         → text_under (with_deeds k deeds) artifact.name ≡ Some artifact.text }
 {}
 
 /// What is read under another name, at another place, is what was read before the put.
 pub fn puts_leave_others()
-    ensures { (k : Known) (guards : List Guard) (places new : List Place) (artifact : Artifact) (line : List ℕ) (deeds : List Deed) (name : List ℕ) (place : Place) (text : List ℕ)
+    ensures { (k : Known) (guards : List Guard) (places new : List Place) (artifact : Artifact)
+        (line : List ℕ) (deeds : List Deed) (name : List ℕ) (place : Place) (text : List ℕ)
         → IsCoherent k.files → (put : IsTakenSo k guards places new artifact line deeds)
         → IsPutApart k artifact put.file place → ReadsAt k name place text
         → ReadsAt (with_deeds k deeds) name place text }
@@ -30,7 +32,8 @@ pub fn last_files_are_read()
     ensures read { (k : Known) (file text : List ℕ) (deeds : List Deed)
         → IsCoherent k.files → IsReplaced k file text deeds
         → text_under (with_deeds k deeds) file ≡ Some text }
-    ensures others { (k : Known) (file written : List ℕ) (deeds : List Deed) (name : List ℕ) (place : Place) (text : List ℕ)
-        → IsCoherent k.files → IsReplaced k file written deeds → IsApart k file place
-        → ReadsAt k name place text → ReadsAt (with_deeds k deeds) name place text }
+    ensures others { (k : Known) (file written : List ℕ) (deeds : List Deed) (name : List ℕ)
+        (place : Place) (text : List ℕ) → IsCoherent k.files → IsReplaced k file written deeds
+        → IsApart k file place → ReadsAt k name place text
+        → ReadsAt (with_deeds k deeds) name place text }
 {}

@@ -1,9 +1,10 @@
-//! Whole texts that the program reads from files and writes to files, the receiver that writes what a run
-//! hands over, and all that a reader gives.
+//! Whole texts that the program reads from files and writes to files, the receiver that writes what
+//! a run hands over, and all that a reader gives.
 //!
-//! A name of a file is a byte text. It is UTF-8 and has no NUL; under any other name nothing is read or
-//! written. A text that is written replaces the file whole, or the file stays as it was. Only regular files
-//! are read, and only regular files and links are replaced: a pipe, a socket or a device is never opened.
+//! A name of a file is a byte text. It is UTF-8 and has no NUL; under any other name nothing is
+//! read or written. A text that is written replaces the file whole, or the file stays as it was.
+//! Only regular files are read, and only regular files and links are replaced: a pipe, a socket or
+//! a device is never opened.
 //!
 //! ```text
 //! let name = path_in(alloc, srcdir, b"configure.ac")?;       // ./configure.ac, if srcdir is .
@@ -16,14 +17,14 @@
 //! let place = marker_place(&input);                          // Some(10), where the line `%%` begins
 //! ```
 //!
-//! Contracts are over any `file_disk::Disk`. If it is known what is under its names, they say what is read,
-//! and by which steps each text is written. They also say what the receipt of a receiver is, and what its
-//! lines say. Of real files nothing is known, so tests show what is read and written there. "own" marks a
-//! rule that no manual gives.
+//! Contracts are over any `file_disk::Disk`. If it is known what is under its names, they say what
+//! is read, and by which steps each text is written. They also say what the receipt of a receiver
+//! is, and what its lines say. Of real files nothing is known, so tests show what is read and
+//! written there. "own" marks a rule that no manual gives.
 //!
-//! Read `specs/Names`, `specs/Lines`, `specs/Steps` and `specs/Done`, then `names`, `reading`, `writing`,
-//! `links`, `places`, `lines` and `receiver`. For what a reader gives, and its parts before and after the
-//! line `%%`, read `specs/Parted`, then `input` and `marker`.
+//! Read `specs/Names`, `specs/Lines`, `specs/Steps` and `specs/Done`, then `names`, `reading`,
+//! `writing`, `links`, `places`, `lines` and `receiver`. For what a reader gives, and its parts
+//! before and after the line `%%`, read `specs/Parted`, then `input` and `marker`.
 #![tactic(auto)]
 
 pub mod input;

@@ -18,8 +18,8 @@ pub(crate) enum Saying {
     Unchanged,
 }
 
-/// Returns what is said of an artifact of this kind. `is_unchanged` says whether its file has its text
-/// already. It matters for a header alone.
+/// Returns what is said of an artifact of this kind. `is_unchanged` says whether its file has its
+/// text already. It matters for a header alone.
 pub(crate) fn saying_of(kind: Kind, is_unchanged: bool) -> Saying
     ensures { result ≡ meant.saying_of kind is_unchanged }
 {

@@ -80,8 +80,9 @@ pub(crate) fn end_of<D: Disk>(alloc: Global, disk: &D, name: &str) -> io::Result
 /// Returns the name of the file that a link leads to, over any links between.
 #[tactic(auto, using(crate::proofs::Leading::first, crate::proofs::Leading::further, crate::proofs::Leading::ended))]
 fn followed<D: Disk>(alloc: Global, disk: &D, name: &str) -> io::Result<String>
-    ensures { IfOk result (λ end. IfSome (D.known disk.now)
-        (λ k. meant.is_link (kind_under k name.now) ≡ true → LeadsTo k name.now (string_bytes end))) }
+    ensures { IfOk result (λ end.
+        IfSome (D.known disk.now) (λ k.
+        meant.is_link (kind_under k name.now) ≡ true → LeadsTo k name.now (string_bytes end))) }
 {
     let mut end = next_of(alloc, disk, name)?;
     for _ in 1..MOST_LINKS {

@@ -20,7 +20,8 @@ fn is_marker(line: &[u8]) -> bool
 
 /// Returns the offset of the first line that is exactly `%%`.
 pub fn marker_place(input: &[u8]) -> Option<usize>
-    ensures parted { IfSome result (λ n. IsParted input.now (take n input.now) (drop (n + 3) input.now)) }
+    ensures parted { IfSome result (λ n.
+        IsParted input.now (take n input.now) (drop (n + 3) input.now)) }
     ensures within { IfSome result (λ n. n ≤ length input.now) }
     ensures no_marker { IfNone result (HasNoMarker input.now) }
 {

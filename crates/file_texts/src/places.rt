@@ -31,8 +31,8 @@ pub(crate) struct Guard {
 
 /// Returns the device and the number of the directory in which a name is.
 fn home<D: Disk>(disk: &D, name: &str) -> io::Result<(u64, u64)>
-    ensures found { IfOk result
-        (λ d. IfSome (D.known disk.now) (λ k. directory_under k (names.home_of name.now) ≡ Some d)) }
+    ensures found { IfOk result (λ d.
+        IfSome (D.known disk.now) (λ k. directory_under k (names.home_of name.now) ≡ Some d)) }
     ensures missing { IfErr result (λ e. error_kind e ≢ ErrorKind.OutOfMemory
         → IfSome (D.known disk.now) (λ k. directory_under k (names.home_of name.now) ≡ None)) }
 {
@@ -140,8 +140,8 @@ pub(crate) fn is_held<D: Disk>(
 ) -> Result<bool, AllocError>
     ensures named { IfOk result
         (λ held. held ≡ false → meant.is_name_guarded name.now guards.now ≡ false) }
-    ensures held { IfOk result
-        (λ held. held ≡ false → meant.is_held (D.known disk.now) name.now guards.now places.now ≡ false) }
+    ensures held { IfOk result (λ held.
+        held ≡ false → meant.is_held (D.known disk.now) name.now guards.now places.now ≡ false) }
 {
     if is_name_guarded(name.as_bytes(), guards) {
         return Ok(true);

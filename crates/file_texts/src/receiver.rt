@@ -179,10 +179,12 @@ fn write_placed<D: Disk>(
     put: &Put<'_>,
     end: &Option<String>,
 ) -> io::Result<()>
-    ensures stepped { OnOk result (Does (D.known disk.old) (D.known disk.new)
-        (λ k deeds. IsStepped k guards.now places.old.items places.new.items put.now.saying put.now.unchanged
-        (keeps_of put.now.kind) put.now.name.now
-        (meant.file_of (option_map string_bytes end.now) put.now.name.now) put.now.text.now deeds)) }
+    ensures stepped { OnOk result (
+        Does (D.known disk.old) (D.known disk.new) (λ k deeds.
+        IsStepped k guards.now places.old.items places.new.items put.now.saying
+        put.now.unchanged (keeps_of put.now.kind) put.now.name.now
+        (meant.file_of (option_map string_bytes end.now) put.now.name.now) put.now.text.now
+        deeds)) }
     ensures undone { OnErr result
         (Does (D.known disk.old) (D.known disk.new)
         (λ _ deeds. IsUnstepped put.now.saying put.now.name.now
@@ -198,9 +200,9 @@ fn write_placed<D: Disk>(
     write_text(alloc, disk, file.as_bytes(), kept_by(put.kind), put.text)
 }
 
-/// Returns whether an artifact of this kind is compared with the text that its file has. What is not
-/// compared is written in any case: a file, and the record, so that it is newer than what it was
-/// made of.
+/// Returns whether an artifact of this kind is compared with the text that its file has. What is
+/// not compared is written in any case: a file, and the record, so that it is newer than what it
+/// was made of.
 fn is_compared(kind: Kind) -> bool
     ensures { result ≡ meant.is_compared kind }
 {
@@ -265,9 +267,9 @@ fn file_of<'a>(end: &'a Option<String>, name: &'a str) -> &'a str
     }
 }
 
-/// Appends an artifact and what is said of it, writes the artifact, and adds its places. If the put is
-/// refused, it appends nothing and adds no place. So there is memory to keep the artifact before its
-/// file is written.
+/// Appends an artifact and what is said of it, writes the artifact, and adds its places. If the put
+/// is refused, it appends nothing and adds no place. So there is memory to keep the artifact before
+/// its file is written.
 fn keep_written<D: Disk>(
     alloc: Global,
     disk: &mut D,
@@ -279,15 +281,18 @@ fn keep_written<D: Disk>(
     put: &Put<'_>,
     end: &Option<String>,
 ) -> io::Result<()>
-    ensures ok { OnOk result
-        (IsKept artifacts.old.items lines.old.items artifacts.new.items lines.new.items artifact (said put.now.saying put.now.name.now)) }
+    ensures ok { OnOk result (
+        IsKept artifacts.old.items lines.old.items artifacts.new.items lines.new.items artifact
+        (said put.now.saying put.now.name.now)) }
     ensures err { OnErr result
         (AreSame artifacts.old.items lines.old.items artifacts.new.items lines.new.items) }
     ensures unplaced { OnErr result (places.new.items ≡ places.old.items) }
-    ensures stepped { OnOk result (Does (D.known disk.old) (D.known disk.new)
-        (λ k deeds. IsStepped k guards.now places.old.items places.new.items put.now.saying put.now.unchanged
-        (keeps_of put.now.kind) put.now.name.now
-        (meant.file_of (option_map string_bytes end.now) put.now.name.now) put.now.text.now deeds)) }
+    ensures stepped { OnOk result (
+        Does (D.known disk.old) (D.known disk.new) (λ k deeds.
+        IsStepped k guards.now places.old.items places.new.items put.now.saying
+        put.now.unchanged (keeps_of put.now.kind) put.now.name.now
+        (meant.file_of (option_map string_bytes end.now) put.now.name.now) put.now.text.now
+        deeds)) }
     ensures undone { OnErr result
         (Does (D.known disk.old) (D.known disk.new)
         (λ _ deeds. IsUnstepped put.now.saying put.now.name.now
@@ -327,8 +332,9 @@ fn take<'a, D: Disk>(
     text: &'a [u8],
 ) -> io::Result<()>
     ensures unclosed { OnOk result (is_closed ≡ false) }
-    ensures taken { OnOk result
-        (Takes (D.known disk.old) (D.known disk.new) guards.now places.old.items places.new.items artifacts.old.items lines.old.items artifacts.new.items lines.new.items
+    ensures taken { OnOk result (
+        Takes (D.known disk.old) (D.known disk.new) guards.now places.old.items places.new.items
+        artifacts.old.items lines.old.items artifacts.new.items lines.new.items
         (record { kind = kind; name = name.now; text = text.now })) }
     ensures name { IfOk result (λ _. IsFileName name.now) }
     ensures unguarded { OnOk result (is_name_guarded name.now guards.now ≡ false) }
@@ -373,8 +379,9 @@ fn take_free<'a, D: Disk>(
     requires path { path.now ≡ name.now }
     requires name { IsFileName name.now }
     requires unguarded { is_name_guarded name.now guards.now ≡ false }
-    ensures taken { OnOk result
-        (Takes (D.known disk.old) (D.known disk.new) guards.now places.old.items places.new.items artifacts.old.items lines.old.items artifacts.new.items lines.new.items
+    ensures taken { OnOk result (
+        Takes (D.known disk.old) (D.known disk.new) guards.now places.old.items places.new.items
+        artifacts.old.items lines.old.items artifacts.new.items lines.new.items
         (record { kind = kind; name = name.now; text = text.now })) }
     ensures unchanged { OnErr result
         (AreSame artifacts.old.items lines.old.items artifacts.new.items lines.new.items) }
@@ -447,8 +454,10 @@ impl<D: Disk> FileOutputs<D> {
         // No artifact has a guarded name, whether anything is known of the files or not.
         ensures unguarded { AreUnguarded self.now.guards self.now.handed }
         // Each artifact has a file of its own, which is not that of a guarded name.
-        ensures apart { self.now.closed ≡ false → IfSome (D.known self.now.disk)
-            (λ k. IsDoneApart k self.now.guards self.now.handed self.now.failures self.now.lines self.now.places) }
+        ensures apart { self.now.closed ≡ false
+            → IfSome (D.known self.now.disk) (λ k.
+            IsDoneApart k self.now.guards self.now.handed self.now.failures self.now.lines
+            self.now.places) }
     {
         self.lines.as_slice()
     }
@@ -463,8 +472,10 @@ impl<D: Disk> FileOutputs<D> {
     pub fn keep(&mut self, name: &[u8]) -> Result<(), AllocError>
         requires { IsUnused self.old }
         ensures unnamed { (IsFileName name.now → ⊥) → self.new ≡ self.old }
-        ensures guarded { OnOk result (IsFileName name.now → IsGuarded D.known self.old self.new name.now) }
-        ensures named { OnOk result (IsFileName name.now → is_name_guarded name.now self.new.guards ≡ true) }
+        ensures guarded { OnOk result (
+            IsFileName name.now → IsGuarded D.known self.old self.new name.now) }
+        ensures named { OnOk result (
+            IsFileName name.now → is_name_guarded name.now self.new.guards ≡ true) }
         ensures err { OnErr result (self.new ≡ self.old) }
         ensures more { GuardsMore self.old self.new }
     {
@@ -476,8 +487,8 @@ impl<D: Disk> FileOutputs<D> {
         Ok(())
     }
 
-    /// Writes a last file, which is no artifact, such as a log. A regular file or a link of this name
-    /// is removed first. From then on each put is refused.
+    /// Writes a last file, which is no artifact, such as a log. A regular file or a link of this
+    /// name is removed first. From then on each put is refused.
     ///
     /// # Errors
     ///
@@ -515,21 +526,25 @@ impl<D: Disk> Outputs for FileOutputs<D> {
 
     fn put(&mut self, kind: Kind, name: &[u8], text: &[u8]) -> Result<(), PutRefused>
         requires failures { (receipt_of self.old).failures < 2 ^ 62 }
-        ensures taken { OnOk result
-            (receipt_of self.new ≡ with_artifact (receipt_of self.old) (record { kind = kind; name = name.now; text = text.now })) }
+        ensures taken { OnOk result (
+            receipt_of self.new
+            ≡ with_artifact (receipt_of self.old)
+            (record { kind = kind; name = name.now; text = text.now })) }
         ensures refused { OnErr result (receipt_of self.new ≡ with_refusal (receipt_of self.old)) }
         ensures name { IfOk result (λ _. IsFileName name.now) }
         ensures unclosed { OnOk result (self.old.closed ≡ false) }
         // Nothing is put to a name that is guarded, whether anything is known of the files or not.
         ensures unguarded { OnOk result (is_name_guarded name.now self.old.guards ≡ false) }
         // A put to a guarded name, to its place, or to that of another artifact does nothing.
-        ensures held { is_held (D.known self.old.disk) name.now self.old.guards self.old.places ≡ true
-            → (is_err result ≡ true) × (self.new.disk ≡ self.old.disk) }
+        ensures held { is_held (D.known self.old.disk) name.now self.old.guards self.old.places
+            ≡ true → (is_err result ≡ true) × (self.new.disk ≡ self.old.disk) }
         // What was done to the disk, if that is known, and what is said of the artifact.
-        ensures done { OnOk result
-            ((line : List ℕ) × IsTaken self.old self.new (record { kind = kind; name = name.now; text = text.now }) line
-            × Does (D.known self.old.disk) (D.known self.new.disk)
-            (λ k deeds. IsTakenSo k self.old.guards self.old.places self.new.places
+        ensures done { OnOk result (
+            (line : List ℕ)
+            × IsTaken self.old self.new
+            (record { kind = kind; name = name.now; text = text.now }) line
+            × Does (D.known self.old.disk) (D.known self.new.disk) (λ k deeds.
+            IsTakenSo k self.old.guards self.old.places self.new.places
             (record { kind = kind; name = name.now; text = text.now }) line deeds)) }
         ensures counted { OnErr result (IsCounted self.old self.new) }
         ensures undone { OnErr result

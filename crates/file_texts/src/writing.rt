@@ -55,9 +55,10 @@ fn finish<D: Disk>(
 ) -> io::Result<()>
     ensures done { OnOk result (Adds (D.known disk.old) (D.known disk.new)
         (Filled other.now mode text.now ∷ Renamed other.now name.now ∷ [])) }
-    ensures failed { OnErr result
-        (Adds (D.known disk.old) (D.known disk.new) (Failed other.now ∷ Removed other.now ∷ [])
-        ⊎ Adds (D.known disk.old) (D.known disk.new) (Filled other.now mode text.now ∷ Removed other.now ∷ [])) }
+    ensures failed { OnErr result (
+        Adds (D.known disk.old) (D.known disk.new) (Failed other.now ∷ Removed other.now ∷ [])
+        ⊎ Adds (D.known disk.old) (D.known disk.new)
+        (Filled other.now mode text.now ∷ Removed other.now ∷ [])) }
 {
     match disk.fill(other, file, mode, text) {
         Ok(()) => match disk.rename(other, name) {
@@ -83,8 +84,9 @@ fn replace<D: Disk>(
     mode: Option<u32>,
     text: &[u8],
 ) -> io::Result<()>
-    ensures written { OnOk result
-        ((n : ℕ) × IfSome (D.known disk.old) (λ k. kind_under k (temporary name.now n) ≡ found.Nothing)
+    ensures written { OnOk result (
+        (n : ℕ)
+        × IfSome (D.known disk.old) (λ k. kind_under k (temporary name.now n) ≡ found.Nothing)
         × Adds (D.known disk.old) (D.known disk.new) (writing name.now mode text.now n)) }
     ensures undone { OnErr result
         (Does (D.known disk.old) (D.known disk.new) (λ _ deeds. IsUndone name.now deeds)) }

@@ -22,20 +22,22 @@ fn is_of_text(error: &Finding) -> bool {
     error.code.as_slice() == b"parse-3".as_slice()
 }
 
-/// Returns whether a word goes on with a construct of the shell or ends it, or is a pattern of `case`.
+/// Returns whether a word goes on with a construct of the shell or ends it, or is a pattern of
+/// `case`.
 fn continues(word: &[u8]) -> bool {
     let is_pattern = word.ends_with(b")") && !word.contains(&b'(');
     is_pattern || CONTINUING.iter().any(|other| *other == word)
 }
 
-/// Returns whether an error is of text that another error is about too: that of the construct which the text goes on with or ends, or
-/// that something is before AC_INIT.
+/// Returns whether an error is of text that another error is about too: that of the construct which
+/// the text goes on with or ends, or that something is before AC_INIT.
 fn is_continuing(text: &[u8], error: &Finding) -> bool {
     let rest = from(text, error.start);
     is_of_text(error) && (rest.starts_with(MARK) || continues(first_word(rest)))
 }
 
-/// Returns the place and the code of an error. In a file with the line ends of another system each line has the same error.
+/// Returns the place and the code of an error. In a file with the line ends of another system each
+/// line has the same error.
 fn key_of(alloc: Global, text: &[u8], error: &Finding) -> Result<Vec<u8>, AllocError> {
     if is_of_text(error) && first_line(from(text, error.start)).ends_with(b"\r") {
         return Vec::from_slice(alloc, b"\r");
@@ -66,7 +68,8 @@ fn seen_in(alloc: Global, text: &[u8], errors: &[Finding]) -> Result<Seen, Alloc
     Ok(seen)
 }
 
-/// Appends an error, if its place and code are new, and if it isn't of text that goes on with a construct of the shell.
+/// Appends an error, if its place and code are new, and if it isn't of text that goes on with a
+/// construct of the shell.
 fn push_new(
     alloc: Global,
     text: &[u8],
@@ -84,8 +87,8 @@ fn push_new(
     Ok(())
 }
 
-/// Returns errors with others after them, but for those whose place and code an earlier one has, and those of text that goes on with
-/// a construct of the shell.
+/// Returns errors with others after them, but for those whose place and code an earlier one has,
+/// and those of text that goes on with a construct of the shell.
 pub(crate) fn joined(
     alloc: Global,
     text: &[u8],

@@ -4,7 +4,8 @@ use crate::scan::Scan;
 use ac_calls::{CallAt, Extent};
 use lint_text::{after_blanks, from, part};
 
-/// Writes a space for each byte between two offsets, but for newlines. Returns whether that changed anything.
+/// Writes a space for each byte between two offsets, but for newlines. Returns whether that changed
+/// anything.
 pub(crate) fn blank(text: &mut [u8], start: usize, end: usize) -> bool {
     let end = end.min(text.len());
     let mut has_changed = false;
@@ -36,7 +37,8 @@ pub(crate) fn innermost(calls: &[CallAt], place: usize) -> Option<&CallAt> {
         .find(|call| call.start <= place && place < call.end)
 }
 
-/// Returns the offset after the text that is between the brackets of an argument, or after the argument.
+/// Returns the offset after the text that is between the brackets of an argument, or after the
+/// argument.
 fn inner_end(text: &[u8], arg: &Extent) -> usize {
     let written = part(text, arg.start, arg.end);
     if written.first() != Some(&b'[') {
@@ -57,7 +59,8 @@ pub(crate) fn inner_start(text: &[u8], arg: &Extent) -> usize {
     }
 }
 
-/// Returns the offset after a call: after its line if it has no arguments, and a parenthesis is after blanks.
+/// Returns the offset after a call: after its line if it has no arguments, and a parenthesis is
+/// after blanks.
 fn end_of(text: &[u8], call: &CallAt) -> usize {
     let rest = from(text, call.end);
     if !call.args.is_empty() || !after_blanks(rest).starts_with(b"(") {
@@ -82,7 +85,8 @@ pub(crate) fn blank_call(text: &mut [u8], calls: &[CallAt], call: &CallAt) -> bo
     has_changed | blank(text, at, end)
 }
 
-/// Returns where the text between calls that has the place ends: at the next call, at the end of the argument, or at the end.
+/// Returns where the text between calls that has the place ends: at the next call, at the end of
+/// the argument, or at the end.
 fn bare_end(text: &[u8], calls: &[CallAt], place: usize) -> usize {
     let mut end = text.len();
     for call in calls {
@@ -98,7 +102,8 @@ fn bare_end(text: &[u8], calls: &[CallAt], place: usize) -> usize {
     end
 }
 
-/// Returns where the text between calls that has the place begins: after the last call, or at the start of the argument.
+/// Returns where the text between calls that has the place begins: after the last call, or at the
+/// start of the argument.
 fn bare_start(text: &[u8], calls: &[CallAt], place: usize) -> usize {
     let mut start = 0;
     for call in calls {
@@ -124,8 +129,8 @@ fn scan_after(text: &[u8]) -> Scan {
     scan
 }
 
-/// Returns the length of the shell statement that a text begins with, up to the newline after it, a comment, or the end. If a quote
-/// isn't closed, returns the length of the first line.
+/// Returns the length of the shell statement that a text begins with, up to the newline after it, a
+/// comment, or the end. If a quote isn't closed, returns the length of the first line.
 fn statement_len(before: Scan, text: &[u8]) -> usize {
     let mut scan = before;
     for i in 0..text.len() {
@@ -153,8 +158,8 @@ fn put_blank(text: &mut [u8], at: usize) {
     }
 }
 
-/// Writes a space for each byte of a statement between two offsets, but for newlines, brackets that quote, and lines from `dnl` on.
-/// Returns whether that changed anything.
+/// Writes a space for each byte of a statement between two offsets, but for newlines, brackets that
+/// quote, and lines from `dnl` on. Returns whether that changed anything.
 fn blank_statement(before: Scan, text: &mut [u8], start: usize, end: usize) -> bool {
     let mut scan = before;
     let mut has_changed = false;
@@ -172,7 +177,8 @@ fn blank_statement(before: Scan, text: &mut [u8], start: usize, end: usize) -> b
     has_changed
 }
 
-/// Blanks the statement between calls that begins at the place. Returns whether that changed anything.
+/// Blanks the statement between calls that begins at the place. Returns whether that changed
+/// anything.
 pub(crate) fn blank_bare(text: &mut [u8], calls: &[CallAt], place: usize) -> bool {
     let end = bare_end(text, calls, place);
     let before = scan_after(part(text, bare_start(text, calls, place), place));

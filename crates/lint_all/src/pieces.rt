@@ -21,8 +21,9 @@ fn push_starts(
     Ok(())
 }
 
-/// Returns the offsets at which the pieces of a text with these calls begin: its start, and that of each line that is in no call, quote
-/// or bracket, and that no backslash joins to the line before it.
+/// Returns the offsets at which the pieces of a text with these calls begin: its start, and that of
+/// each line that is in no call, quote or bracket, and that no backslash joins to the line before
+/// it.
 pub(crate) fn starts_of(
     alloc: Global,
     text: &[u8],

@@ -156,7 +156,8 @@ fn take_out(
     ))
 }
 
-/// Returns whether the error is that there is no call of a macro that is there, since it was taken out.
+/// Returns whether the error is that there is no call of a macro that is there, since it was taken
+/// out.
 fn is_made(piece: Piece<'_>, code: &[u8]) -> bool {
     let name = match code {
         b"parse-8" => b"AC_INIT".as_slice(),
@@ -179,7 +180,8 @@ fn place_of(reader: &Reader<'_>, piece: Piece<'_>, base: usize, at: usize) -> us
 
 /// Returns an error of the source, with these offsets.
 fn error_at(finding: Finding, start: usize, end: usize) -> Finding
-    ensures { (result.file ≡ 0) × (result.start ≡ start) × (result.end ≡ end) × (result.severity ≡ Error) }
+    ensures { (result.file ≡ 0) × (result.start ≡ start) × (result.end ≡ end)
+        × (result.severity ≡ Error) }
 {
     let Finding {
         code,
@@ -236,7 +238,8 @@ fn first_at(text: &[u8]) -> usize {
     0
 }
 
-/// Returns the error that a source has no AC_INIT. Its words don't speak of the copy, in which what is at the start may be blanks.
+/// Returns the error that a source has no AC_INIT. Its words don't speak of the copy, in which what
+/// is at the start may be blanks.
 fn without_init(alloc: Global, reader: &Reader<'_>, piece: Piece<'_>) -> Result<Finding, AllocError>
     ensures { IfOk result (specs.IsErrorOf reader.now.len) }
 {
@@ -285,7 +288,8 @@ fn push_error(
     Ok(())
 }
 
-/// Appends the first error of the copy, and takes out what it is about. Returns whether there may be further ones.
+/// Appends the first error of the copy, and takes out what it is about. Returns whether there may
+/// be further ones.
 fn add_first(
     alloc: Global,
     reader: &Reader<'_>,
@@ -305,7 +309,8 @@ fn add_first(
     Ok(goes_on)
 }
 
-/// Takes what a reading of the copy counts for off what may still be read. Returns whether so much was left.
+/// Takes what a reading of the copy counts for off what may still be read. Returns whether so much
+/// was left.
 fn spend(copy: &Copy, left: &mut usize) -> bool {
     let cost = copy.text.len().saturating_add(READING);
     let is_enough = cost <= *left;
@@ -313,8 +318,8 @@ fn spend(copy: &Copy, left: &mut usize) -> bool {
     is_enough
 }
 
-/// Appends the errors of a text, of which there is a copy, as far as so much reading finds them. What they are about becomes blanks in
-/// the copy.
+/// Appends the errors of a text, of which there is a copy, as far as so much reading finds them.
+/// What they are about becomes blanks in the copy.
 pub(crate) fn add_rounds(
     alloc: Global,
     reader: &Reader<'_>,

@@ -19,7 +19,8 @@ struct Pieces {
     starts: Vec<usize>,
     /// The length of the source.
     len: usize,
-    /// The offsets of the first call of AC_INIT, and of the first of AC_OUTPUT, or that after the source.
+    /// The offsets of the first call of AC_INIT, and of the first of AC_OUTPUT, or that after the
+    /// source.
     init: usize,
     output: usize,
 }
@@ -40,7 +41,8 @@ impl Pieces {
         start <= self.init && self.init < end || start <= self.output && self.output < end
     }
 
-    /// Returns the index after a run of so many pieces, or of fewer if one of them begins or ends the source.
+    /// Returns the index after a run of so many pieces, or of fewer if one of them begins or ends
+    /// the source.
     fn run_end(&self, first: usize, size: usize) -> usize {
         let mut end = first.saturating_add(1);
         for index in end..first.saturating_add(size).min(self.starts.len()) {
@@ -53,7 +55,8 @@ impl Pieces {
     }
 }
 
-/// Returns the offset of the first call of a macro that is in no other call, or that after the text.
+/// Returns the offset of the first call of a macro that is in no other call, or that after the
+/// text.
 fn place_of(text: &[u8], calls: &[CallAt], name: &[u8]) -> usize {
     let mut reach = 0;
     for call in calls {
@@ -241,8 +244,8 @@ fn go_on(
     }
 }
 
-/// Appends the errors of the pieces of a text with these calls, but for those that begin and end the source, as far as so much reading
-/// finds them. What they are about becomes blanks.
+/// Appends the errors of the pieces of a text with these calls, but for those that begin and end
+/// the source, as far as so much reading finds them. What they are about becomes blanks.
 pub(crate) fn add_pieces(
     alloc: Global,
     reader: &Reader<'_>,

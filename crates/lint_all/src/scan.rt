@@ -2,7 +2,8 @@
 
 use lint_text::{first_name, is_word_byte};
 
-/// What is open at a place of the text between calls, from the start of the text or the last call on.
+/// What is open at a place of the text between calls, from the start of the text or the last call
+/// on.
 #[derive(Clone, Copy)]
 pub struct Scan {
     /// The brackets.
@@ -65,8 +66,8 @@ impl Scan {
         self.quote != 0
     }
 
-    /// Returns whether the byte that was just read has to stay where a statement becomes blanks: it is after `dnl`, or it is a bracket
-    /// that quotes.
+    /// Returns whether the byte that was just read has to stay where a statement becomes blanks: it
+    /// is after `dnl`, or it is a bracket that quotes.
     pub(crate) fn keeps(&self, byte: u8) -> bool {
         self.is_dropped || (byte == b'[' || byte == b']') && !self.is_comment
     }
@@ -79,8 +80,8 @@ impl Scan {
             && first_name(text) == b"dnl".as_slice()
     }
 
-    /// Returns whether the shell's statement ends before a byte, with which the text begins: before a newline, a comment or `dnl` that
-    /// is in no quote of the shell.
+    /// Returns whether the shell's statement ends before a byte, with which the text begins: before
+    /// a newline, a comment or `dnl` that is in no quote of the shell.
     pub(crate) fn ends_before(&self, byte: u8, text: &[u8]) -> bool {
         if self.is_dropped || self.is_escaped || self.quote != 0 {
             return false;

@@ -17,7 +17,8 @@ use lint_findings::{Finding, put_in_order};
 use lint_macros::Index;
 use std::alloc::{AllocError, Global};
 
-/// How many bytes are read at least, to find errors one after the other, and how often the length of the source.
+/// How many bytes are read at least, to find errors one after the other, and how often the length
+/// of the source.
 const LEAST: usize = 4_000_000;
 
 const OFTEN: usize = 8;
@@ -34,7 +35,8 @@ fn mark(marks: &mut [bool], at: usize) {
     }
 }
 
-/// Marks the offsets at which text between calls begins: after each call, and at the start of each argument or after its bracket.
+/// Marks the offsets at which text between calls begins: after each call, and at the start of each
+/// argument or after its bracket.
 fn mark_starts(text: &[u8], calls: &[CallAt], marks: &mut [bool]) {
     for call in calls {
         mark(marks, call.end);
@@ -44,7 +46,8 @@ fn mark_starts(text: &[u8], calls: &[CallAt], marks: &mut [bool]) {
     }
 }
 
-/// Returns for each offset whether a quote of the shell is open there, if text between calls begins at the offsets with a mark.
+/// Returns for each offset whether a quote of the shell is open there, if text between calls begins
+/// at the offsets with a mark.
 fn quotes_of(alloc: Global, text: &[u8], marks: &[bool]) -> Result<Vec<bool>, AllocError> {
     let mut out = Vec::new(alloc);
     let mut scan = Scan::new();
@@ -58,8 +61,8 @@ fn quotes_of(alloc: Global, text: &[u8], marks: &[bool]) -> Result<Vec<bool>, Al
     Ok(out)
 }
 
-/// Blanks the calls whose macro isn't known, but for those before which a quote of the shell is open. Without such a call the quote
-/// may be closed after it, and the error is lost.
+/// Blanks the calls whose macro isn't known, but for those before which a quote of the shell is
+/// open. Without such a call the quote may be closed after it, and the error is lost.
 fn blank_unknown(alloc: Global, text: &mut [u8], calls: &[CallAt]) -> Result<(), AllocError> {
     let mut marks = vec![in alloc; false; text.len()]?;
     mark_starts(text, calls, &mut marks);
@@ -97,7 +100,8 @@ fn add_others(
     add_rounds(alloc, reader, piece, &mut copy, &mut left, found)
 }
 
-/// Returns errors of a source with these calls that are found by reading on after each of them, in no order.
+/// Returns errors of a source with these calls that are found by reading on after each of them, in
+/// no order.
 fn others_of(alloc: Global, text: &[u8], calls: &[CallAt]) -> Result<Vec<Finding>, AllocError>
     ensures { IfOk result (λ v. All (specs.IsErrorOf (length text.now)) v.items) }
 {
@@ -111,7 +115,8 @@ fn others_of(alloc: Global, text: &[u8], calls: &[CallAt]) -> Result<Vec<Finding
     Ok(found)
 }
 
-/// Returns whether the errors are that of the quotes of a source. Then no call is found, and nothing is read on.
+/// Returns whether the errors are that of the quotes of a source. Then no call is found, and
+/// nothing is read on.
 fn is_of_quotes(errors: &[Finding]) -> bool {
     errors
         .iter()
@@ -129,7 +134,8 @@ fn others_after(alloc: Global, text: &[u8], errors: &[Finding]) -> Result<Vec<Fi
     others_of(alloc, text, calls.as_slice())
 }
 
-/// Returns these errors of a source and those that are found by reading on after each of them, in order of their places.
+/// Returns these errors of a source and those that are found by reading on after each of them, in
+/// order of their places.
 fn with_others(alloc: Global, text: &[u8], errors: Vec<Finding>) -> Result<Vec<Finding>, AllocError>
     requires { All (specs.IsErrorOf (length text.now)) errors.items }
     ensures among { IfOk result (λ v. specs.AreAmong errors.items v.items) }
@@ -142,12 +148,13 @@ fn with_others(alloc: Global, text: &[u8], errors: Vec<Finding>) -> Result<Vec<F
     Ok(found)
 }
 
-/// Returns the errors of a source, in order of their places: those of [`errors_of`], and those that are found by reading on after each
-/// (own). So that all errors are found is not promised: if a statement has several, one may hide another. If the quotes of the source
-/// have an error, that is the only one.
+/// Returns the errors of a source, in order of their places: those of [`errors_of`], and those that
+/// are found by reading on after each (own). So that all errors are found is not promised: if a
+/// statement has several, one may hide another. If the quotes of the source have an error, that is
+/// the only one.
 ///
-/// An error of a word such as `fi`, which goes on with a construct of the shell or ends it, is there only if it is one of
-/// [`errors_of`].
+/// An error of a word such as `fi`, which goes on with a construct of the shell or ends it, is
+/// there only if it is one of [`errors_of`].
 ///
 /// # Errors
 ///

@@ -43,7 +43,8 @@ fn with_first<'a>(
     Ok(out)
 }
 
-/// The macros whose idiom is written once for each entry of the first argument. Commas are between the entries.
+/// The macros whose idiom is written once for each entry of the first argument. Commas are between
+/// the entries.
 const EACH: [&[u8]; 1] = [b"AC_CHECK_MEMBERS"];
 
 /// For how many entries an idiom is written at most.
@@ -63,7 +64,8 @@ fn put_filled(
     out.extend_from_slice(filled.as_slice())
 }
 
-/// Returns an idiom once for each entry of the first of these arguments, up to a limit, with the entry in its place.
+/// Returns an idiom once for each entry of the first of these arguments, up to a limit, with the
+/// entry in its place.
 fn filled_each(alloc: Global, idiom: &[u8], args: &[&[u8]]) -> Result<Vec<u8>, AllocError> {
     let mut out = Vec::new(alloc);
     for entry in first_of(args).split(|byte| *byte == b',').take(MOST) {
@@ -128,7 +130,8 @@ fn help_of(
     }
 }
 
-/// Returns the finding of a call with what the table of other macros says of it, if it has the macro.
+/// Returns the finding of a call with what the table of other macros says of it, if it has the
+/// macro.
 pub(crate) fn advised(
     alloc: Global,
     index: &Index,

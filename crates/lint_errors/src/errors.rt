@@ -45,7 +45,8 @@ fn too_long(alloc: Global) -> Result<Vec<Finding>, AllocError>
 
 /// Returns the errors of a source that was read.
 fn errors_read(alloc: Global, source: &Source) -> Result<Vec<Finding>, AllocError>
-    ensures shown { IfOk result (λ v. map specs.finding_view v.items ≡ specs.errors_read (script_of source.now)) }
+    ensures shown { IfOk result (λ v.
+        map specs.finding_view v.items ≡ specs.errors_read (script_of source.now)) }
     ensures ends { (len : ℕ) → IfOk result (λ v. All (specs.EndsIn len) v.items) }
 {
     if is_too_long(alloc, source)? {
@@ -64,7 +65,9 @@ fn found(
     at: usize,
     calls: &[CallAt],
 ) -> Result<Vec<Finding>, AllocError>
-    ensures shown { IfOk result (λ v. map specs.finding_view v.items ≡ specs.errors_refused fault at (map macro_call_of calls.now)) }
+    ensures shown { IfOk result (λ v.
+        map specs.finding_view v.items
+        ≡ specs.errors_refused fault at (map macro_call_of calls.now)) }
     ensures ends { IfOk result (λ v. All (specs.EndsIn (length text.now)) v.items) }
 {
     let first = fault_finding(alloc, index, text, fault, at, calls)?;
@@ -82,7 +85,8 @@ fn ordered(
     fault: ParseFault,
     calls: &[CallAt],
 ) -> Result<Vec<Finding>, AllocError>
-    ensures refused { IfOk result (λ v. specs.AreRefused text.now fault (map macro_call_of calls.now) v.items) }
+    ensures refused { IfOk result (λ v.
+        specs.AreRefused text.now fault (map macro_call_of calls.now) v.items) }
     ensures ends { IfOk result (λ v. All (specs.EndsIn (length text.now)) v.items) }
 {
     let at = place_of_fault(alloc, text, fault, calls)?;
@@ -98,14 +102,16 @@ fn errors_refused(
     text: &[u8],
     fault: ParseFault,
 ) -> Result<Vec<Finding>, AllocError>
-    ensures refused { IfOk result (λ v. specs.AreRefused text.now fault (calls_in text.now) v.items) }
+    ensures refused { IfOk result (λ v.
+        specs.AreRefused text.now fault (calls_in text.now) v.items) }
     ensures ends { IfOk result (λ v. All (specs.EndsIn (length text.now)) v.items) }
 {
     let calls = calls_of(alloc, text)?;
     ordered(alloc, index, text, fault, &calls)
 }
 
-/// Returns the errors of a source, in order of their places, as [`errors_of`] does. The table of macros is made once for many sources.
+/// Returns the errors of a source, in order of their places, as [`errors_of`] does. The table of
+/// macros is made once for many sources.
 ///
 /// # Errors
 ///
@@ -134,12 +140,13 @@ fn find_errors(alloc: Global, text: &[u8]) -> Result<Vec<Finding>, AllocError>
 
 /// Returns the errors of a source, in order of their places.
 ///
-/// If the source is refused, they are the reader's fault and the calls that have to go, each once. Otherwise there is at most one:
-/// that it weighs too much for a plan. The calls are those of `ac_calls`, so none is looked for if the source's quotes have an
-/// error.
+/// If the source is refused, they are the reader's fault and the calls that have to go, each once.
+/// Otherwise there is at most one: that it weighs too much for a plan. The calls are those of
+/// `ac_calls`, so none is looked for if the source's quotes have an error.
 ///
-/// The place of a fault is its offset: 0 if it has none, and the end of the source if AC_OUTPUT is missing. In text between calls
-/// it is the start of the statement at fault, which is not before the fault's offset.
+/// The place of a fault is its offset: 0 if it has none, and the end of the source if AC_OUTPUT is
+/// missing. In text between calls it is the start of the statement at fault, which is not before
+/// the fault's offset.
 pub fn errors_of(alloc: Global, text: &[u8]) -> Result<Vec<Finding>, AllocError>
     // The errors are exactly these.
     ensures exact { IfOk result (λ v. specs.AreErrors text.now (source_of text.now) v.items) }

@@ -69,7 +69,8 @@ fn is_argument(calls: &[CallAt], at: usize) -> bool {
     calls.iter().any(|call| begins_in(&call.args, at))
 }
 
-/// Returns the place of a fault: its offset, or, if it is in text between calls, that of the statement at fault.
+/// Returns the place of a fault: its offset, or, if it is in text between calls, that of the
+/// statement at fault.
 pub(crate) fn place_of_fault(
     alloc: Global,
     text: &[u8],

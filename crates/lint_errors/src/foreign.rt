@@ -32,7 +32,8 @@ fn is_other(fault: ParseFault, call: &CallAt) -> bool
 
 /// Returns the error of a call whose macro isn't known.
 fn unknown(alloc: Global, index: &Index, text: &[u8], call: &CallAt) -> Result<Finding, AllocError>
-    ensures shown { IfOk result (λ f. specs.finding_view f ≡ specs.error_at (macro_call_of call.now).start) }
+    ensures shown { IfOk result (λ f.
+        specs.finding_view f ≡ specs.error_at (macro_call_of call.now).start) }
     ensures end { IfOk result (specs.EndsIn (length text.now)) }
 {
     let finding = parse_finding(
@@ -53,7 +54,10 @@ fn push_unknown(
     call: &CallAt,
     out: &mut Vec<Finding>,
 ) -> Result<(), AllocError>
-    ensures shown { OnOk result (map specs.finding_view out.new.items ≡ map specs.finding_view out.old.items ++ specs.error_at (macro_call_of call.now).start ∷ []) }
+    ensures shown { OnOk result (
+        map specs.finding_view out.new.items
+        ≡ map specs.finding_view out.old.items ++ specs.error_at (macro_call_of call.now).start
+        ∷ []) }
     ensures ends { OnOk result (specs.KeepsEnds text.now out.old.items out.new.items) }
 {
     let finding = unknown(alloc, index, text, call)?;
@@ -70,7 +74,10 @@ fn push_call(
     call: &CallAt,
     out: &mut Vec<Finding>,
 ) -> Result<(), AllocError>
-    ensures shown { OnOk result (map specs.finding_view out.new.items ≡ map specs.finding_view out.old.items ++ specs.of_call fault (macro_call_of call.now)) }
+    ensures shown { OnOk result (
+        map specs.finding_view out.new.items
+        ≡ map specs.finding_view out.old.items
+        ++ specs.of_call fault (macro_call_of call.now)) }
     ensures ends { OnOk result (specs.KeepsEnds text.now out.old.items out.new.items) }
 {
     if is_other(fault, call) {
@@ -89,7 +96,10 @@ pub(crate) fn push_calls(
     calls: &[CallAt],
     out: &mut Vec<Finding>,
 ) -> Result<(), AllocError>
-    ensures shown { OnOk result (map specs.finding_view out.new.items ≡ map specs.finding_view out.old.items ++ flat_map (specs.of_call fault) (map macro_call_of calls.now)) }
+    ensures shown { OnOk result (
+        map specs.finding_view out.new.items
+        ≡ map specs.finding_view out.old.items
+        ++ flat_map (specs.of_call fault) (map macro_call_of calls.now)) }
     ensures ends { OnOk result (specs.KeepsEnds text.now out.old.items out.new.items) }
 {
     for call in calls {

@@ -58,7 +58,8 @@ fn kept_step(walk: Walk, i: usize, byte: u8) -> Walk {
     }
 }
 
-/// Returns the walk after a byte that a backslash quotes. A backslash and a newline are no part of the value.
+/// Returns the walk after a byte that a backslash quotes. A backslash and a newline are no part of
+/// the value.
 fn escaped_step(walk: Walk, byte: u8) -> Walk {
     if byte == b'\n' {
         return Walk {
@@ -79,7 +80,8 @@ fn is_outer_bracket(walk: Walk, byte: u8) -> bool {
     !walk.is_comment && (byte == b'[' && walk.depth == 0 || byte == b']' && walk.depth == 1)
 }
 
-/// Returns the walk after m4 has read a byte: brackets quote, and a `#` outside quotes begins a comment.
+/// Returns the walk after m4 has read a byte: brackets quote, and a `#` outside quotes begins a
+/// comment.
 fn quoted_step(walk: Walk, byte: u8) -> Walk {
     if walk.is_comment {
         return Walk {
@@ -119,7 +121,8 @@ fn blank_len(text: &[u8]) -> usize
     text.iter().take_while(|byte| is_part_end(**byte)).count()
 }
 
-/// Returns the start of the statement that has the byte `offset` of the piece's value, without its line continuations.
+/// Returns the start of the statement that has the byte `offset` of the piece's value, without its
+/// line continuations.
 fn statement_start(piece: &[u8], offset: usize) -> usize
     ensures { result ≤ length piece.now }
 {
@@ -141,7 +144,8 @@ fn statement_start(piece: &[u8], offset: usize) -> usize
     start + blank_len(&piece[start..])
 }
 
-/// Returns the number of blanks and comments at the front. A semicolon is a blank, unless it `counts`.
+/// Returns the number of blanks and comments at the front. A semicolon is a blank, unless it
+/// `counts`.
 fn idle_len(piece: &[u8], counts: bool) -> usize
     ensures { result ≤ length piece.now }
 {
@@ -158,7 +162,8 @@ fn idle_len(piece: &[u8], counts: bool) -> usize
     piece.len()
 }
 
-/// Returns the start of the first statement of a piece, or of the first semicolon if it has no statement.
+/// Returns the start of the first statement of a piece, or of the first semicolon if it has no
+/// statement.
 fn first_statement(piece: &[u8]) -> usize
     ensures { result ≤ length piece.now }
 {
@@ -170,7 +175,8 @@ fn first_statement(piece: &[u8]) -> usize
     }
 }
 
-/// Returns the offset of the first error in a value, without its line continuations, or `None` if it has none.
+/// Returns the offset of the first error in a value, without its line continuations, or `None` if
+/// it has none.
 fn error_in(alloc: Global, value: &[u8]) -> Result<Option<usize>, AllocError> {
     match read_statements(alloc, value) {
         Ok(_) => Ok(None),
@@ -181,7 +187,8 @@ fn error_in(alloc: Global, value: &[u8]) -> Result<Option<usize>, AllocError> {
     }
 }
 
-/// Returns the start of the first statement of a piece that isn't read, or of its first one if all are.
+/// Returns the start of the first statement of a piece that isn't read, or of its first one if all
+/// are.
 fn refused_in(alloc: Global, piece: &[u8]) -> Result<usize, AllocError>
     ensures { IfOk result (λ n. n ≤ length piece.now) }
 {
@@ -203,8 +210,8 @@ fn first_len(items: &[Item<'_>], at: usize) -> usize {
     }
 }
 
-/// Returns the length of the text between calls at the front of a text at `at`: up to the first call, or up to the first error of
-/// quotes.
+/// Returns the length of the text between calls at the front of a text at `at`: up to the first
+/// call, or up to the first error of quotes.
 fn piece_len(alloc: Global, text: &[u8], at: usize) -> Result<usize, AllocError>
     requires { at + length text.now ≤ usize.MAX }
 {
@@ -227,8 +234,8 @@ fn stopped_len(alloc: Global, text: &[u8], at: usize, len: usize) -> Result<usiz
     }
 }
 
-/// Returns the start of the first statement that isn't read in the text between calls that begins at `at`. If none begins there,
-/// returns `at`.
+/// Returns the start of the first statement that isn't read in the text between calls that begins
+/// at `at`. If none begins there, returns `at`.
 pub(crate) fn statement_after(alloc: Global, text: &[u8], at: usize) -> Result<usize, AllocError>
     ensures { IfOk result (specs.IsAfter at (length text.now)) }
 {

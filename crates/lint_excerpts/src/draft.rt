@@ -7,7 +7,8 @@ use std::alloc::{AllocError, Global};
 /// The digits of a byte that is written as a number.
 const DIGITS: [u8; 16] = *b"0123456789abcdef";
 
-/// A text that is written piece by piece. If memory runs out, what is written is lost, and the text is not whole.
+/// A text that is written piece by piece. If memory runs out, what is written is lost, and the text
+/// is not whole.
 pub(crate) struct Draft {
     text: Vec<u8>,
     is_whole: bool,

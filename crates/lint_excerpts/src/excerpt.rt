@@ -120,8 +120,9 @@ fn put_help(draft: &mut Draft, help: &[u8], colours: Colours) {
     }
 }
 
-/// Returns a finding as it is shown: its place and message, the line that it begins in with the part that it is about marked, and its
-/// help. The text is that of the file, and `name` is what the file is called. Control bytes are shown as `\xNN`.
+/// Returns a finding as it is shown: its place and message, the line that it begins in with the
+/// part that it is about marked, and its help. The text is that of the file, and `name` is what the
+/// file is called. Control bytes are shown as `\xNN`.
 ///
 /// # Errors
 ///

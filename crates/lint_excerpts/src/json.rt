@@ -35,9 +35,10 @@ fn put_number(draft: &mut Draft, key: &[u8], number: usize) {
     draft.put(b",");
 }
 
-/// Returns a finding as one line with an object: `file`, `line`, `column`, `end_line`, `end_column`, `severity`, `code`, `message` and
-/// `help`. Lines and columns count from 1, columns count bytes, and the end is after the last byte. The text is that of the file, and
-/// `name` is what the file is called.
+/// Returns a finding as one line with an object: `file`, `line`, `column`, `end_line`,
+/// `end_column`, `severity`, `code`, `message` and `help`. Lines and columns count from 1, columns
+/// count bytes, and the end is after the last byte. The text is that of the file, and `name` is
+/// what the file is called.
 ///
 /// # Errors
 ///

@@ -14,9 +14,11 @@
 //!          AC_SUBST([INSTALL], ["install -c"])
 //! ```
 //!
-//! A call fails only if memory runs out. That it is safe and ends is proved; what it shows is tested.
+//! A call fails only if memory runs out. That it is safe and ends is proved; what it shows is
+//! tested.
 //!
-//! Read `draft`, on which texts are written, then `marked`, which shows a line and marks a part of it, and `excerpt` and `json`.
+//! Read `draft`, on which texts are written, then `marked`, which shows a line and marks a part of
+//! it, and `excerpt` and `json`.
 #![tactic(auto)]
 
 mod draft;

@@ -27,7 +27,8 @@ fn before(text: &[u8], at: usize) -> &[u8] {
     &text[..at.min(text.len())]
 }
 
-/// Returns the offset of the first byte, from this one on, that begins a character, or at which there is no UTF-8.
+/// Returns the offset of the first byte, from this one on, that begins a character, or at which
+/// there is no UTF-8.
 fn next_boundary(text: &[u8], at: usize) -> usize {
     let len = from(text, at)
         .iter()

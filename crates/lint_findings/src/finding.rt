@@ -17,7 +17,8 @@ pub enum Severity {
 /// A part of a file.
 #[derive(Clone, Copy, Debug, PartialEq, Eq)]
 pub struct Span {
-    /// The number of the file: 0 for the source, and 1 and more for its templates in the order in which it names them.
+    /// The number of the file: 0 for the source, and 1 and more for its templates in the order in
+    /// which it names them.
     pub file: usize,
     /// The offset of the first byte.
     pub start: usize,
@@ -28,7 +29,8 @@ pub struct Span {
 /// Something that is wrong, or may be wrong, at a place.
 #[derive(Debug, Drop)]
 pub struct Finding {
-    /// The number of the file: 0 for the source, and 1 and more for its templates in the order in which it names them.
+    /// The number of the file: 0 for the source, and 1 and more for its templates in the order in
+    /// which it names them.
     pub file: usize,
     /// The offset of the first byte that it is about.
     pub start: usize,
@@ -84,7 +86,8 @@ impl Finding {
 
     /// Returns the place of the finding.
     pub fn span(&self) -> Span
-        ensures { result ≡ record { file = self.now.file; start = self.now.start; end = self.now.end } }
+        ensures { result
+            ≡ record { file = self.now.file; start = self.now.start; end = self.now.end } }
     {
         Span {
             file: self.file,

@@ -1,7 +1,7 @@
 //! What is found in a source or in a template of it, and the order in which findings are shown.
 //!
-//! A finding is a place, how grave it is, a code, and two texts: what is wrong, and what to do. Nothing here says how a finding is
-//! found or printed.
+//! A finding is a place, how grave it is, a code, and two texts: what is wrong, and what to do.
+//! Nothing here says how a finding is found or printed.
 //!
 //! ```text
 //! let span = Span { file: 0, start: 749, end: 764 };

@@ -7,8 +7,8 @@ ghost use Rattle.lint_findings.specs.Order.{place_cmp};
 use crate::finding::Finding;
 use std::alloc::AllocError;
 
-/// Puts the findings in the order of their files, and in each file in the order of their starts. Findings at one place keep their
-/// order.
+/// Puts the findings in the order of their files, and in each file in the order of their starts.
+/// Findings at one place keep their order.
 ///
 /// # Errors
 ///

@@ -16,7 +16,8 @@ pub enum MacroKind {
     Dropped,
     /// Nothing does what the macro does. The text is a line that says why, or what else to do.
     Missing,
-    /// The name is what the names of a family of macros begin with. The text is a line about all of them.
+    /// The name is what the names of a family of macros begin with. The text is a line about all of
+    /// them.
     Family,
 }
 
@@ -78,7 +79,8 @@ fn is_about(kind: MacroKind, known: &[u8], name: &[u8]) -> bool
 
 /// Returns the first of the known names that is about macros of this name.
 fn first_name(kind: MacroKind, known: &[&'static [u8]], name: &[u8]) -> Option<&'static [u8]>
-    ensures { option_map (λ n. n.now) result ≡ words.first_name kind name.now (map (λ n. n.now) known.now) }
+    ensures { option_map (λ n. n.now) result
+        ≡ words.first_name kind name.now (map (λ n. n.now) known.now) }
 {
     for one in known {
         if is_about(kind, one, name) {
@@ -90,7 +92,8 @@ fn first_name(kind: MacroKind, known: &[&'static [u8]], name: &[u8]) -> Option<&
 
 /// Returns the entry of a record with one of its names.
 fn entry_with(row: Record, name: Option<&'static [u8]>) -> Option<MacroEntry>
-    ensures { option_map words.said result ≡ words.said_with (words.read row) (option_map (λ n. n.now) name.entry) }
+    ensures { option_map words.said result
+        ≡ words.said_with (words.read row) (option_map (λ n. n.now) name.entry) }
 {
     match name {
         Some(name) => Some(MacroEntry {
@@ -108,7 +111,8 @@ fn read_about(
     row: &'static [u8],
     name: &[u8],
 ) -> Result<Option<MacroEntry>, AllocError>
-    ensures { IfOk result (λ found. option_map words.said found ≡ words.said_about name.now row.now) }
+    ensures { IfOk result (λ found.
+        option_map words.said found ≡ words.said_about name.now row.now) }
 {
     match read_record(row) {
         Some(row) => {
@@ -126,7 +130,8 @@ pub(crate) fn first_about(
     rows: &[&'static [u8]],
     name: &[u8],
 ) -> Result<Option<MacroEntry>, AllocError>
-    ensures { IfOk result (λ found. option_map words.said found ≡ words.first_about name.now (map (λ r. r.now) rows.now)) }
+    ensures { IfOk result (λ found.
+        option_map words.said found ≡ words.first_about name.now (map (λ r. r.now) rows.now)) }
 {
     for row in rows {
         let found = read_about(alloc, row, name)?;

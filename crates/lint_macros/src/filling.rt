@@ -65,7 +65,8 @@ fn put_formed(
     word: &[u8],
     text: &[u8],
 ) -> Result<(), AllocError>
-    ensures { OnOk result (out.new.items ≡ out.old.items ++ values.formed_or form word.now text.now) }
+    ensures { OnOk result (
+        out.new.items ≡ out.old.items ++ values.formed_or form word.now text.now) }
 {
     match form {
         Form::AsItIs => out.extend_from_slice(text),
@@ -85,7 +86,8 @@ fn put_given(
     word: &[u8],
     text: Option<&[u8]>,
 ) -> Result<(), AllocError>
-    ensures { OnOk result (out.new.items ≡ out.old.items ++ values.given_or form word.now (values.seen text.entry)) }
+    ensures { OnOk result (
+        out.new.items ≡ out.old.items ++ values.given_or form word.now (values.seen text.entry)) }
 {
     match text {
         Some(text) => put_formed(alloc, out, form, word, text),
@@ -104,7 +106,8 @@ fn put_item(out: &mut Vec<u8>, argument: &[u8], is_last: bool) -> Result<(), All
 
 /// Appends the arguments, each in brackets.
 fn put_list(out: &mut Vec<u8>, args: &[&[u8]]) -> Result<(), AllocError>
-    ensures { OnOk result (out.new.items ≡ out.old.items ++ values.listed (map (λ a. a.now) args.now)) }
+    ensures { OnOk result (
+        out.new.items ≡ out.old.items ++ values.listed (map (λ a. a.now) args.now)) }
 {
     for i in 0..args.len() {
         put_item(out, args[i], i + 1 == args.len())?;
@@ -114,7 +117,11 @@ fn put_list(out: &mut Vec<u8>, args: &[&[u8]]) -> Result<(), AllocError>
 
 /// Appends the arguments if all are plain, and otherwise the word.
 fn put_all(out: &mut Vec<u8>, word: &[u8], args: &[&[u8]]) -> Result<(), AllocError>
-    ensures { OnOk result (out.new.items ≡ out.old.items ++ values.value_from HoleSource.All Form.AsItIs word.now (map (λ a. a.now) args.now)) }
+    ensures { OnOk result (
+        out.new.items
+        ≡ out.old.items
+        ++ values.value_from HoleSource.All Form.AsItIs word.now
+        (map (λ a. a.now) args.now)) }
 {
     if is_plain_list(args) {
         put_list(out, args)
@@ -130,7 +137,9 @@ fn put_value(
     place: &Hole<'_>,
     args: &[&[u8]],
 ) -> Result<(), AllocError>
-    ensures { OnOk result (out.new.items ≡ out.old.items ++ values.value (map (λ a. a.now) args.now) (seen place.now)) }
+    ensures { OnOk result (
+        out.new.items
+        ≡ out.old.items ++ values.value (map (λ a. a.now) args.now) (seen place.now)) }
 {
     match place.source {
         HoleSource::Argument(index) => {
@@ -140,9 +149,11 @@ fn put_value(
     }
 }
 
-/// Appends a `$` and the text after it, or the value of the place that the text begins with and the rest.
+/// Appends a `$` and the text after it, or the value of the place that the text begins with and the
+/// rest.
 fn put_sign(alloc: Global, out: &mut Vec<u8>, text: &[u8], args: &[&[u8]]) -> Result<(), AllocError>
-    ensures { OnOk result (out.new.items ≡ out.old.items ++ words.filled_sign (map (λ a. a.now) args.now) text.now) }
+    ensures { OnOk result (
+        out.new.items ≡ out.old.items ++ words.filled_sign (map (λ a. a.now) args.now) text.now) }
 {
     match hole_of(text) {
         Some(place) => {
@@ -163,8 +174,10 @@ fn put_signs(
     texts: &[&[u8]],
     args: &[&[u8]],
 ) -> Result<(), AllocError>
-    ensures { OnOk result (out.new.items
-        ≡ out.old.items ++ words.filled_signs (map (λ a. a.now) args.now) (map (λ t. t.now) texts.now)) }
+    ensures { OnOk result (
+        out.new.items
+        ≡ out.old.items
+        ++ words.filled_signs (map (λ a. a.now) args.now) (map (λ t. t.now) texts.now)) }
 {
     for text in texts {
         put_sign(alloc, out, text, args)?;
@@ -174,9 +187,10 @@ fn put_signs(
 
 /// Returns the text with each of its places filled, for a call with these arguments.
 ///
-/// An argument is what is between the commas of a call, with its brackets or without. It is put into a place if it is a plain
-/// word or list: letters, digits, blanks, and the signs `_ . / - + * = :`, without the blanks and up to two pairs of brackets
-/// around it. Otherwise the word of the place is written there.
+/// An argument is what is between the commas of a call, with its brackets or without. It is put
+/// into a place if it is a plain word or list: letters, digits, blanks, and the signs
+/// `_ . / - + * = :`, without the blanks and up to two pairs of brackets around it. Otherwise the
+/// word of the place is written there.
 ///
 /// # Errors
 ///

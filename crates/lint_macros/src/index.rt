@@ -53,8 +53,11 @@ fn has(names: &Names, name: &[u8]) -> bool
 
 /// Adds an entry.
 fn insert(names: &mut Names, entry: MacroEntry) -> Result<(), AllocError>
-    ensures { OnOk result ((n : List ℕ) → specs.said_by names.new.entries n
-        ≡ (if bytes_eq n entry.name.now then Some (words.said entry) else specs.said_by names.old.entries n)) }
+    ensures { OnOk result (
+        (n : List ℕ)
+        → specs.said_by names.new.entries n
+        ≡ (if bytes_eq n entry.name.now then Some (words.said entry) else specs.said_by
+        names.old.entries n)) }
 {
     let alloc = *names.allocator();
     let key = Vec::from_slice(alloc, entry.name)?;
@@ -76,8 +79,11 @@ fn named_entry(row: Record, name: &'static [u8]) -> MacroEntry
 /// Adds the entry of a record with one of its names, if the name has no entry yet.
 #[tactic(auto, using(crate::proofs::Indexed::adding))]
 fn add_name(names: &mut Names, row: Record, name: &'static [u8]) -> Result<(), AllocError>
-    ensures { OnOk result ((n : List ℕ) → specs.said_by names.new.entries n
-        ≡ or_later (specs.said_by names.old.entries n) (specs.said_exactly (words.read row) name.now n)) }
+    ensures { OnOk result (
+        (n : List ℕ)
+        → specs.said_by names.new.entries n
+        ≡ or_later (specs.said_by names.old.entries n)
+        (specs.said_exactly (words.read row) name.now n)) }
 {
     if has(names, name) {
         return Ok(());

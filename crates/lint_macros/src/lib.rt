@@ -1,8 +1,10 @@
-//! What is said of each macro that acrun doesn't read, and the text that is written in the place of its call.
+//! What is said of each macro that acrun doesn't read, and the text that is written in the place of
+//! its call.
 //!
-//! The table has an entry for a macro, or for a family of macros whose names begin alike: a kind, and a text. The text of an
-//! idiom has places for the call's own arguments. A place is filled with an argument if that is a plain word or list, and
-//! otherwise with a word in capitals that says what to write there.
+//! The table has an entry for a macro, or for a family of macros whose names begin alike: a kind,
+//! and a text. The text of an idiom has places for the call's own arguments. A place is filled with
+//! an argument if that is a plain word or list, and otherwise with a word in capitals that says
+//! what to write there.
 //!
 //! ```text
 //! let index = Index::new(alloc)?;
@@ -11,9 +13,10 @@
 //! fill(alloc, entry.text, &[b"$headers"])?                   // AC_CHECK_HEADERS([HEADERS])
 //! ```
 //!
-//! The texts are in `macros.txt` of this crate, and `tools/macro_table.py` writes `text` from that file. Read `specs/Entries` and
-//! `entry`, then `specs/Index` and `index`, and then `specs/Places`, `specs/Values` and `filling`. A call that takes an allocator fails only if memory runs out,
-//! and no other call allocates. "own" marks a rule that no manual gives.
+//! The texts are in `macros.txt` of this crate, and `tools/macro_table.py` writes `text` from that
+//! file. Read `specs/Entries` and `entry`, then `specs/Index` and `index`, and then `specs/Places`,
+//! `specs/Values` and `filling`. A call that takes an allocator fails only if memory runs out, and
+//! no other call allocates. "own" marks a rule that no manual gives.
 #![tactic(auto)]
 
 mod cut;

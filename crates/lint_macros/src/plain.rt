@@ -32,7 +32,8 @@ fn is_plain_byte(byte: u8) -> bool
     byte.is_ascii_alphanumeric() || is_plain_sign(byte)
 }
 
-/// Returns whether the byte is a blank or a sign that means nothing to m4 and to a shell, between brackets and quotes.
+/// Returns whether the byte is a blank or a sign that means nothing to m4 and to a shell, between
+/// brackets and quotes.
 fn is_plain_sign(byte: u8) -> bool
     ensures { result ≡ words.is_plain_sign byte }
 {

@@ -87,7 +87,8 @@ fn put_part(out: &mut Vec<u8>, part: WordPart<'_>) -> Result<(), AllocError>
 
 /// Appends the part of this index, if there is one.
 fn put_part_at(out: &mut Vec<u8>, parts: &[WordPart<'_>], index: usize) -> Result<(), AllocError>
-    ensures { OnOk result (out.new.items ≡ out.old.items ++ words.shown_or (slice_get parts.now index)) }
+    ensures { OnOk result (
+        out.new.items ≡ out.old.items ++ words.shown_or (slice_get parts.now index)) }
 {
     if index < parts.len() {
         put_part(out, parts[index])

@@ -9,8 +9,8 @@ use lint_text::part;
 /// A part of the text: the offset of its first byte, and that after its last one.
 type Extent = (usize, usize);
 
-/// What is said of something that is wrong: where its name, its message and its help are in the text. A message and help may have places
-/// for parts, and may be empty.
+/// What is said of something that is wrong: where its name, its message and its help are in the
+/// text. A message and help may have places for parts, and may be empty.
 #[derive(Clone, Copy)]
 pub struct Key(pub(crate) Extent, pub(crate) Extent, pub(crate) Extent);
 

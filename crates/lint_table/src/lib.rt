@@ -1,16 +1,19 @@
 //! What acrun says of errors and warnings, and the page on which it is put together.
 //!
-//! All words are in one file, `words.txt`. `tools/word_table.py` makes of each key in it a constant of [`keys`]. Code finds what is wrong,
-//! and puts a key on a [`Page`], with a [`WordPart`] for each place of its words. So a sentence is mended in that file alone.
+//! All words are in one file, `words.txt`. `tools/word_table.py` makes of each key in it a constant
+//! of [`keys`]. Code finds what is wrong, and puts a key on a [`Page`], with a [`WordPart`] for
+//! each place of its words. So a sentence is mended in that file alone.
 //!
 //! ```text
 //! let mut page = Page::new(alloc);
 //! page.put(keys::NO_TEST, &[Part::Quoted(b"grep x")]);     // `grep x` is no test that is read
 //! ```
 //!
-//! What `put` adds is proved: the words, with their places filled, or the page says that memory ran out.
+//! What `put` adds is proved: the words, with their places filled, or the page says that memory ran
+//! out.
 //!
-//! Read `specs/Filling`, which defines what places are filled with, and `specs/Keys`; then `part`, `filling`, `key` and `page`.
+//! Read `specs/Filling`, which defines what places are filled with, and `specs/Keys`; then `part`,
+//! `filling`, `key` and `page`.
 #![tactic(auto)]
 
 mod filling;

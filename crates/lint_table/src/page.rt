@@ -23,7 +23,8 @@ pub struct Words {
     pub help: Bytes,
 }
 
-/// A message and its help. If memory runs out, some of what is put is lost, and the page is not whole.
+/// A message and its help. If memory runs out, some of what is put is lost, and the page is not
+/// whole.
 pub struct Page {
     message: Vec<u8>,
     help: Vec<u8>,
@@ -64,8 +65,10 @@ impl Page {
     pub fn put(&mut self, key: Key, parts: &[WordPart<'_>])
         // If the page is whole, it was whole, and nothing else was added.
         ensures whole { IsTrue self.new.is_whole → IsTrue self.old.is_whole }
-        ensures message { IsTrue self.new.is_whole → self.new.message ≡ self.old.message ++ words.filled parts.now (message_of key) }
-        ensures help { IsTrue self.new.is_whole → self.new.help ≡ self.old.help ++ words.filled parts.now (help_of key) }
+        ensures message { IsTrue self.new.is_whole
+            → self.new.message ≡ self.old.message ++ words.filled parts.now (message_of key) }
+        ensures help { IsTrue self.new.is_whole
+            → self.new.help ≡ self.old.help ++ words.filled parts.now (help_of key) }
     {
         let message = fill(&mut self.message, parts, key.message());
         let help = fill(&mut self.help, parts, key.help());
@@ -190,7 +193,8 @@ fn warn_in(
     warn(alloc, out, text, span, code, message, words.help.as_slice())
 }
 
-/// Adds the warning of a key about a part of a file with this text, as [`warn`] does. Its code is the name of the key.
+/// Adds the warning of a key about a part of a file with this text, as [`warn`] does. Its code is
+/// the name of the key.
 ///
 /// # Errors
 ///

@@ -2,7 +2,8 @@
 
 use lint_table::{Key, keys};
 
-/// Output variables that Autoconf sets by itself or by a macro that acrun doesn't know, each with what to write.
+/// Output variables that Autoconf sets by itself or by a macro that acrun doesn't know, each with
+/// what to write.
 #[rattlefmt::skip]
 const VARIABLES: [(&[u8], Key); 20] = [
     (b"SHELL", keys::SET_SHELL),
@@ -60,7 +61,8 @@ pub(crate) fn definition_advice(name: &[u8]) -> Option<Key> {
     key_in(&DEFINITIONS, name)
 }
 
-/// Returns the header of a definition that Autoconf makes of its default includes. That of another one is empty.
+/// Returns the header of a definition that Autoconf makes of its default includes. That of another
+/// one is empty.
 pub(crate) fn default_header(name: &[u8]) -> &'static [u8] {
     match DEFAULTS.iter().find(|row| row.0 == name) {
         Some(row) => row.1,

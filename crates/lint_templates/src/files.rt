@@ -105,8 +105,8 @@ fn distclean_at(text: &[u8]) -> Option<usize> {
     None
 }
 
-/// Returns the length of the rule that a text begins with: its first line, and the lines after it that continue one, that begin with a
-/// tab, or that are empty.
+/// Returns the length of the rule that a text begins with: its first line, and the lines after it
+/// that continue one, that begin with a tab, or that are empty.
 fn rule_length(text: &[u8]) -> usize {
     let mut at = 0usize;
     let mut is_joined = true;
@@ -137,9 +137,9 @@ fn cleaned_in(text: &[u8]) -> Option<(usize, usize)> {
     Some((at.saturating_add(start), length))
 }
 
-/// Adds the warnings about the template of a file: names between two `@` that no statement sets, a directory below `datarootdir`
-/// without that, a rule that runs `config.status`, a `distclean` that removes `config.status` and no conftest, and a last line without a
-/// newline (own).
+/// Adds the warnings about the template of a file: names between two `@` that no statement sets, a
+/// directory below `datarootdir` without that, a rule that runs `config.status`, a `distclean` that
+/// removes `config.status` and no conftest, and a last line without a newline (own).
 ///
 /// # Errors
 ///

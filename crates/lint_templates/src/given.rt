@@ -7,7 +7,8 @@ use options_line::{Directory, directories};
 use output_list::OutputList;
 use std::alloc::{AllocError, Global};
 
-/// The names that a source gives its templates. Statements in cases that a run does not take count too.
+/// The names that a source gives its templates. Statements in cases that a run does not take count
+/// too.
 #[derive(Drop)]
 pub struct Given {
     /// The output variables, those of each file among them.

@@ -13,7 +13,8 @@ use lint_table::{Page, WordPart, keys, warn_by_key};
 use lint_text::{after_blanks, first_name};
 use std::alloc::{AllocError, Global};
 
-/// Returns the identifier of a line with `#undef`, or with `#define` if that is asked for too, with its offset in the line.
+/// Returns the identifier of a line with `#undef`, or with `#define` if that is asked for too, with
+/// its offset in the line.
 fn named(line: &[u8], takes_define: bool) -> Option<(usize, &[u8])> {
     let hash = after_blanks(line).strip_prefix(b"#")?;
     let keyword = first_name(after_blanks(hash));
@@ -30,8 +31,8 @@ fn named(line: &[u8], takes_define: bool) -> Option<(usize, &[u8])> {
     }
 }
 
-/// Returns the definitions that a source may make and that this template doesn't list. A name that the template lists too isn't what
-/// another one was meant to be.
+/// Returns the definitions that a source may make and that this template doesn't list. A name that
+/// the template lists too isn't what another one was meant to be.
 fn unlisted(alloc: Global, given: &Given, text: &[u8]) -> Result<SubstList, AllocError> {
     let mut listed = SubstList::new(alloc);
     add_listed(&mut listed, text)?;
@@ -106,8 +107,8 @@ struct Known<'a> {
     candidates: &'a SubstList,
 }
 
-/// Warns of the name of a line that begins at this offset, if it is undefined and nothing defines it. One of a default include is
-/// added to those.
+/// Warns of the name of a line that begins at this offset, if it is undefined and nothing defines
+/// it. One of a default include is added to those.
 fn warn_of_line(
     alloc: Global,
     known: Known<'_>,
@@ -149,7 +150,8 @@ fn warn_of_line(
     )
 }
 
-/// Warns of the name of each line that is undefined and that nothing defines. Those of default includes are added to these.
+/// Warns of the name of each line that is undefined and that nothing defines. Those of default
+/// includes are added to these.
 fn warn_of_lines(
     alloc: Global,
     known: Known<'_>,
@@ -168,7 +170,8 @@ fn warn_of_lines(
     Ok(())
 }
 
-/// Adds the warnings about the template of a header: each name with `#undef` that no statement defines (own).
+/// Adds the warnings about the template of a header: each name with `#undef` that no statement
+/// defines (own).
 ///
 /// # Errors
 ///
@@ -230,7 +233,8 @@ fn place_of(source: &[u8], sought: &[u8]) -> Span
     }
 }
 
-/// Returns where a source makes a definition: where it names it, or else where it names its headers.
+/// Returns where a source makes a definition: where it names it, or else where it names its
+/// headers.
 fn place_of_definition(source: &[u8], name: &[u8]) -> Span
     ensures { result.file ≡ 0 }
 {
@@ -264,7 +268,8 @@ fn warn_of_definition(
     )
 }
 
-/// Adds a warning for each definition that a source may make and that is not listed by a template of a header (own).
+/// Adds a warning for each definition that a source may make and that is not listed by a template
+/// of a header (own).
 ///
 /// # Errors
 ///

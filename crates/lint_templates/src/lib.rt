@@ -1,5 +1,5 @@
-//! Warnings about the templates of a source: names that nothing gives a value, and lines that do something else here than with
-//! Autoconf.
+//! Warnings about the templates of a source: names that nothing gives a value, and lines that do
+//! something else here than with Autoconf.
 //!
 //! ```text
 //! let given = Given::of(alloc, &source)?;
@@ -9,8 +9,9 @@
 //!
 //! "own" marks a rule that no manual gives.
 //!
-//! [`Given`], in `given`, is what a source gives its templates. `files` reads the templates of files, and `headers` those of
-//! headers. `advice` has what is said of names that Autoconf sets and acrun doesn't, and `messages` writes the messages.
+//! [`Given`], in `given`, is what a source gives its templates. `files` reads the templates of
+//! files, and `headers` those of headers. `advice` has what is said of names that Autoconf sets and
+//! acrun doesn't, and `messages` writes the messages.
 #![tactic(auto)]
 
 mod advice;

@@ -46,7 +46,8 @@ fn slices<'a>(alloc: Global, names: &'a [Bytes]) -> Result<Vec<&'a [u8]>, AllocE
 /// How many findings may have been made before no near name is sought any more.
 const SOUGHT: usize = 200;
 
-/// Writes the question whether a near name was meant, if one is near. After this many findings none is sought.
+/// Writes the question whether a near name was meant, if one is near. After this many findings none
+/// is sought.
 fn put_near(
     alloc: Global,
     page: &mut Page,
@@ -65,7 +66,8 @@ fn put_near(
     Ok(())
 }
 
-/// Warns of a name that has no value, with this advice, or with the nearest of some names if there is no advice.
+/// Warns of a name that has no value, with this advice, or with the nearest of some names if there
+/// is no advice.
 pub(crate) fn warn_of_name(
     alloc: Global,
     out: &mut Vec<Finding>,

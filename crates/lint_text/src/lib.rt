@@ -1,7 +1,7 @@
 //! What a text begins with, the text around an offset, and the line and the column of an offset.
 //!
-//! A text consists of any bytes, and an offset after its end is read as its end, but in [`part`]. No call
-//! allocates, and none fails. "own" marks a rule that no manual gives.
+//! A text consists of any bytes, and an offset after its end is read as its end, but in [`part`].
+//! No call allocates, and none fails. "own" marks a rule that no manual gives.
 //!
 //! ```text
 //! first_name(b"AC_INIT([a])")                          // AC_INIT
@@ -9,8 +9,8 @@
 //! place_of(b"AC_INIT([a])\nAC_PROG_CC\n", 15)          // line 2, column 3
 //! ```
 //!
-//! Read `specs/Places.antt` and then `places` (lines and columns), and `pieces` (names, words, lines and
-//! parts). `laws` says that the line and the column determine the offset.
+//! Read `specs/Places.antt` and then `places` (lines and columns), and `pieces` (names, words,
+//! lines and parts). `laws` says that the line and the column determine the offset.
 #![tactic(auto)]
 
 mod pieces;

@@ -1,6 +1,7 @@
 //! The name, the word or the line that a text begins with, and the text around an offset.
 //!
-//! An offset after the end of a text is read as its end, but in [`part`]. No call allocates, and none fails.
+//! An offset after the end of a text is read as its end, but in [`part`]. No call allocates, and
+//! none fails.
 //!
 //! ```text
 //! first_name(b"AC_INIT([a])")     // AC_INIT

@@ -1,8 +1,9 @@
 //! The line and the column of an offset in a text, and the line that it is in.
 //!
-//! A text consists of any bytes. A newline ends its line and belongs to it, and a text has one line more than newlines.
-//! Lines and columns count from 1, and columns count bytes: a tab is one, and so is each byte of a longer character. An
-//! offset past the end of the text is read as its end. No call allocates. "own" marks a rule that no manual gives.
+//! A text consists of any bytes. A newline ends its line and belongs to it, and a text has one line
+//! more than newlines. Lines and columns count from 1, and columns count bytes: a tab is one, and
+//! so is each byte of a longer character. An offset past the end of the text is read as its end. No
+//! call allocates. "own" marks a rule that no manual gives.
 //!
 //! ```
 //! let text = b"AC_INIT([demo], [1.0])\nAC_PROG_CC\n";
@@ -10,8 +11,8 @@
 //! let line = lint_text::line_at(text, 26); // AC_PROG_CC
 //! ```
 //!
-//! Read `specs/Places.antt` for what each call returns, and then this file. `laws` says that the line and the column determine
-//! the offset.
+//! Read `specs/Places.antt` for what each call returns, and then this file. `laws` says that the
+//! line and the column determine the offset.
 
 ghost use Rattle.std.specs.Prelude.{◌≡◌, ℕ, ◌≤◌, min, length, List};
 ghost use Rattle.std.specs.List.{count_by, prefix_len, suffix_len};
@@ -114,7 +115,8 @@ pub fn line_start(text: &[u8], offset: usize) -> usize
     before.len() - last_line_len(before)
 }
 
-/// Returns the offset of the newline that ends the line that the offset is in, or the end of the text if there is none (own).
+/// Returns the offset of the newline that ends the line that the offset is in, or the end of the
+/// text if there is none (own).
 #[tactic(auto, unfolding(crate::specs::Places::line_end))]
 pub fn line_end(text: &[u8], offset: usize) -> usize
     ensures value { result ≡ specs.line_end text.now offset }
@@ -127,5 +129,6 @@ pub fn line_end(text: &[u8], offset: usize) -> usize
 
 /// States that the line and the column determine the offset, if it isn't past the end of the text.
 pub fn laws()
-    ensures { (text : List ℕ) (a b : ℕ) → a ≤ length text → b ≤ length text → specs.position_of text a ≡ specs.position_of text b → a ≡ b }
+    ensures { (text : List ℕ) (a b : ℕ) → a ≤ length text → b ≤ length text
+        → specs.position_of text a ≡ specs.position_of text b → a ≡ b }
 {}

@@ -33,7 +33,8 @@ const FINDING: [&[u8]; 4] = [
     b"AC_ARG_VAR",
 ];
 
-/// Returns whether the call looks for a compiler, names one, or declares the variable that the user names one by.
+/// Returns whether the call looks for a compiler, names one, or declares the variable that the user
+/// names one by.
 fn finds_compiler(text: &[u8], call: &CallAt) -> bool {
     let name = name_of(text, call);
     if name == b"AC_PROG_CC".as_slice() {
@@ -84,8 +85,8 @@ fn name_at(call: &CallAt) -> Extent {
     }
 }
 
-/// Adds a warning about the first check that compiles something, if nothing before it looks for a compiler, or else if no program
-/// was tried before it (own).
+/// Adds a warning about the first check that compiles something, if nothing before it looks for a
+/// compiler, or else if no program was tried before it (own).
 ///
 /// # Errors
 ///

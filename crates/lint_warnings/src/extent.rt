@@ -26,7 +26,8 @@ pub(crate) fn is_given(text: &[u8], argument: Option<&Extent>) -> bool {
     !bare(text_at(text, argument.copied())).is_empty()
 }
 
-/// Returns whether a text seems to assign to a variable: the name is in it, with a `=` after it and no `$` before it.
+/// Returns whether a text seems to assign to a variable: the name is in it, with a `=` after it and
+/// no `$` before it.
 pub(crate) fn assigns(text: &[u8], name: &[u8]) -> bool {
     let mut at: usize = 0;
     for word in text.split(|byte| !is_word_byte(*byte)) {

@@ -47,7 +47,8 @@ fn depth_of(text: &[u8]) -> usize {
     depth
 }
 
-/// Returns whether a comment of m4 is open at the end of a text: its last line has a `#` that isn't in more brackets than these.
+/// Returns whether a comment of m4 is open at the end of a text: its last line has a `#` that isn't
+/// in more brackets than these.
 fn is_in_comment(text: &[u8], most: usize) -> bool {
     let mut depth: usize = 0;
     let mut is_open = false;
@@ -60,7 +61,8 @@ fn is_in_comment(text: &[u8], most: usize) -> bool {
 }
 
 /// Returns whether a word at this offset of an argument is read as text here, and as a macro by
-/// Autoconf: it isn't the name of a variable, isn't in more brackets than these, and isn't in a comment.
+/// Autoconf: it isn't the name of a variable, isn't in more brackets than these, and isn't in a
+/// comment.
 fn is_expanded(argument: &[u8], at: usize, most: usize) -> bool {
     let front = before(argument, at);
     !front.ends_with(b"$")

@@ -11,8 +11,9 @@ use std::alloc::{AllocError, Global};
 /// The names of a header, with blanks between them.
 type Row = (&'static [u8], &'static [u8]);
 
-/// The headers that Autoconf's default includes have and acrun's don't, each with the names that C17 and POSIX (IEEE Std 1003.1-2024, and
-/// those that earlier editions have besides) have in it, and in no header of acrun's default includes.
+/// The headers that Autoconf's default includes have and acrun's don't, each with the names that
+/// C17 and POSIX (IEEE Std 1003.1-2024, and those that earlier editions have besides) have in it,
+/// and in no header of acrun's default includes.
 #[rattlefmt::skip]
 const ROWS: [Row; 5] = [
     (b"stdint.h", b"int8_t uint8_t int_least8_t uint_least8_t int_fast8_t uint_fast8_t INT8_MIN INT8_MAX \
@@ -242,8 +243,8 @@ fn warn_of_header(
     )
 }
 
-/// Adds a warning for each header of Autoconf's default includes that acrun's don't have, if the source looks for one of its names with
-/// the default includes.
+/// Adds a warning for each header of Autoconf's default includes that acrun's don't have, if the
+/// source looks for one of its names with the default includes.
 pub(crate) fn warn_of_includes(
     alloc: Global,
     text: &[u8],

@@ -12,9 +12,9 @@
 //!
 //! `extent` has the parts of a call, and `rows` what is looked for in arguments. `calls` and
 //! `foreign` read the calls of the source, `includes` those that look for declarations, `compiler`
-//! their order, and `texts` its text and its statements. `shellwords` finds words that a shell reads
-//! otherwise. `names` has the variables of a source, and `variables` those that acrun doesn't set.
-//! `order` finds the first statement that can't be resumed.
+//! their order, and `texts` its text and its statements. `shellwords` finds words that a shell
+//! reads otherwise. `names` has the variables of a source, and `variables` those that acrun doesn't
+//! set. `order` finds the first statement that can't be resumed.
 #![tactic(auto)]
 
 mod calls;

@@ -8,7 +8,8 @@ use deftable::{Name, SubstList, is_shell_name};
 use shellword::{Condition, Element, Part, Test};
 use std::alloc::{AllocError, Global};
 
-/// The variables that a source sets, declares or reads. Statements in cases that a run does not take count too.
+/// The variables that a source sets, declares or reads. Statements in cases that a run does not
+/// take count too.
 #[derive(Drop)]
 pub(crate) struct Names {
     /// Those that a statement sets, or that AC_ARG_VAR or AC_PROG_CC declares.

@@ -1,4 +1,5 @@
-//! What an argument may hold that means something else here than with Autoconf, or than it seems to.
+//! What an argument may hold that means something else here than with Autoconf, or than it seems
+//! to.
 
 use lint_table::{Key, keys};
 

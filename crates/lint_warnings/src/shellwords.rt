@@ -40,7 +40,8 @@ fn role_in_choice(name: &[u8], count: usize, index: usize) -> Role {
     }
 }
 
-/// The macros whose statements begin with an argument of this number, counted from 0, and end with the argument after it.
+/// The macros whose statements begin with an argument of this number, counted from 0, and end with
+/// the argument after it.
 #[rattlefmt::skip]
 const ACTIONS: [(&[u8], usize); 17] = [
     (b"AC_ARG_ENABLE", 2), (b"AC_ARG_WITH", 2), (b"AC_CHECK_LIB", 2), (b"AC_SEARCH_LIBS", 2),
@@ -191,7 +192,8 @@ fn ends_word(byte: u8) -> bool {
     is_part_end(byte) || matches!(byte, b'&' | b'|' | b']' | b')')
 }
 
-/// Appends the word of a test that begins at an offset, if it is variables alone. The text ends with the test.
+/// Appends the word of a test that begins at an offset, if it is variables alone. The text ends
+/// with the test.
 fn push_word(text: &[u8], at: usize, out: &mut Vec<Extent>) -> Result<(), AllocError> {
     let len = variables_len(from(text, at));
     let end = at.saturating_add(len);

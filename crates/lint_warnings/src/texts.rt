@@ -32,8 +32,8 @@ fn warn_of_text(
 }
 
 /// Adds the warnings about the text and the statements of a source: texts that may not mean what
-/// they seem to, variables that a configure script sets and acrun doesn't, and the first statement after which a run that is cut can't be resumed (own). The
-/// calls are those of the source.
+/// they seem to, variables that a configure script sets and acrun doesn't, and the first statement
+/// after which a run that is cut can't be resumed (own). The calls are those of the source.
 ///
 /// # Errors
 ///

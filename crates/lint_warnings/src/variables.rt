@@ -13,7 +13,8 @@ use std::alloc::{AllocError, Global};
 /// Variables with blanks between them, and what to write for them.
 type Row = (&'static [u8], Key);
 
-/// The variables that a configure script has of itself, or that macros set which acrun doesn't know.
+/// The variables that a configure script has of itself, or that macros set which acrun doesn't
+/// know.
 #[rattlefmt::skip]
 const ROWS: [Row; 25] = [
     (b"GCC ac_compiler_gnu ac_cv_c_compiler_gnu", keys::CHECK_GNU),
@@ -87,7 +88,8 @@ struct Search {
 }
 
 impl Search {
-    /// Returns what to write for a variable, if it is one that is looked for and wasn't found before.
+    /// Returns what to write for a variable, if it is one that is looked for and wasn't found
+    /// before.
     fn take(&mut self, name: &[u8]) -> Result<Option<Key>, AllocError> {
         if !is_shell_name(name) || !is_unset(&self.names, name) || self.found.has(name) {
             return Ok(None);
@@ -192,7 +194,8 @@ fn warn_of_outputs(
     Ok(())
 }
 
-/// Warns of variables that a source reads and doesn't set, each at the first place where it is read, if a configure script sets them.
+/// Warns of variables that a source reads and doesn't set, each at the first place where it is
+/// read, if a configure script sets them.
 pub(crate) fn warn_of_variables(
     alloc: Global,
     text: &[u8],

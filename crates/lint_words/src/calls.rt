@@ -91,8 +91,8 @@ fn rest_of_argument<'a>(text: &'a [u8], calls: &[CallAt], at: usize) -> &'a [u8]
     }
 }
 
-/// Returns the arguments of the call that begins at the place. It may be one of an argument that has no statements, which is not
-/// among the calls.
+/// Returns the arguments of the call that begins at the place. It may be one of an argument that
+/// has no statements, which is not among the calls.
 pub(crate) fn arguments_at<'a>(
     alloc: Global,
     text: &'a [u8],

@@ -1,8 +1,9 @@
 //! The words of faults: what is wrong, and what to do.
 //!
-//! A fault line has a number and a place. What is here says the same in words, for who reads a terminal: a
-//! short sentence that names the culprit, the form that acrun reads in place of a shell construct, and lines
-//! of help. The words are for people, and may change; the fault lines do not. They are in `lint_table`.
+//! A fault line has a number and a place. What is here says the same in words, for who reads a
+//! terminal: a short sentence that names the culprit, the form that acrun reads in place of a shell
+//! construct, and lines of help. The words are for people, and may change; the fault lines do not.
+//! They are in `lint_table`.
 //!
 //! ```text
 //! // the option `--prefx=/usr` is not known
@@ -12,13 +13,14 @@
 //! shell_help(b"if test -f x; then")     // `if` of the shell is not read; write instead AS_IF(..)
 //! ```
 //!
-//! A call fails only if memory runs out. What is said is tested, and what is proved is that each call ends,
-//! where a finding is, and which name is near another.
+//! A call fails only if memory runs out. What is said is tested, and what is proved is that each
+//! call ends, where a finding is, and which name is near another.
 //!
-//! Faults of a run are those of options, caches and records: read `specs/Near` and `near`, which finds a
-//! similar name, and then `running`. Faults of a source: read `calls`, which finds the call that a place is
-//! in, and `arguments`, which has what an argument may be; then `parse` has the faults. Shell text: read
-//! `table`, which has what is not read, and then `shell`, which finds it in a text.
+//! Faults of a run are those of options, caches and records: read `specs/Near` and `near`, which
+//! finds a similar name, and then `running`. Faults of a source: read `calls`, which finds the call
+//! that a place is in, and `arguments`, which has what an argument may be; then `parse` has the
+//! faults. Shell text: read `table`, which has what is not read, and then `shell`, which finds it
+//! in a text.
 #![tactic(auto)]
 
 mod arguments;

@@ -6,8 +6,8 @@ ghost use Rattle.lint_words.specs.Near as specs;
 use std::alloc::{AllocError, Global};
 use strsim::generic_levenshtein;
 
-/// Returns how many edits two names may differ by to be near: none for up to three letters, one for four to eight, two for nine to
-/// thirteen, and three for longer ones.
+/// Returns how many edits two names may differ by to be near: none for up to three letters, one for
+/// four to eight, two for nine to thirteen, and three for longer ones.
 fn allowed(name: &[u8]) -> usize
     ensures { result ≡ specs.few name.now }
 {
@@ -35,14 +35,17 @@ fn closer(
     }
 }
 
-/// Returns the first of the names with the fewest edits from the name, if these are fewer than `room`.
+/// Returns the first of the names with the fewest edits from the name, if these are fewer than
+/// `room`.
 fn nearest_of<'a>(
     alloc: Global,
     name: &[u8],
     names: &[&'a [u8]],
     room: usize,
 ) -> Result<Option<&'a [u8]>, AllocError>
-    ensures { IfOk result (λ found. option_map (λ n. n.now) found ≡ specs.nearest_from name.now room None (map (λ n. n.now) names.now)) }
+    ensures { IfOk result (λ found.
+        option_map (λ n. n.now) found
+        ≡ specs.nearest_from name.now room None (map (λ n. n.now) names.now)) }
 {
     let mut nearest = None;
     let mut room = room;
@@ -65,9 +68,10 @@ pub fn near_name<'a>(
     name: &[u8],
     names: &[&'a [u8]],
 ) -> Result<Option<&'a [u8]>, AllocError>
-    // It is one of the names, it is near enough, none before it is as near, and none after it is nearer. If there is none, no
-    // name is near enough.
-    ensures nearest { IfOk result (λ found. specs.IsNearest name.now (map (λ n. n.now) names.now) (option_map (λ n. n.now) found)) }
+    // It is one of the names, it is near enough, none before it is as near, and none after it is
+    // nearer. If there is none, no name is near enough.
+    ensures nearest { IfOk result (λ found.
+        specs.IsNearest name.now (map (λ n. n.now) names.now) (option_map (λ n. n.now) found)) }
 {
     nearest_of(alloc, name, names, allowed(name) + 1)
 }

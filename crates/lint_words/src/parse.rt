@@ -147,7 +147,8 @@ fn put_no_macro(alloc: Global, page: &mut Page, name: &[u8]) -> Result<(), Alloc
     put_near_macro(alloc, page, name, keys::OWN_MACRO)
 }
 
-/// Returns whether a statement is a name alone that looks like that of a macro, such as `CF_PROG_CC`.
+/// Returns whether a statement is a name alone that looks like that of a macro, such as
+/// `CF_PROG_CC`.
 fn is_macro_like(name: &[u8], rest: &[u8]) -> bool {
     let has_form = name.iter().all(|byte| byte.is_ascii_uppercase()
         || byte.is_ascii_digit()
@@ -163,7 +164,8 @@ fn has_blank_after_equals(text: &[u8]) -> bool {
     text.starts_with(b"= ") || text.starts_with(b"=\t")
 }
 
-/// Writes what is wrong with text that is no statement, and that has no construct by which to say it.
+/// Writes what is wrong with text that is no statement, and that has no construct by which to say
+/// it.
 fn put_plain_text(alloc: Global, page: &mut Page, around: Around<'_>) -> Result<(), AllocError> {
     let rest = around.rest();
     let name = first_name(rest);
@@ -460,10 +462,11 @@ fn code_of(alloc: Global, fault: ParseFault) -> Result<Bytes, AllocError> {
 
 /// Returns an error of the source, in words, at the offset `at`. If there is no help, it is empty.
 ///
-/// The calls are those of the source, in order of their offsets. An unknown macro is named without them.
+/// The calls are those of the source, in order of their offsets. An unknown macro is named without
+/// them.
 ///
-/// The offset is that of the fault, or that of the statement at fault in text between calls. The end is that of the name, of the
-/// argument, of the quoted text or of the line there.
+/// The offset is that of the fault, or that of the statement at fault in text between calls. The
+/// end is that of the name, of the argument, of the quoted text or of the line there.
 ///
 /// # Errors
 ///
@@ -479,7 +482,8 @@ pub fn parse_finding(
     ensures start { IfOk result (λ finding. finding.start ≡ at) }
     // It ends in the text, and, if the offset is in the text, not before it.
     ensures end { IfOk result (λ finding. finding.end ≤ length text.now) }
-    ensures order { IfOk result (λ finding. finding.start ≤ length text.now → finding.start ≤ finding.end) }
+    ensures order { IfOk result (λ finding.
+        finding.start ≤ length text.now → finding.start ≤ finding.end) }
     ensures severity { IfOk result (λ finding. finding.severity ≡ Error) }
 {
     let around = Around { text, calls, at };

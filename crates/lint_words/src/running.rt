@@ -119,7 +119,8 @@ fn put_option(
     }
 }
 
-/// Returns what is wrong with an argument of `acrun configure`. The arguments are those after the word `configure`.
+/// Returns what is wrong with an argument of `acrun configure`. The arguments are those after the
+/// word `configure`.
 ///
 /// # Errors
 ///
@@ -183,8 +184,8 @@ fn put_now(page: &mut Page, now: Option<&[u8]>) {
     }
 }
 
-/// Returns that a variable is not as it was in the run that made the cache of this name, with both values. `None` is the value of a
-/// variable that is not set.
+/// Returns that a variable is not as it was in the run that made the cache of this name, with both
+/// values. `None` is the value of a variable that is not set.
 ///
 /// # Errors
 ///
@@ -238,7 +239,8 @@ fn put_near(page: &mut Page, near: Option<&[u8]>) {
     }
 }
 
-/// Returns that a name given to `acrun status` is that of no output. The names are those of the outputs.
+/// Returns that a name given to `acrun status` is that of no output. The names are those of the
+/// outputs.
 ///
 /// # Errors
 ///

@@ -129,7 +129,8 @@ fn front_help(text: &[u8]) -> Option<Construct> {
     row_of_front(text)
 }
 
-/// Returns what is wrong with a statement of the shell, and the form that does it, as far as its text shows that.
+/// Returns what is wrong with a statement of the shell, and the form that does it, as far as its
+/// text shows that.
 ///
 /// The text begins at the statement and may go on after it.
 pub fn shell_help(statement: &[u8]) -> Option<Construct> {
@@ -143,7 +144,8 @@ pub fn shell_help(statement: &[u8]) -> Option<Construct> {
     row_of(Kind::Piece, Fit::IsIn(text))
 }
 
-/// Returns what is wrong with a test, as far as its text shows that. The text is without the quotes around it.
+/// Returns what is wrong with a test, as far as its text shows that. The text is without the quotes
+/// around it.
 pub fn test_help(test: &[u8]) -> Option<Construct> {
     if test.contains(&b'\r') {
         return Some(said_of(Nameless::CarriageReturn));

@@ -8,10 +8,12 @@ use std::alloc::{AllocError, AllocFailed};
 use std::error::Error;
 use std::fmt;
 
-/// The first precious variable that isn't as it was in the run that made the cache. The number is the place of the
-/// variable in the list of the source's precious variables, which is 1 for the first.
+/// The first precious variable that isn't as it was in the run that made the cache. The number is
+/// the place of the variable in the list of the source's precious variables, which is 1 for the
+/// first.
 ///
-/// It is displayed as its number, followed by `at` and that of the variable. Out of memory is displayed as `memory`.
+/// It is displayed as its number, followed by `at` and that of the variable. Out of memory is
+/// displayed as `memory`.
 #[derive(Clone, Copy, Debug, PartialEq, Eq)]
 pub enum PreciousFault {
     /// The variable was set, and now it is unset.

@@ -36,8 +36,8 @@ fn put_gap(text: &mut Vec<u8>, n: usize) -> Result<(), AllocError>
     put_spaces(text, LEFT_COLUMN - n)
 }
 
-/// Appends a byte of a text in which each run of blanks becomes one space. `blank` is true if the byte before it is a
-/// blank.
+/// Appends a byte of a text in which each run of blanks becomes one space. `blank` is true if the
+/// byte before it is a blank.
 fn put_byte(text: &mut Vec<u8>, blank: bool, byte: u8) -> Result<(), AllocError>
     ensures { OnOk result (text.new.items ≡ text.old.items ++ words.squeezed_byte blank byte) }
 {
@@ -63,7 +63,8 @@ fn put_squeezed(text: &mut Vec<u8>, right: &[u8]) -> Result<(), AllocError>
 
 #[tactic(auto, unfolding(crate::specs::HelpText::entry_lines))]
 fn put_entry(text: &mut Vec<u8>, left: &[u8], right: &[u8]) -> Result<(), AllocError>
-    ensures { OnOk result (text.new.items ≡ text.old.items ++ words.entry_lines left.now right.now) }
+    ensures { OnOk result (
+        text.new.items ≡ text.old.items ++ words.entry_lines left.now right.now) }
 {
     text.extend_from_slice(b"  ")?;
     text.extend_from_slice(left)?;
@@ -94,7 +95,8 @@ fn put_help(text: &mut Vec<u8>, help: &Help) -> Result<(), AllocError>
 }
 
 fn put_all(text: &mut Vec<u8>, entries: &[Help]) -> Result<(), AllocError>
-    ensures { OnOk result (text.new.items ≡ text.old.items ++ flat_map words.help_lines entries.now) }
+    ensures { OnOk result (
+        text.new.items ≡ text.old.items ++ flat_map words.help_lines entries.now) }
 {
     for help in entries {
         put_help(text, help)?;
@@ -102,11 +104,11 @@ fn put_all(text: &mut Vec<u8>, entries: &[Help]) -> Result<(), AllocError>
     Ok(())
 }
 
-/// Returns the help text: the usage, and then the options and variables of the source, in its order (the layout is
-/// own).
+/// Returns the help text: the usage, and then the options and variables of the source, in its order
+/// (the layout is own).
 ///
-/// The right text begins at column 27, on the next line if the left text is longer than 23 bytes. Lines are not
-/// wrapped.
+/// The right text begins at column 27, on the next line if the left text is longer than 23 bytes.
+/// Lines are not wrapped.
 ///
 /// # Errors
 ///

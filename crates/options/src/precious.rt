@@ -32,7 +32,8 @@ fn old_value<'a>(
     marked: &'a Vars,
     name: &[u8],
 ) -> Result<Option<&'a [u8]>, AllocError>
-    ensures { IfOk result (λ old. option_map (λ v. v.now) old ≡ words.old_value marked.now name.now) }
+    ensures { IfOk result (λ old.
+        option_map (λ v. v.now) old ≡ words.old_value marked.now name.now) }
 {
     let set_name = mark_name(alloc, name, b"_set")?;
     if marked.value_or_empty(set_name.as_slice()) == b"".as_slice() {
@@ -65,7 +66,8 @@ fn restored_value<'a>(
     old: &'a [u8],
     now: &[u8],
 ) -> Result<Option<&'a [u8]>, PreciousFault>
-    ensures { Gives (λ value. option_map (λ v. v.now) value) result (words.restored place (Some old.now) (Some now.now)) }
+    ensures { Gives (λ value. option_map (λ v. v.now) value) result
+        (words.restored place (Some old.now) (Some now.now)) }
 {
     if old == now {
         return Ok(None);
@@ -84,7 +86,9 @@ fn restored<'a>(
     old: Option<&'a [u8]>,
     now: Option<&[u8]>,
 ) -> Result<Option<&'a [u8]>, PreciousFault>
-    ensures { Gives (λ value. option_map (λ v. v.now) value) result (words.restored place (option_map (λ v. v.now) old.entry) (option_map (λ v. v.now) now.entry)) }
+    ensures { Gives (λ value. option_map (λ v. v.now) value) result (
+        words.restored place (option_map (λ v. v.now) old.entry)
+        (option_map (λ v. v.now) now.entry)) }
 {
     match (old, now) {
         (None, None) => Ok(None),
@@ -100,7 +104,8 @@ fn change_of(
     name: &Bytes,
     value: Option<&[u8]>,
 ) -> Result<Option<(Bytes, Bytes)>, AllocError>
-    ensures { IfOk result (λ change. change ≡ option_map (λ v. (name.now, v)) (option_map (λ v. v.now) value.entry)) }
+    ensures { IfOk result (λ change.
+        change ≡ option_map (λ v. (name.now, v)) (option_map (λ v. v.now) value.entry)) }
 {
     let Some(value) = value else {
         return Ok(None);
@@ -109,7 +114,8 @@ fn change_of(
     Ok(Some((name, Bytes::from_slice(alloc, value)?)))
 }
 
-/// Compares the variable at a place. Returns it with the value that it gets back, if it gets one back.
+/// Compares the variable at a place. Returns it with the value that it gets back, if it gets one
+/// back.
 #[tactic(auto, unfolding(crate::specs::Precious::restored_variable))]
 fn restored_variable(
     alloc: Global,
@@ -118,7 +124,8 @@ fn restored_variable(
     marked: &Vars,
     name: &Bytes,
 ) -> Result<Option<(Bytes, Bytes)>, PreciousFault>
-    ensures { Gives (λ change. change) result (words.restored_variable place vars.now marked.now name.now) }
+    ensures { Gives (λ change. change) result
+        (words.restored_variable place vars.now marked.now name.now) }
 {
     let old = old_value(alloc, marked, name.as_slice())?;
     let value = restored(alloc, place, old, value_now(vars, name.as_slice()))?;
@@ -145,7 +152,8 @@ fn restored_variables(
     vars: &Vars,
     marked: &Vars,
 ) -> Result<Vec<(Bytes, Bytes)>, PreciousFault>
-    ensures { Gives (λ changes. changes.items) result (words.restored_from 1 vars.now marked.now precious.now) }
+    ensures { Gives (λ changes. changes.items) result
+        (words.restored_from 1 vars.now marked.now precious.now) }
 {
     let mut changes = Vec::new(alloc);
     'names: for i in 0..precious.len() {
@@ -162,7 +170,8 @@ fn compare_all(
     vars: &Vars,
     cache: &OldCache,
 ) -> Result<Vec<(Bytes, Bytes)>, PreciousFault>
-    ensures { Gives (λ changes. changes.items) result (words.restored_from 1 vars.now (vars_after cache.now vars.now) precious.now) }
+    ensures { Gives (λ changes. changes.items) result
+        (words.restored_from 1 vars.now (vars_after cache.now vars.now) precious.now) }
 {
     let marked = poured(alloc, vars, cache)?;
     restored_variables(alloc, precious, vars, &marked)
@@ -182,7 +191,8 @@ fn blanks_note(alloc: Global, name: &[u8]) -> Result<Note, AllocError>
 }
 
 fn notes_of(alloc: Global, changes: &[(Bytes, Bytes)]) -> Result<Notes, AllocError>
-    ensures { IfOk result (λ notes. notes ≡ map (λ change. words.blanks_note change.0) changes.now) }
+    ensures { IfOk result (λ notes.
+        notes ≡ map (λ change. words.blanks_note change.0) changes.now) }
 {
     let mut notes = Notes::new(alloc);
     for change in changes {
@@ -208,7 +218,8 @@ fn change_all(
     changes: &[(Bytes, Bytes)],
 ) -> Result<Notes, AllocError>
     ensures vars { OnOk result (vars.new ≡ fold with_variable vars.old changes.now) }
-    ensures notes { IfOk result (λ notes. notes ≡ map (λ change. words.blanks_note change.0) changes.now) }
+    ensures notes { IfOk result (λ notes.
+        notes ≡ map (λ change. words.blanks_note change.0) changes.now) }
     ensures unchanged { OnErr result (vars.new ≡ vars.old) }
 {
     let notes = notes_of(alloc, changes)?;
@@ -223,27 +234,29 @@ fn check(
     vars: &mut Vars,
     cache: &OldCache,
 ) -> Result<Notes, PreciousFault>
-    ensures exact { Gives (λ notes. (vars.new, notes)) result (words.checked precious.now vars.old cache.now) }
+    ensures exact { Gives (λ notes. (vars.new, notes)) result
+        (words.checked precious.now vars.old cache.now) }
     ensures unchanged { OnErr result (vars.new ≡ vars.old) }
 {
     let changes = compare_all(alloc, precious.names(), vars, cache)?;
     Ok(change_all(alloc, vars, &changes)?)
 }
 
-/// Checks precious variables against a cache that is still to be poured over the variables (Autoconf's manual, "Setting
-/// Output Variables" and "Cache Files").
+/// Checks precious variables against a cache that is still to be poured over the variables
+/// (Autoconf's manual, "Setting Output Variables" and "Cache Files").
 ///
-/// The variables have their marks already, as [`read_args_of`](crate::read_args_of) leaves them. A precious variable is
-/// compared with the marks that pouring the cache would leave: whether the variable was set, and its value. So a variable
-/// whose marks the cache lacks counts as unchanged. If only blanks have changed, the variable gets its old value, with a
-/// note about it. All variables are compared before any is changed.
+/// The variables have their marks already, as [`read_args_of`](crate::read_args_of) leaves them. A
+/// precious variable is compared with the marks that pouring the cache would leave: whether the
+/// variable was set, and its value. So a variable whose marks the cache lacks counts as unchanged.
+/// If only blanks have changed, the variable gets its old value, with a note about it. All
+/// variables are compared before any is changed.
 ///
 /// This takes time and memory in proportion to the cache and the variables.
 ///
 /// # Errors
 ///
-/// Returns the fault of the first variable that has one, in the order of `precious`: `WasSet`, `WasUnset` or `Changed`. If
-/// it fails, the variables are unchanged.
+/// Returns the fault of the first variable that has one, in the order of `precious`: `WasSet`,
+/// `WasUnset` or `Changed`. If it fails, the variables are unchanged.
 pub fn check_precious_of(
     alloc: Global,
     precious: &SubstList,
@@ -251,16 +264,21 @@ pub fn check_precious_of(
     cache: &OldCache,
 ) -> Result<Notes, PreciousFault>
     // Each precious variable has its old value, and the notes are those about changed blanks.
-    ensures sound { IfOk result (λ notes. words.IsChecked precious.now vars.old cache.now vars.new notes) }
+    ensures sound { IfOk result (λ notes.
+        words.IsChecked precious.now vars.old cache.now vars.new notes) }
     // If nothing but blanks has changed, it fails only if memory runs out.
-    ensures complete { words.AreUnchanged precious.now vars.old cache.now → IfErr result (λ fault. fault ≡ OutOfMemory) }
+    ensures complete { words.AreUnchanged precious.now vars.old cache.now
+        → IfErr result (λ fault. fault ≡ OutOfMemory) }
     // A fault other than out of memory is the first one.
-    ensures error_sound { IfErr result (λ fault. fault ≢ OutOfMemory → words.IsPreciousFault precious.now vars.old cache.now fault) }
+    ensures error_sound { IfErr result (λ fault.
+        fault ≢ OutOfMemory → words.IsPreciousFault precious.now vars.old cache.now fault) }
     // If a variable has a fault, the first one is returned, unless memory runs out.
-    ensures error_complete { (fault : faults.PreciousFault) → words.IsPreciousFault precious.now vars.old cache.now fault
+    ensures error_complete { (fault : faults.PreciousFault)
+        → words.IsPreciousFault precious.now vars.old cache.now fault
         → Gives (λ notes. notes) result (Err fault) }
     // The same as a function.
-    ensures exact { Gives (λ notes. (vars.new, notes)) result (words.checked precious.now vars.old cache.now) }
+    ensures exact { Gives (λ notes. (vars.new, notes)) result
+        (words.checked precious.now vars.old cache.now) }
     // A failed check changes nothing.
     ensures unchanged { OnErr result (vars.new ≡ vars.old) }
 {

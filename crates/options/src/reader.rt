@@ -38,7 +38,8 @@ fn cache_named(alloc: Global, name: &[u8]) -> Result<Option<Bytes>, AllocError>
     Ok(Some(Bytes::from_slice(alloc, name)?))
 }
 
-/// Returns whether the source declares the variable of an option, or the variable is that of `--enable-option-checking`.
+/// Returns whether the source declares the variable of an option, or the variable is that of
+/// `--enable-option-checking`.
 #[tactic(auto, unfolding(crate::specs::Opening::is_declared))]
 fn is_declared(features: &SubstList, packages: &SubstList, variable: &[u8]) -> bool
     ensures { result ≡ declared_of features.now packages.now variable.now }
@@ -78,7 +79,8 @@ impl Reader {
         Ok(())
     }
 
-    /// Sets the variable of a feature or a package, and records its option if the source doesn't declare the variable.
+    /// Sets the variable of a feature or a package, and records its option if the source doesn't
+    /// declare the variable.
     #[tactic(auto, unfolding(crate::specs::Stepwise::with_choice))]
     fn choose(
         &mut self,
@@ -88,7 +90,10 @@ impl Reader {
         i: u64,
         choice: Choice<'_>,
     ) -> Result<(), AllocError>
-        ensures { OnOk result (self.new ≡ words.with_choice features.now packages.now i choice.entry.kind choice.entry.name.now choice.entry.value.now choice.entry.option.now self.old) }
+        ensures { OnOk result (
+            self.new
+            ≡ words.with_choice features.now packages.now i choice.entry.kind
+            choice.entry.name.now choice.entry.value.now choice.entry.option.now self.old) }
     {
         let variable = option_variable(alloc, choice.kind, choice.name)?;
         self.vars.set(variable.as_slice(), choice.value)?;
@@ -107,7 +112,8 @@ impl Reader {
         i: u64,
         said: Argument<'_>,
     ) -> Result<(), OptionFault>
-        ensures { Gives (λ _. self.new) result (words.with_said features.now packages.now i (argument_of said.entry) self.old) }
+        ensures { Gives (λ _. self.new) result
+            (words.with_said features.now packages.now i (argument_of said.entry) self.old) }
     {
         match said {
             Argument::Flag(switch) => self.turn(alloc, switch)?,
@@ -132,7 +138,8 @@ impl Reader {
         i: u64,
         argument: &Bytes,
     ) -> Result<(), OptionFault>
-        ensures { Gives (λ _. self.new) result (words.with_argument features.now packages.now i argument.now self.old) }
+        ensures { Gives (λ _. self.new) result
+            (words.with_argument features.now packages.now i argument.now self.old) }
     {
         let Some(target) = self.awaited else {
             return self.read_said(
@@ -167,7 +174,8 @@ impl Reader {
         packages: &SubstList,
         args: &[Bytes],
     ) -> Result<Reader, OptionFault>
-        ensures { Gives (λ r. r) result (words.with_arguments features.now packages.now 0 self args.now) }
+        ensures { Gives (λ r. r) result
+            (words.with_arguments features.now packages.now 0 self args.now) }
     {
         for (i, argument) in args.iter().enumerate() {
             self.read(alloc, features, packages, i as u64 + 1, argument)?;

@@ -21,8 +21,8 @@ use std::alloc::{AllocError, Global};
 /// What a run begins with, before a cache is loaded.
 #[derive(Drop)]
 pub struct Settings {
-    /// The variables: those of the environment, of the directories and of the arguments, and the marks of precious
-    /// variables.
+    /// The variables: those of the environment, of the directories and of the arguments, and the
+    /// marks of precious variables.
     pub vars: Vars,
     /// The warning about options that the source doesn't declare, if there are any.
     pub notes: Notes,
@@ -42,7 +42,17 @@ pub struct Settings {
 
 /// Returns the settings after all arguments, once the variables are finished.
 fn settings_of(reader: Reader, notes: Notes, srcdir: Bytes) -> Settings
-    ensures { result ≡ record { vars = reader.vars; notes = notes; cache_name = reader.cache_name; srcdir = srcdir; quiet = reader.quiet; no_create = reader.no_create; help = reader.help; version = reader.version } }
+    ensures { result
+        ≡ record {
+          vars = reader.vars;
+          notes = notes;
+          cache_name = reader.cache_name;
+          srcdir = srcdir;
+          quiet = reader.quiet;
+          no_create = reader.no_create;
+          help = reader.help;
+          version = reader.version;
+        } }
 {
     let Reader {
         vars,
@@ -97,7 +107,8 @@ fn settings_with(
 
 /// Returns the notes about options that are not declared.
 fn notes_after(alloc: Global, reader: &Reader) -> Result<Notes, OptionFault>
-    ensures { Gives (λ notes. notes) result (notes_of (checking_in reader.now.vars) reader.now.unrecognized) }
+    ensures { Gives (λ notes. notes) result
+        (notes_of (checking_in reader.now.vars) reader.now.unrecognized) }
 {
     let checking = reader.vars.value_or_empty(b"enable_option_checking");
     notes_of(alloc, checking, &reader.unrecognized)
@@ -127,7 +138,8 @@ fn read_stepwise(
     args: &[Bytes],
     env: &[(Bytes, Bytes)],
 ) -> Result<Settings, OptionFault>
-    ensures exact { Gives (λ s. s) result (words.stepwise features.now packages.now precious.now args.now env.now) }
+    ensures exact { Gives (λ s. s) result
+        (words.stepwise features.now packages.now precious.now args.now env.now) }
     ensures directory { IfOk result (λ s. s.srcdir ≡ srcdir_of args.now) }
 {
     let reader = reader_before(alloc, env)?;
@@ -135,18 +147,18 @@ fn read_stepwise(
     settings_after(alloc, precious, args, reader)
 }
 
-/// Returns the settings of a command line and an environment (Autoconf's manual, "Running configure Scripts"; the table
-/// of options is own).
+/// Returns the settings of a command line and an environment (Autoconf's manual, "Running configure
+/// Scripts"; the table of options is own).
 ///
-/// `features` and `packages` are the variables of the features and packages that the source declares, such as
-/// `enable_a_b` and `with_x`; `precious` has its precious variables. `args` are the arguments without the program's
-/// name, and `env` has the name and the value of each entry of the environment. The directory of the source is the one
-/// that [`srcdir_of`] returns.
+/// `features` and `packages` are the variables of the features and packages that the source
+/// declares, such as `enable_a_b` and `with_x`; `precious` has its precious variables. `args` are
+/// the arguments without the program's name, and `env` has the name and the value of each entry of
+/// the environment. The directory of the source is the one that [`srcdir_of`] returns.
 ///
 /// # Errors
 ///
-/// Returns the error of the first argument that has one. If all are right, returns `FatalUnrecognized` under its
-/// condition.
+/// Returns the error of the first argument that has one. If all are right, returns
+/// `FatalUnrecognized` under its condition.
 pub fn read_args_of(
     alloc: Global,
     features: &SubstList,
@@ -155,14 +167,18 @@ pub fn read_args_of(
     args: &[Bytes],
     env: &[(Bytes, Bytes)],
 ) -> Result<Settings, OptionFault>
-    ensures sound { IfOk result (λ s. IsOpening features.now packages.now precious.now args.now env.now s) }
-    ensures complete { (s : settings.Settings) → IsOpening features.now packages.now precious.now args.now env.now s
+    ensures sound { IfOk result (λ s.
+        IsOpening features.now packages.now precious.now args.now env.now s) }
+    ensures complete { (s : settings.Settings)
+        → IsOpening features.now packages.now precious.now args.now env.now s
         → Gives (λ s. s) result (Ok s) }
     ensures error_sound { IfErr result (λ f. f ≢ OutOfMemory
         → IsOpeningFault features.now packages.now precious.now args.now env.now f) }
-    ensures error_complete { (f : faults.OptionFault) → IsOpeningFault features.now packages.now precious.now args.now env.now f
+    ensures error_complete { (f : faults.OptionFault)
+        → IsOpeningFault features.now packages.now precious.now args.now env.now f
         → Gives (λ s. s) result (Err f) }
-    ensures exact { Gives (λ s. s) result (opening features.now packages.now precious.now args.now env.now) }
+    ensures exact { Gives (λ s. s) result
+        (opening features.now packages.now precious.now args.now env.now) }
     ensures directory { IfOk result (λ s. s.srcdir ≡ srcdir_of args.now) }
 {
     read_stepwise(alloc, features, packages, precious, args, env)

@@ -84,7 +84,8 @@ impl Unrecognized {
 
 /// Appends each option to a text, after a comma and a space.
 fn put_rest(text: &mut Vec<u8>, options: &[(u64, Bytes)]) -> Result<(), AllocError>
-    ensures { OnOk result (text.new.items ≡ text.old.items ++ flat_map words.after_comma options.now) }
+    ensures { OnOk result (
+        text.new.items ≡ text.old.items ++ flat_map words.after_comma options.now) }
 {
     for option in options {
         put_after_comma(text, option)?;

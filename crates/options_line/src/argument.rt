@@ -86,7 +86,8 @@ const SWITCHES: [(&[u8], Switch); 14] = [
     (b"--no-recursion", Switch::Ignored),
 ];
 
-/// Returns the options without a value, and what each turns on (Autoconf's manual, "configure Invocation").
+/// Returns the options without a value, and what each turns on (Autoconf's manual, "configure
+/// Invocation").
 #[tactic(auto, unfolding(crate::specs::Arguments::switches))]
 pub fn switches() -> &'static [(&'static [u8], Switch)]
     ensures { map (λ row. (row.0.now, row.1)) result.now ≡ words.switches }
@@ -200,8 +201,8 @@ fn chosen<'a>(kind: OptionKind, name: &'a [u8], value: &'a [u8], option: &'a [u8
     }
 }
 
-/// Reads the option that turns a feature or a package on. `rest` is its name and, after a `=`, its value; without a `=`
-/// the value is `yes`.
+/// Reads the option that turns a feature or a package on. `rest` is its name and, after a `=`, its
+/// value; without a `=` the value is `yes`.
 fn enabled<'a>(kind: OptionKind, rest: &'a [u8], argument: &'a [u8]) -> Argument<'a>
     ensures { argument_of result ≡ words.enabled kind rest.now argument.now }
 {
@@ -249,7 +250,8 @@ fn choice_of(argument: &[u8]) -> Argument<'_>
 
 /// Reads an option with a value, which is here or is the next argument.
 fn given_or_awaited<'a>(target: Target, value: Option<&'a [u8]>) -> Argument<'a>
-    ensures { argument_of result ≡ words.given_or_awaited target (option_map (λ v. v.now) value.entry) }
+    ensures { argument_of result
+        ≡ words.given_or_awaited target (option_map (λ v. v.now) value.entry) }
 {
     match value {
         Some(value) => Argument::OptionValue(target, value),
@@ -302,7 +304,8 @@ fn is_dashed(argument: &[u8]) -> bool
     }
 }
 
-/// Reads an argument that isn't the value of the option before it (Autoconf's manual, "configure Invocation").
+/// Reads an argument that isn't the value of the option before it (Autoconf's manual, "configure
+/// Invocation").
 #[tactic(auto, unfolding(crate::specs::Arguments::read_argument))]
 pub fn read_argument(argument: &[u8]) -> Argument<'_>
     ensures { argument_of result ≡ words.read_argument argument.now }

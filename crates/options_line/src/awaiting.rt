@@ -7,7 +7,8 @@ ghost use Rattle.options_line.specs.Argument.{argument_of};
 use crate::argument::{Argument, Target, read_argument};
 use deftable::Bytes;
 
-/// Returns the option that needs the next argument as its value, after an argument with this reading.
+/// Returns the option that needs the next argument as its value, after an argument with this
+/// reading.
 fn awaited_by(said: Argument<'_>) -> Option<Target>
     ensures { result ≡ words.awaited_by (argument_of said.entry) }
 {
@@ -17,7 +18,8 @@ fn awaited_by(said: Argument<'_>) -> Option<Target>
     }
 }
 
-/// Returns the option that needs the next argument as its value, after an argument that may be such a value itself.
+/// Returns the option that needs the next argument as its value, after an argument that may be such
+/// a value itself.
 pub(crate) fn awaited_after(awaited: Option<Target>, argument: &Bytes) -> Option<Target>
     ensures { result ≡ words.awaited_after awaited argument.now }
 {

@@ -7,8 +7,8 @@ ghost use Rattle.std.specs.Str.{bytes_eq};
 ghost use Rattle.deftable.specs.ShellName.{IsShellName};
 ghost use Rattle.options_line.specs.Directories as words;
 
-/// A directory that files are installed into, or a prefix of such directories (Autoconf's manual, "Installation Directory
-/// Variables").
+/// A directory that files are installed into, or a prefix of such directories (Autoconf's manual,
+/// "Installation Directory Variables").
 #[derive(Clone, Copy)]
 pub enum Directory {
     /// The prefix of the other directories.
@@ -124,7 +124,8 @@ impl Directory {
         }
     }
 
-    /// Returns the value of the directory's variable if no argument sets it. Variables in it are not expanded.
+    /// Returns the value of the directory's variable if no argument sets it. Variables in it are
+    /// not expanded.
     #[tactic(auto, unfolding(crate::specs::Directories::default_of))]
     pub fn default_value(self) -> &'static [u8]
         ensures { result.now ≡ words.default_of self }
@@ -166,7 +167,8 @@ impl Directory {
 }
 
 fn find_directory(option: &[u8]) -> Option<&'static Directory>
-    ensures { option_copied result ≡ find (λ directory. bytes_eq (words.option_of directory) option.now) words.directories }
+    ensures { option_copied result
+        ≡ find (λ directory. bytes_eq (words.option_of directory) option.now) words.directories }
 {
     directories()
         .iter()

@@ -8,20 +8,21 @@ use std::alloc::{AllocError, AllocFailed};
 use std::error::Error;
 use std::fmt;
 
-/// What is wrong with a command line: the first argument that has an error. The number is that of the argument, which
-/// is 1 for the first. It prints as its number and that of the argument.
+/// What is wrong with a command line: the first argument that has an error. The number is that of
+/// the argument, which is 1 for the first. It prints as its number and that of the argument.
 #[derive(Clone, Copy, Debug, PartialEq, Eq)]
 pub enum OptionFault {
     /// Neither a known option nor an assignment.
     Unknown(u64),
-    /// A feature or a package whose name is empty, or has another byte than letters, digits, `-`, `+`, `.` and `_`.
+    /// A feature or a package whose name is empty, or has another byte than letters, digits, `-`,
+    /// `+`, `.` and `_`.
     BadFeature(u64),
     /// A value for a name that is no shell name.
     BadVariable(u64),
     /// The last argument is an option that has no `=` and needs a value.
     MissingValue(u64),
-    /// The first option of a feature or a package that the source does not declare, if `enable_option_checking` is
-    /// `fatal`. All other errors come first.
+    /// The first option of a feature or a package that the source does not declare, if
+    /// `enable_option_checking` is `fatal`. All other errors come first.
     FatalUnrecognized(u64),
     /// Memory ran out.
     OutOfMemory,

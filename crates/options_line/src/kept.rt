@@ -39,13 +39,16 @@ fn keep(kept: &mut Texts, awaited: Option<Target>, argument: &Bytes) -> Result<(
     kept.push(argument.as_slice())
 }
 
-/// Returns the arguments of a command line that the record of a run keeps (own): all but `-n` and `--no-create`.
+/// Returns the arguments of a command line that the record of a run keeps (own): all but `-n` and
+/// `--no-create`.
 ///
-/// The value of an option is always kept, so `--prefix -n` keeps both arguments. Arguments with errors are kept too.
+/// The value of an option is always kept, so `--prefix -n` keeps both arguments. Arguments with
+/// errors are kept too.
 pub fn kept_args(alloc: Global, args: &[Bytes]) -> Result<Texts, AllocError>
     // What is returned is what is kept of the arguments, and nothing else is.
     ensures sound { IfOk result (λ kept. words.IsKept args.now kept) }
-    ensures complete { (kept : List (List ℕ)) → words.IsKept args.now kept → IfOk result (λ t. t ≡ kept) }
+    ensures complete { (kept : List (List ℕ)) → words.IsKept args.now kept
+        → IfOk result (λ t. t ≡ kept) }
     ensures exact { IfOk result (λ kept. kept ≡ words.kept_args args.now) }
 {
     kept_in(alloc, args)

@@ -6,5 +6,6 @@ ghost use Rattle.options_line.specs.KeptSettings.{GivesKept};
 
 /// If arguments give settings, those that are kept give the same settings without `--no-create`.
 pub fn kept_settings()
-    ensures { (i j : ℕ) (arguments : List (List ℕ)) (settings : List Setting) → GivesSettings i arguments settings → GivesKept j arguments settings }
+    ensures { (i j : ℕ) (arguments : List (List ℕ)) (settings : List Setting)
+        → GivesSettings i arguments settings → GivesKept j arguments settings }
 {}

@@ -51,16 +51,17 @@ fn srcdir_named(args: &[Bytes]) -> &[u8]
     srcdir
 }
 
-/// Returns the directory of the source that the arguments of a command line name, without final slashes, or `.` if they
-/// name none (Autoconf's manual, "configure Invocation").
+/// Returns the directory of the source that the arguments of a command line name, without final
+/// slashes, or `.` if they name none (Autoconf's manual, "configure Invocation").
 ///
-/// Arguments with errors are passed over, so the directory is known before anything else is read. If all arguments are
-/// right, `srcdir` of a run's settings is the same.
+/// Arguments with errors are passed over, so the directory is known before anything else is read.
+/// If all arguments are right, `srcdir` of a run's settings is the same.
 #[tactic(auto, unfolding(crate::specs::Srcdir::srcdir_of))]
 pub fn srcdir_of(args: &[Bytes]) -> &[u8]
     // The arguments name what is returned, and no other directory.
     ensures sound { words.NamesDirectory args.now result.now }
-    ensures complete { (directory : List ℕ) → words.NamesDirectory args.now directory → result.now ≡ directory }
+    ensures complete { (directory : List ℕ) → words.NamesDirectory args.now directory
+        → result.now ≡ directory }
     ensures exact { result.now ≡ words.srcdir_of args.now }
 {
     without_slashes(srcdir_named(args))

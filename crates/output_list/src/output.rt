@@ -9,7 +9,8 @@ use deftable::Bytes;
 use std::alloc::{AllocError, AllocFailed, Global};
 use std::marker::Model;
 
-/// A file or a header to be made, and its template (Autoconf's manual, "Configuration Files" and "Configuration Headers").
+/// A file or a header to be made, and its template (Autoconf's manual, "Configuration Files" and
+/// "Configuration Headers").
 #[derive(Drop)]
 pub struct Output {
     pub name: Bytes,

@@ -31,8 +31,8 @@ fn are_steps(parts: &[&[u8]]) -> bool
     parts.iter().all(|part| is_step(part))
 }
 
-/// Returns whether a text can be the name or the template of an output: a path below a directory, without `$`, `:`, space,
-/// tab and newline (own).
+/// Returns whether a text can be the name or the template of an output: a path below a directory,
+/// without `$`, `:`, space, tab and newline (own).
 #[tactic(auto, using(crate::proofs::Names::mapped), unfolding(crate::specs::Path::is_path))]
 pub fn is_path(alloc: Global, path: &[u8]) -> Result<bool, AllocError>
     ensures { IfOk result (λ b. b ≡ specs.is_path path.now) }

@@ -66,7 +66,8 @@ fn is_missing(templates: &[(Bytes, Bytes)], tags: &[Bytes], output: &Output) -> 
 
 /// Returns the first output whose template is missing, or `None` if there is none (own).
 ///
-/// A template is a name and a text. If there are tags, looks only at the outputs whose names are tags.
+/// A template is a name and a text. If there are tags, looks only at the outputs whose names are
+/// tags.
 pub fn find_missing<'a>(
     templates: &[(Bytes, Bytes)],
     outputs: &'a [Output],
@@ -86,8 +87,8 @@ fn is_output(recorded: &Record, tag: &[u8]) -> bool
     recorded.files.has(tag) || recorded.headers.has(tag)
 }
 
-/// Returns the index, counted from 0, of the first tag that is the name of no file and of no header of the record, or `None` if
-/// there is none (own).
+/// Returns the index, counted from 0, of the first tag that is the name of no file and of no header
+/// of the record, or `None` if there is none (own).
 pub fn find_unknown(recorded: &Record, tags: &[Bytes]) -> Option<usize>
     ensures exact { result ≡ words.unknown recorded.now tags.now }
     ensures bound { IfSome result (λ i. i < length tags.now) }

@@ -39,7 +39,10 @@ fn add_place(table: &mut Table, place: &Place) -> Result<(), AllocError>
 
 /// Adds the variable for the names of a file and its template.
 fn add_input(alloc: Global, table: &mut Table, file: &Output) -> Result<(), AllocError>
-    ensures { OnOk result (table.new ≡ with_entry table.old (codes "configure_input") (configure_input_of file.now.name file.now.template)) }
+    ensures { OnOk result (
+        table.new
+        ≡ with_entry table.old (codes "configure_input")
+        (configure_input_of file.now.name file.now.template)) }
 {
     let input = configure_input(alloc, file.name.as_slice(), file.template.as_slice())?;
     table.set(b"configure_input", input.as_slice())
@@ -47,16 +50,20 @@ fn add_input(alloc: Global, table: &mut Table, file: &Output) -> Result<(), Allo
 
 /// Adds the variables that a file has of its own.
 fn add_own(alloc: Global, table: &mut Table, file: &Output, srcdir: &[u8]) -> Result<(), AllocError>
-    ensures { OnOk result (table.new
-        ≡ words.with_place (with_entry table.old (codes "configure_input") (configure_input_of file.now.name file.now.template)) (place_of file.now.name srcdir.now)) }
+    ensures { OnOk result (
+        table.new
+        ≡ words.with_place (
+        with_entry table.old (codes "configure_input") (
+        configure_input_of file.now.name
+        file.now.template)) (place_of file.now.name srcdir.now)) }
 {
     add_input(alloc, table, file)?;
     let place = place_vars(alloc, file.name.as_slice(), srcdir)?;
     add_place(table, &place)
 }
 
-/// Returns the table that the template of a file is filled from: the output variables, and the file's own, which override
-/// them (Autoconf's manual, "Preset Output Variables").
+/// Returns the table that the template of a file is filled from: the output variables, and the
+/// file's own, which override them (Autoconf's manual, "Preset Output Variables").
 #[tactic(auto, unfolding(crate::specs::Making::file_table))]
 fn file_table(alloc: Global, recorded: &Record, file: &Output) -> Result<Table, AllocError>
     ensures { IfOk result (λ table. table ≡ words.file_table recorded.now file.now) }
@@ -66,10 +73,12 @@ fn file_table(alloc: Global, recorded: &Record, file: &Output) -> Result<Table, 
     Ok(table)
 }
 
-/// Makes a file of its template: the first template of that name, or the empty text if there is none.
+/// Makes a file of its template: the first template of that name, or the empty text if there is
+/// none.
 ///
-/// The table that the template is filled from has the output variables, and the file's own variables, which override them
-/// (Autoconf's manual, "Preset Output Variables"). A value isn't read again, and an output variable that is unset is nothing.
+/// The table that the template is filled from has the output variables, and the file's own
+/// variables, which override them (Autoconf's manual, "Preset Output Variables"). A value isn't
+/// read again, and an output variable that is unset is nothing.
 ///
 /// # Errors
 ///
@@ -81,7 +90,8 @@ pub fn make_file(
     templates: &[(Bytes, Bytes)],
     file: &Output,
 ) -> Result<Artifact, AllocError>
-    ensures { IfOk result (λ artifact. artifact ≡ words.made_file recorded.now templates.now file.now) }
+    ensures { IfOk result (λ artifact.
+        artifact ≡ words.made_file recorded.now templates.now file.now) }
 {
     let table = file_table(alloc, recorded, file)?;
     let name = file.name.copy(alloc)?;
@@ -119,7 +129,8 @@ fn make_header(
     templates: &[(Bytes, Bytes)],
     header: &Output,
 ) -> Result<Artifact, AllocError>
-    ensures { IfOk result (λ artifact. artifact ≡ words.made_header recorded.now templates.now header.now) }
+    ensures { IfOk result (λ artifact.
+        artifact ≡ words.made_header recorded.now templates.now header.now) }
 {
     let name = header.name.copy(alloc)?;
     let text = header_text(alloc, recorded, templates, header)?;
@@ -139,7 +150,11 @@ fn add_file(
     tags: &[Bytes],
     file: &Output,
 ) -> Result<(), AllocError>
-    ensures { OnOk result (artifacts.new ≡ artifacts.old ++ map (words.made_file recorded.now templates.now) (chosen tags.now (file.now ∷ []))) }
+    ensures { OnOk result (
+        artifacts.new
+        ≡ artifacts.old
+        ++ map (words.made_file recorded.now templates.now)
+        (chosen tags.now (file.now ∷ []))) }
 {
     if !is_chosen(tags, file) {
         return Ok(());
@@ -157,7 +172,10 @@ fn add_files(
     tags: &[Bytes],
     files: &[Output],
 ) -> Result<(), AllocError>
-    ensures { OnOk result (artifacts.new ≡ artifacts.old ++ map (words.made_file recorded.now templates.now) (chosen tags.now files.now)) }
+    ensures { OnOk result (
+        artifacts.new
+        ≡ artifacts.old
+        ++ map (words.made_file recorded.now templates.now) (chosen tags.now files.now)) }
 {
     'outputs: for file in files {
         add_file(alloc, artifacts, recorded, templates, tags, file)?;
@@ -174,7 +192,11 @@ fn add_header(
     tags: &[Bytes],
     header: &Output,
 ) -> Result<(), AllocError>
-    ensures { OnOk result (artifacts.new ≡ artifacts.old ++ map (words.made_header recorded.now templates.now) (chosen tags.now (header.now ∷ []))) }
+    ensures { OnOk result (
+        artifacts.new
+        ≡ artifacts.old
+        ++ map (words.made_header recorded.now templates.now)
+        (chosen tags.now (header.now ∷ []))) }
 {
     if !is_chosen(tags, header) {
         return Ok(());
@@ -192,7 +214,11 @@ fn add_headers(
     tags: &[Bytes],
     headers: &[Output],
 ) -> Result<(), AllocError>
-    ensures { OnOk result (artifacts.new ≡ artifacts.old ++ map (words.made_header recorded.now templates.now) (chosen tags.now headers.now)) }
+    ensures { OnOk result (
+        artifacts.new
+        ≡ artifacts.old
+        ++ map (words.made_header recorded.now templates.now)
+        (chosen tags.now headers.now)) }
 {
     'outputs: for header in headers {
         add_header(alloc, artifacts, recorded, templates, tags, header)?;
@@ -200,7 +226,8 @@ fn add_headers(
     Ok(())
 }
 
-/// Makes the files and then the headers of a record, each of its template, and appends them in the record's order.
+/// Makes the files and then the headers of a record, each of its template, and appends them in the
+/// record's order.
 ///
 /// If memory runs out, some of them may have been appended. [`make_outputs`] says more.
 #[tactic(auto, unfolding(crate::specs::Making::made))]
@@ -211,7 +238,8 @@ pub fn add_outputs(
     templates: &[(Bytes, Bytes)],
     tags: &[Bytes],
 ) -> Result<(), AllocError>
-    ensures { OnOk result (artifacts.new ≡ artifacts.old ++ words.made recorded.now templates.now tags.now) }
+    ensures { OnOk result (
+        artifacts.new ≡ artifacts.old ++ words.made recorded.now templates.now tags.now) }
 {
     let files = recorded.files.as_slice();
     let headers = recorded.headers.as_slice();
@@ -221,9 +249,9 @@ pub fn add_outputs(
 
 /// Makes the files and then the headers of a record, each of its template, in the record's order.
 ///
-/// A template is a name and a text. If two have one name, the first one counts; if none has the name, the template is the
-/// empty text. If there are tags, makes only the outputs whose names are tags; a tag that is no output's name makes nothing
-/// (own).
+/// A template is a name and a text. If two have one name, the first one counts; if none has the
+/// name, the template is the empty text. If there are tags, makes only the outputs whose names are
+/// tags; a tag that is no output's name makes nothing (own).
 ///
 /// # Errors
 ///
@@ -234,7 +262,8 @@ pub fn make_outputs(
     templates: &[(Bytes, Bytes)],
     tags: &[Bytes],
 ) -> Result<Artifacts, AllocError>
-    ensures { IfOk result (λ artifacts. artifacts ≡ words.made recorded.now templates.now tags.now) }
+    ensures { IfOk result (λ artifacts.
+        artifacts ≡ words.made recorded.now templates.now tags.now) }
 {
     let mut artifacts = Artifacts::new(alloc);
     add_outputs(alloc, &mut artifacts, recorded, templates, tags)?;

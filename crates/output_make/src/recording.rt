@@ -21,12 +21,13 @@ fn copy_of_outputs(alloc: Global, outputs: &OutputList) -> Result<OutputList, Al
     Ok(copy)
 }
 
-/// Returns the record of a run that ends with these variables and definitions: its arguments, the output variables with their
-/// values, the definitions, and the files and headers.
+/// Returns the record of a run that ends with these variables and definitions: its arguments, the
+/// output variables with their values, the definitions, and the files and headers.
 ///
-/// `names` are the source's own output variables (Autoconf's manual, "Setting Output Variables"). `srcdir` is the directory of
-/// the source, absolute or relative to the directory of the build. If there is a header, DEFS is an output variable, and its
-/// value is `-DHAVE_CONFIG_H` (Autoconf's manual, "Preset Output Variables").
+/// `names` are the source's own output variables (Autoconf's manual, "Setting Output Variables").
+/// `srcdir` is the directory of the source, absolute or relative to the directory of the build. If
+/// there is a header, DEFS is an output variable, and its value is `-DHAVE_CONFIG_H` (Autoconf's
+/// manual, "Preset Output Variables").
 ///
 /// # Errors
 ///
@@ -42,9 +43,13 @@ pub fn record_of(
     files: &OutputList,
     headers: &OutputList,
 ) -> Result<Record, AllocError>
-    ensures record { IfOk result (λ r. r ≡ words.record_of_run vars.now defs.now names.now srcdir.now args.now files.now headers.now) }
+    ensures record { IfOk result (λ r.
+        r
+        ≡ words.record_of_run vars.now defs.now names.now srcdir.now args.now files.now
+        headers.now) }
     // It has each output variable once, with its value, and no other variable.
-    ensures variables { IfOk result (λ r. AreOutputVariables vars.now (not (length headers.now == 0)) names.now r.vars) }
+    ensures variables { IfOk result (λ r.
+        AreOutputVariables vars.now (not (length headers.now == 0)) names.now r.vars) }
     // The record may be written.
     ensures writable { AreOutputs files.now headers.now → IfOk result IsRecord }
 {

@@ -39,7 +39,8 @@ fn add(table: &mut Defs, vars: &Vars, has_header: bool, name: &[u8]) -> Result<(
 /// Adds the output variables of AC_INIT.
 #[tactic(auto, unfolding(crate::specs::Variables::package_names))]
 fn add_package(table: &mut Defs, vars: &Vars, has_header: bool) -> Result<(), AllocError>
-    ensures { OnOk result (table.new ≡ fold (words.with_variable vars.now has_header) table.old words.package_names) }
+    ensures { OnOk result (
+        table.new ≡ fold (words.with_variable vars.now has_header) table.old words.package_names) }
 {
     add(table, vars, has_header, b"PACKAGE_NAME")?;
     add(table, vars, has_header, b"PACKAGE_TARNAME")?;
@@ -57,7 +58,10 @@ fn add_directories(
     has_header: bool,
     directories: &[Directory],
 ) -> Result<(), AllocError>
-    ensures { OnOk result (table.new ≡ fold (words.with_variable vars.now has_header) table.old (map variable_of directories.now)) }
+    ensures { OnOk result (
+        table.new
+        ≡ fold (words.with_variable vars.now has_header) table.old
+        (map variable_of directories.now)) }
 {
     for i in 0..directories.len() {
         add(table, vars, has_header, directories[i].variable())?;
@@ -68,7 +72,8 @@ fn add_directories(
 /// Adds the output variables that every run has.
 #[tactic(auto, unfolding(crate::specs::Variables::preset_names, options_line::specs::Directories::directory_names))]
 fn add_preset(table: &mut Defs, vars: &Vars, has_header: bool) -> Result<(), AllocError>
-    ensures { OnOk result (table.new ≡ fold (words.with_variable vars.now has_header) table.old words.preset_names) }
+    ensures { OnOk result (
+        table.new ≡ fold (words.with_variable vars.now has_header) table.old words.preset_names) }
 {
     add_package(table, vars, has_header)?;
     add_directories(table, vars, has_header, directories())?;
@@ -78,7 +83,10 @@ fn add_preset(table: &mut Defs, vars: &Vars, has_header: bool) -> Result<(), All
 /// Adds DEFS if the run makes a header.
 #[tactic(auto, unfolding(crate::specs::Variables::header_names))]
 fn add_defs(table: &mut Defs, vars: &Vars, has_header: bool) -> Result<(), AllocError>
-    ensures { OnOk result (table.new ≡ fold (words.with_variable vars.now has_header) table.old (words.header_names has_header)) }
+    ensures { OnOk result (
+        table.new
+        ≡ fold (words.with_variable vars.now has_header) table.old
+        (words.header_names has_header)) }
 {
     if has_header {
         return add(table, vars, has_header, b"DEFS");
@@ -94,7 +102,8 @@ fn add_all(
     names: &[Bytes],
 ) -> Result<(), AllocError>
     requires { AreShellNames names.now }
-    ensures { OnOk result (table.new ≡ fold (words.with_variable vars.now has_header) table.old names.now) }
+    ensures { OnOk result (
+        table.new ≡ fold (words.with_variable vars.now has_header) table.old names.now) }
 {
     for name in names {
         add(table, vars, has_header, name.as_slice())?;
@@ -110,15 +119,18 @@ fn add_outputs(
     has_header: bool,
     names: &SubstList,
 ) -> Result<(), AllocError>
-    ensures { OnOk result (table.new ≡ fold (words.with_variable vars.now has_header) table.old (words.output_names_of has_header names.now)) }
+    ensures { OnOk result (
+        table.new
+        ≡ fold (words.with_variable vars.now has_header) table.old
+        (words.output_names_of has_header names.now)) }
 {
     add_preset(table, vars, has_header)?;
     add_defs(table, vars, has_header)?;
     add_all(table, vars, has_header, names.names())
 }
 
-/// Returns the output variables of a run with their values. The names are the source's own output variables, and
-/// `has_header` is whether the run makes a header.
+/// Returns the output variables of a run with their values. The names are the source's own output
+/// variables, and `has_header` is whether the run makes a header.
 #[tactic(auto, unfolding(crate::specs::Variables::output_variables))]
 pub(crate) fn output_variables(
     alloc: Global,

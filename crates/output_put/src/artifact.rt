@@ -43,7 +43,8 @@ impl Artifact {
         name: &[u8],
         text: &[u8],
     ) -> Result<Artifact, AllocError>
-        ensures { IfOk result (λ artifact. artifact ≡ record { kind = kind; name = name.now; text = text.now }) }
+        ensures { IfOk result (λ artifact.
+            artifact ≡ record { kind = kind; name = name.now; text = text.now }) }
     {
         let name = Bytes::from_slice(alloc, name)?;
         let text = Bytes::from_slice(alloc, text)?;

@@ -1,9 +1,9 @@
 //! What a run hands over, and the trait of what receives it.
 //!
-//! A run makes artifacts: the text of its cache, its record, files and headers. It hands them over to a receiver, one after the
-//! other, and the receiver takes each of them whole or refuses it. The receipt of a receiver is what it took, in order, and the
-//! number of puts that it refused. Nothing here says where an artifact goes: a receiver may write to a disk, or keep artifacts in
-//! memory.
+//! A run makes artifacts: the text of its cache, its record, files and headers. It hands them over
+//! to a receiver, one after the other, and the receiver takes each of them whole or refuses it. The
+//! receipt of a receiver is what it took, in order, and the number of puts that it refused. Nothing
+//! here says where an artifact goes: a receiver may write to a disk, or keep artifacts in memory.
 //!
 //! ```text
 //! let mut outputs = MemoryOutputs::new(alloc, 0);
@@ -12,8 +12,9 @@
 //!
 //! "own" marks a rule that no manual gives.
 //!
-//! Read `specs/Receipt` first, and then `artifact`, `receiver`, which has the trait [`Outputs`], and `putting`. [`MemoryOutputs`],
-//! in `memory`, keeps what it takes; `specs/Kept` has what contracts see of it.
+//! Read `specs/Receipt` first, and then `artifact`, `receiver`, which has the trait [`Outputs`],
+//! and `putting`. [`MemoryOutputs`], in `memory`, keeps what it takes; `specs/Kept` has what
+//! contracts see of it.
 #![tactic(auto)]
 
 mod artifact;

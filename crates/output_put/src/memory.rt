@@ -39,10 +39,11 @@ impl Model for MemoryOutputs {
 }
 
 impl MemoryOutputs {
-    /// Returns a receiver that has taken nothing, and refuses put number `refuse`, counted from 1. If `refuse` is 0, it
-    /// refuses none. It doesn't allocate.
+    /// Returns a receiver that has taken nothing, and refuses put number `refuse`, counted from 1.
+    /// If `refuse` is 0, it refuses none. It doesn't allocate.
     pub fn new(alloc: Global, refuse: u64) -> MemoryOutputs
-        ensures { result ≡ record { receipt = record { handed = []; failures = 0 }; refuse = refuse } }
+        ensures { result
+            ≡ record { receipt = record { handed = []; failures = 0 }; refuse = refuse } }
     {
         MemoryOutputs {
             alloc,
@@ -62,8 +63,12 @@ impl MemoryOutputs {
     /// Takes a copy of an artifact. If the put is refused, it isn't counted yet.
     fn take(&mut self, kind: Kind, name: &[u8], text: &[u8]) -> Result<(), PutRefused>
         requires { self.old.receipt.failures < 2 ^ 62 }
-        ensures taken { OnOk result (self.new
-            ≡ record self.old { receipt = with_artifact self.old.receipt (record { kind = kind; name = name.now; text = text.now }) }) }
+        ensures taken { OnOk result (
+            self.new
+            ≡ record self.old {
+              receipt = with_artifact self.old.receipt
+                  (record { kind = kind; name = name.now; text = text.now });
+            }) }
         ensures refused { OnErr result (self.new ≡ self.old) }
         ensures chosen { number_of self.old.receipt ≡ self.old.refuse → is_err result ≡ true }
     {
@@ -88,8 +93,10 @@ impl Outputs for MemoryOutputs {
 
     fn put(&mut self, kind: Kind, name: &[u8], text: &[u8]) -> Result<(), PutRefused>
         requires failures { self.old.receipt.failures < 2 ^ 62 }
-        ensures taken { OnOk result (self.new.receipt
-            ≡ with_artifact self.old.receipt (record { kind = kind; name = name.now; text = text.now })) }
+        ensures taken { OnOk result (
+            self.new.receipt
+            ≡ with_artifact self.old.receipt
+            (record { kind = kind; name = name.now; text = text.now })) }
         ensures refused { OnErr result (self.new.receipt ≡ with_refusal self.old.receipt) }
         ensures unchanged { self.new.refuse ≡ self.old.refuse }
         ensures chosen { number_of self.old.receipt ≡ self.old.refuse → is_err result ≡ true }

@@ -9,7 +9,8 @@ use crate::receiver::{Outputs, PutRefused};
 /// Hands over an artifact.
 fn put_one<O: Outputs>(outputs: &mut O, artifact: &Artifact) -> Result<(), PutRefused>
     requires { (O.receipt outputs.old).failures < 2 ^ 62 }
-    ensures taken { OnOk result (O.receipt outputs.new ≡ with_artifact (O.receipt outputs.old) artifact.now) }
+    ensures taken { OnOk result (
+        O.receipt outputs.new ≡ with_artifact (O.receipt outputs.old) artifact.now) }
     ensures refused { OnErr result (O.receipt outputs.new ≡ with_refusal (O.receipt outputs.old)) }
     ensures kept { O.kept outputs.new ≡ O.kept outputs.old }
 {
@@ -24,12 +25,14 @@ fn put_one<O: Outputs>(outputs: &mut O, artifact: &Artifact) -> Result<(), PutRe
 ///
 /// # Errors
 ///
-/// If a put is refused, returns its number, counted from 1. The artifacts before it were handed over, each whole, and nothing
-/// after it.
+/// If a put is refused, returns its number, counted from 1. The artifacts before it were handed
+/// over, each whole, and nothing after it.
 pub fn put_all<O: Outputs>(outputs: &mut O, artifacts: &[Artifact]) -> Result<(), u64>
     requires { (O.receipt outputs.old).failures < 2 ^ 62 }
-    ensures handed_over { OnOk result (O.receipt outputs.new ≡ with_artifacts (O.receipt outputs.old) artifacts.now) }
-    ensures cut { IfErr result (IsCutAt artifacts.now (O.receipt outputs.old) (O.receipt outputs.new)) }
+    ensures handed_over { OnOk result (
+        O.receipt outputs.new ≡ with_artifacts (O.receipt outputs.old) artifacts.now) }
+    ensures cut { IfErr result (
+        IsCutAt artifacts.now (O.receipt outputs.old) (O.receipt outputs.new)) }
     ensures kept { O.kept outputs.new ≡ O.kept outputs.old }
 {
     let mut number = 0u64;

@@ -19,8 +19,8 @@ impl fmt::Display for PutRefused {
 
 impl Error for PutRefused {}
 
-/// Receives artifacts, one after the other. The meaning of a receiver is its receipt: what it took, and how many puts it refused;
-/// and what no put changes.
+/// Receives artifacts, one after the other. The meaning of a receiver is its receipt: what it took,
+/// and how many puts it refused; and what no put changes.
 pub trait Outputs {
     ghost receipt: { Self → Receipt };
 
@@ -36,8 +36,10 @@ pub trait Outputs {
     /// Returns [`PutRefused`] if the artifact isn't taken. Nothing of it is then handed over.
     fn put(&mut self, kind: Kind, name: &[u8], text: &[u8]) -> Result<(), PutRefused>
         requires failures { (receipt self.old).failures < 2 ^ 62 }
-        ensures taken { OnOk result (receipt self.new
-            ≡ with_artifact (receipt self.old) (record { kind = kind; name = name.now; text = text.now })) }
+        ensures taken { OnOk result (
+            receipt self.new
+            ≡ with_artifact (receipt self.old)
+            (record { kind = kind; name = name.now; text = text.now })) }
         ensures refused { OnErr result (receipt self.new ≡ with_refusal (receipt self.old)) }
         ensures kept { kept self.new ≡ kept self.old };
 }

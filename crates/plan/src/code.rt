@@ -46,8 +46,8 @@ impl<'a> Code<'a> {
         }
     }
 
-    /// Puts a step at the front. It defines nothing, or a name that has the form of one, and a list whose entries it tests
-    /// at once has at most 256.
+    /// Puts a step at the front. It defines nothing, or a name that has the form of one, and a list
+    /// whose entries it tests at once has at most 256.
     pub(crate) fn put(&mut self, step: Step<'a>) -> Result<(), AllocError>
         requires names { DefinesIn (instruction_of step) }
         requires short { IsShort (instruction_of step) }

@@ -21,7 +21,8 @@ const HEAVIEST: usize = 65_535;
 ///
 /// # Errors
 ///
-/// - `TooLong`, if the statements weigh more than 65,535 (own). It is checked before anything is allocated.
+/// - `TooLong`, if the statements weigh more than 65,535 (own). It is checked before anything is
+///   allocated.
 /// - `OutOfMemory`, if memory runs out.
 pub fn compile_statements<'a>(alloc: Global, statements: &'a [Stmt]) -> Result<Plan<'a>, PlanFault>
     ensures meaning { IfOk result (λ plan. DoesWhat plan (script_of statements.now)) }
@@ -31,7 +32,8 @@ pub fn compile_statements<'a>(alloc: Global, statements: &'a [Stmt]) -> Result<P
     ensures names { IfOk result (λ plan. DefinesNames plan) }
     ensures short { IfOk result (λ plan. AreShort plan) }
     // A run asks for at most 65,536 jobs for each unit of weight.
-    ensures asks { IfOk result (λ plan. asks_after plan 0 ≤ 65536 * weight (script_of statements.now)) }
+    ensures asks { IfOk result (λ plan.
+        asks_after plan 0 ≤ 65536 * weight (script_of statements.now)) }
 {
     if weigh(HEAVIEST, statements).is_none() {
         return Err(PlanFault::TooLong);
@@ -44,10 +46,12 @@ pub fn compile_statements<'a>(alloc: Global, statements: &'a [Stmt]) -> Result<P
 ///
 /// # Errors
 ///
-/// - `TooLong`, if the statements weigh more than 65,535 (own). It is checked before anything is allocated.
+/// - `TooLong`, if the statements weigh more than 65,535 (own). It is checked before anything is
+///   allocated.
 /// - `OutOfMemory`, if memory runs out.
 pub fn compile<'a>(alloc: Global, source: &'a Source) -> Result<Plan<'a>, PlanFault>
-    // Walked from its first step, the plan has the meaning of the source, whatever the variables and definitions.
+    // Walked from its first step, the plan has the meaning of the source, whatever the variables
+    // and definitions.
     ensures meaning { IfOk result (λ plan. DoesWhat plan (script_of source.now)) }
     ensures long { (result ≡ Err TooLong) ↔ (heaviest < weight (script_of source.now)) }
     ensures fits { IfOk result (λ _. weight (script_of source.now) ≤ heaviest) }

@@ -1,4 +1,5 @@
-//! The steps of statements, written from the last to the first, so that the length of each jump is known.
+//! The steps of statements, written from the last to the first, so that the length of each jump is
+//! known.
 
 ghost use Rattle.std.specs.Prelude.{◌≡◌, ◌∷◌, ◌++◌, IfOk, OnOk, true};
 ghost use Rattle.meaning.specs.Meaning.{rounds_asked, rounds_of};
@@ -104,7 +105,9 @@ fn emit_choice<'a>(
     subject: &'a Subject,
     cases: &'a [Case],
 ) -> Result<(), AllocError>
-    ensures { OnOk result (code.new ≡ code_each (rounds_of subject.now) (code_of_cases (cases_of cases.now)) ++ code.old) }
+    ensures { OnOk result (
+        code.new
+        ≡ code_each (rounds_of subject.now) (code_of_cases (cases_of cases.now)) ++ code.old) }
 {
     match subject {
         Subject::Nothing => emit_round(code, Step::Subject(subject), cases),
@@ -123,7 +126,10 @@ fn emit_asked<'a>(
     cases: &'a [Case],
 ) -> Result<(), AllocError>
     requires { subject.now ≡ Asked question.now }
-    ensures { OnOk result (code.new ≡ code_each (rounds_asked question.now) (code_of_cases (cases_of cases.now)) ++ code.old) }
+    ensures { OnOk result (
+        code.new
+        ≡ code_each (rounds_asked question.now) (code_of_cases (cases_of cases.now))
+        ++ code.old) }
 {
     match question {
         Question::ChecksEach {
@@ -149,7 +155,10 @@ fn emit_each<'a>(
     includes: &'a Option<HereText>,
     cases: &'a [Case],
 ) -> Result<(), AllocError>
-    ensures { OnOk result (code.new ≡ code_each (rounds_asked (ChecksEach sought entries.now includes.now)) (code_of_cases (cases_of cases.now)) ++ code.old) }
+    ensures { OnOk result (
+        code.new
+        ≡ code_each (rounds_asked (ChecksEach sought entries.now includes.now))
+        (code_of_cases (cases_of cases.now)) ++ code.old) }
 {
     for i in (0..entries.len()).rev() {
         emit_round(
@@ -174,7 +183,8 @@ fn emit_round<'a>(
 ) -> Result<(), AllocError>
     requires names { DefinesIn (instruction_of begins) }
     requires short { IsShort (instruction_of begins) }
-    ensures { OnOk result (code.new ≡ instruction_of begins.entry ∷ (code_of_cases (cases_of cases.now) ++ code.old)) }
+    ensures { OnOk result (
+        code.new ≡ instruction_of begins.entry ∷ (code_of_cases (cases_of cases.now) ++ code.old)) }
 {
     emit_cases(code, cases)?;
     code.put(begins)?;
@@ -189,7 +199,8 @@ fn emit_check<'a>(
     name: &'a [u8],
     commands: &'a [Stmt],
 ) -> Result<(), AllocError>
-    ensures { OnOk result (code.new ≡ check_code message.now name.now (code_of (script_of commands.now)) ++ code.old) }
+    ensures { OnOk result (
+        code.new ≡ check_code message.now name.now (code_of (script_of commands.now)) ++ code.old) }
 {
     let end = code.len();
     code.put(Step::Close { name })?;
@@ -218,7 +229,9 @@ fn emit_cases<'a>(code: &mut Code<'a>, cases: &'a [Case]) -> Result<(), AllocErr
 /// Puts the steps of a case at the front. `after` is the number of steps of the cases after it.
 #[cycle(emit)]
 fn emit_case<'a>(code: &mut Code<'a>, case: &'a Case, after: usize) -> Result<(), AllocError>
-    ensures { OnOk result (code.new ≡ case_code case.now.when (code_of (script_of case.now.body.items)) after ++ code.old) }
+    ensures { OnOk result (
+        code.new
+        ≡ case_code case.now.when (code_of (script_of case.now.body.items)) after ++ code.old) }
 {
     let end = code.len();
     code.put(Step::Skip { steps: after })?;

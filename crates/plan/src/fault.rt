@@ -11,8 +11,9 @@ use std::fmt;
 /// Why there is no plan. It prints as the number in an error line.
 #[derive(Debug, Drop)]
 pub enum PlanFault {
-    /// The statements weigh more than 65,535. Each weighs 1, inside a case too, each case 1 more, and each entry or library of
-    /// a list 1 more. The cases of a choice about each entry of a list weigh as much once for each (own).
+    /// The statements weigh more than 65,535. Each weighs 1, inside a case too, each case 1 more,
+    /// and each entry or library of a list 1 more. The cases of a choice about each entry of a list
+    /// weigh as much once for each (own).
     TooLong,
     /// Memory ran out.
     OutOfMemory,

@@ -1,11 +1,12 @@
 //! A law of the names that a plan defines.
 //!
-//! There is no code here. The function does nothing, and its contract is a theorem on the definitions of `meaning`.
+//! There is no code here. The function does nothing, and its contract is a theorem on the
+//! definitions of `meaning`.
 
 ghost use Rattle.plan.specs.Defined.{DefinesItsName};
 
-/// Whatever the value of a test, what is done with it defines no name but that of the test's kind, which `definition` in
-/// `specs/Names` gives. If it gives none, nothing is defined.
+/// Whatever the value of a test, what is done with it defines no name but that of the test's kind,
+/// which `definition` in `specs/Names` gives. If it gives none, nothing is defined.
 pub fn tests_define_their_name()
     ensures law { DefinesItsName }
 {}

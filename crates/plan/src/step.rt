@@ -9,7 +9,8 @@ use std::marker::Model;
 /// A step of a plan. It borrows from the tree, and a jump has the number of steps that it passes.
 #[derive(Clone, Copy)]
 pub enum Step<'a> {
-    /// Has the effect of a statement. If it looks for the programs of a list, they are steps after it.
+    /// Has the effect of a statement. If it looks for the programs of a list, they are steps after
+    /// it.
     Do(&'a Effect),
     /// Looks for a program of a list, always or only if the variable is still empty.
     Look {
@@ -24,8 +25,8 @@ pub enum Step<'a> {
     },
     /// Begins a choice. Its subject is the subject until the next choice begins.
     Subject(&'a Subject),
-    /// Begins a round of a choice about each entry of a list. The entry is tested, and the cases that follow are decided by
-    /// whether it is found.
+    /// Begins a round of a choice about each entry of a list. The entry is tested, and the cases
+    /// that follow are decided by whether it is found.
     Round {
         sought: Sought,
         entry: &'a Bytes,
@@ -52,9 +53,10 @@ pub enum Step<'a> {
     },
 }
 
-/// The steps of a source, which borrow from its statements. Contracts see the list of their effects: every jump goes
-/// forward and stays inside, every name that a step defines has the form of one, a list whose entries are tested at once has
-/// at most 256, each step asks for at most 65,536 jobs, and all together for at most 2^36.
+/// The steps of a source, which borrow from its statements. Contracts see the list of their
+/// effects: every jump goes forward and stays inside, every name that a step defines has the form
+/// of one, a list whose entries are tested at once has at most 256, each step asks for at most
+/// 65,536 jobs, and all together for at most 2^36.
 pub struct Plan<'a> {
     steps: Vec<Step<'a>>,
 }

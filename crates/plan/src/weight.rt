@@ -86,8 +86,14 @@ fn weigh_statement(room: usize, statement: &Stmt) -> Option<usize>
 /// A choice, without the 1 of its statement. Its cases weigh as much in each round.
 #[cycle(weigh)]
 fn weigh_choice(room: usize, subject: &Subject, cases: &[Case]) -> Option<usize>
-    ensures fits { IfSome result (λ left. left + (entries_asked subject.now + times (length (rounds_of subject.now)) (weight_of_cases (cases_of cases.now))) ≡ room) }
-    ensures exceeds { IfNone result (room < entries_asked subject.now + times (length (rounds_of subject.now)) (weight_of_cases (cases_of cases.now))) }
+    ensures fits { IfSome result (λ left.
+        left + (
+        entries_asked subject.now + times (length (rounds_of subject.now))
+        (weight_of_cases (cases_of cases.now))) ≡ room) }
+    ensures exceeds { IfNone result (
+        room
+        < entries_asked subject.now + times (length (rounds_of subject.now))
+        (weight_of_cases (cases_of cases.now))) }
 {
     let rounds = rounds(subject);
     let Some(room) = room.checked_sub(entries_asked(subject)) else {
@@ -116,7 +122,8 @@ fn weigh_cases(room: usize, cases: &[Case]) -> Option<usize>
 
 #[cycle(weigh)]
 fn weigh_case(room: usize, case: &Case) -> Option<usize>
-    ensures fits { IfSome result (λ left. left + weight_of_cases (cases_of (case.now ∷ [])) ≡ room) }
+    ensures fits { IfSome result (λ left.
+        left + weight_of_cases (cases_of (case.now ∷ [])) ≡ room) }
     ensures exceeds { IfNone result (room < weight_of_cases (cases_of (case.now ∷ []))) }
 {
     let Some(left) = room.checked_sub(1) else {

@@ -51,7 +51,8 @@ fn spaces_of(text: &[u8]) -> &[u8]
     if are_spaces(text) { text } else { b"" }
 }
 
-/// Returns the spaces and tabs that the line of a place begins with, if there is nothing else before it.
+/// Returns the spaces and tabs that the line of a place begins with, if there is nothing else
+/// before it.
 pub(crate) fn indent_of(text: &[u8], spot: Spot, at: usize) -> &[u8]
     ensures { list_all specs.is_space result.now ≡ true }
 {
@@ -93,7 +94,8 @@ fn is_idle_line(line: &[u8]) -> bool {
     line.is_empty() || line.starts_with(b"dnl ") || line.starts_with(b"#")
 }
 
-/// Returns the text before an offset without the blanks, the blank lines and the lines of comments at its end.
+/// Returns the text before an offset without the blanks, the blank lines and the lines of comments
+/// at its end.
 pub(crate) fn before_idle(text: &[u8], at: usize) -> &[u8] {
     let mut front = before(text, at);
     for _ in 0..text.len() {
@@ -106,7 +108,8 @@ pub(crate) fn before_idle(text: &[u8], at: usize) -> &[u8] {
     without_end_blanks(front)
 }
 
-/// Returns what is before a place: on its line, or, if nothing is there, on the lines before it that are no comments.
+/// Returns what is before a place: on its line, or, if nothing is there, on the lines before it
+/// that are no comments.
 fn text_before(text: &[u8], spot: Spot, at: usize) -> &[u8] {
     if spot.is_first {
         before_idle(text, spot.line)
@@ -122,8 +125,8 @@ fn ends_in_word(text: &[u8]) -> bool {
     is_word && !before.is_some_and(|byte| !is_blank(*byte) && *byte != b';')
 }
 
-/// Returns whether a statement may begin at a place: an argument begins there, `then` or `else` is before it on its line, or nothing
-/// is, and no operator ends the line before.
+/// Returns whether a statement may begin at a place: an argument begins there, `then` or `else` is
+/// before it on its line, or nothing is, and no operator ends the line before.
 pub(crate) fn begins_statement(text: &[u8], spot: Spot, at: usize) -> bool {
     let before = without_end_blanks(text_before(text, spot, at));
     match before.last() {

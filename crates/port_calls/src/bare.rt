@@ -16,7 +16,8 @@ fn mark(bare: &mut Vec<bool>, arg: &Extent) {
     }
 }
 
-/// Marks the offsets of the arguments of a call that have no brackets, but for those that are in one that is marked.
+/// Marks the offsets of the arguments of a call that have no brackets, but for those that are in
+/// one that is marked.
 fn mark_call(text: &[u8], call: &CallAt, bare: &mut Vec<bool>) {
     for arg in &call.args {
         if !is_quoted(text, arg) && bare.get(arg.start) == Some(&false) {
@@ -25,7 +26,8 @@ fn mark_call(text: &[u8], call: &CallAt, bare: &mut Vec<bool>) {
     }
 }
 
-/// Returns for each offset of a text with these calls whether it is in an argument that has no brackets around it.
+/// Returns for each offset of a text with these calls whether it is in an argument that has no
+/// brackets around it.
 pub(crate) fn bare_in(
     alloc: Global,
     text: &[u8],

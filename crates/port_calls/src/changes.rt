@@ -35,7 +35,8 @@ pub(crate) struct Known {
     borders: Vec<bool>,
     /// Whether each offset is in an argument that has no brackets around it.
     bare: Vec<bool>,
-    /// Whether the source looks for a compiler itself. If not, a macro that is left out may have done so.
+    /// Whether the source looks for a compiler itself. If not, a macro that is left out may have
+    /// done so.
     has_compiler: bool,
 }
 
@@ -118,7 +119,8 @@ fn idiom_text(
     idiom: &[u8],
 ) -> Result<Option<Vec<u8>>, AllocError>
     requires idiom { specs.put_for text.now (macro_call_of call.now) ≡ Some idiom.now }
-    ensures { IfOk result (λ o. IfSome o (λ v. specs.IsPut text.now (macro_call_of call.now) v.items)) }
+    ensures { IfOk result (λ o.
+        IfSome o (λ v. specs.IsPut text.now (macro_call_of call.now) v.items)) }
 {
     let args = texts(alloc, text, call.args.as_slice())?;
     let indent = indent_of(text, spot, call.start);
@@ -134,7 +136,8 @@ fn to_idiom(
     idiom: &[u8],
 ) -> Result<Option<Change>, AllocError>
     requires idiom { specs.put_for text.now (macro_call_of call.now) ≡ Some idiom.now }
-    ensures { IfOk result (λ o. IfSome o (λ change. specs.IsPut text.now (macro_call_of call.now) change.put.items)) }
+    ensures { IfOk result (λ o.
+        IfSome o (λ change. specs.IsPut text.now (macro_call_of call.now) change.put.items)) }
 {
     match idiom_text(alloc, text, spot, call, idiom)? {
         Some(put) => Ok(Some(change_to(call, put))),
@@ -155,8 +158,8 @@ fn is_last(rest: &[u8]) -> bool {
     rest.is_empty() || rest.starts_with(b"#") || rest.starts_with(b"dnl")
 }
 
-/// Returns the change of a call that can be left out: with its line if nothing else is on it, and otherwise to `:` if anything but a
-/// comment follows.
+/// Returns the change of a call that can be left out: with its line if nothing else is on it, and
+/// otherwise to `:` if anything but a comment follows.
 fn without_call(alloc: Global, text: &[u8], spot: Spot, call: &CallAt) -> Result<Change, AllocError>
     ensures { IfOk result (λ change. specs.DoesNothing change.put.items) }
 {
@@ -181,8 +184,8 @@ fn is_border(known: &Known, at: usize) -> bool {
     known.borders.get(at) == Some(&true)
 }
 
-/// Returns whether a call can be left out so that no list of commands of a shell becomes empty: a call or the start of an argument is
-/// before it, apart from comments.
+/// Returns whether a call can be left out so that no list of commands of a shell becomes empty: a
+/// call or the start of an argument is before it, apart from comments.
 fn can_be_left_out(known: &Known, text: &[u8], spot: Spot) -> bool {
     spot.is_first && is_border(known, before_idle(text, spot.line).len())
 }
@@ -221,7 +224,8 @@ fn left_out(
     call: &CallAt,
 ) -> Result<Option<Change>, AllocError>
     requires dropped { specs.put_for text.now (macro_call_of call.now) ≡ Some [] }
-    ensures { IfOk result (λ o. IfSome o (λ change. specs.IsPut text.now (macro_call_of call.now) change.put.items)) }
+    ensures { IfOk result (λ o.
+        IfSome o (λ change. specs.IsPut text.now (macro_call_of call.now) change.put.items)) }
 {
     if !known.has_compiler {
         return Ok(None);
@@ -238,8 +242,10 @@ fn exact_for(
     text: &[u8],
     call: &CallAt,
 ) -> Result<Option<Exact>, AllocError>
-    ensures put { IfOk result (λ o. IfSome o (λ e. specs.put_for text.now (macro_call_of call.now) ≡ Some (text_of e))) }
-    ensures exact { IfOk result (λ o. IfSome o (λ e. specs.IsExactFor text.now (macro_call_of call.now))) }
+    ensures put { IfOk result (λ o.
+        IfSome o (λ e. specs.put_for text.now (macro_call_of call.now) ≡ Some (text_of e))) }
+    ensures exact { IfOk result (λ o.
+        IfSome o (λ e. specs.IsExactFor text.now (macro_call_of call.now))) }
 {
     exact_of(alloc, &known.index, name_of(text, call), call.args.len())
 }
@@ -254,7 +260,8 @@ fn to_exact(
     exact: Exact,
 ) -> Result<Option<Change>, AllocError>
     requires put { specs.put_for text.now (macro_call_of call.now) ≡ Some (text_of exact) }
-    ensures { IfOk result (λ o. IfSome o (λ change. specs.IsPut text.now (macro_call_of call.now) change.put.items)) }
+    ensures { IfOk result (λ o.
+        IfSome o (λ change. specs.IsPut text.now (macro_call_of call.now) change.put.items)) }
 {
     match exact {
         Exact::Nothing => left_out(alloc, known, text, spot, call),
@@ -271,7 +278,10 @@ fn exact_change(
     spot: Spot,
     call: &CallAt,
 ) -> Result<Option<Change>, AllocError>
-    ensures { IfOk result (λ o. IfSome o (λ change. specs.IsPut text.now (macro_call_of call.now) change.put.items × specs.IsExactFor text.now (macro_call_of call.now))) }
+    ensures { IfOk result (λ o.
+        IfSome o (λ change.
+        specs.IsPut text.now (macro_call_of call.now) change.put.items
+        × specs.IsExactFor text.now (macro_call_of call.now))) }
 {
     match exact_for(alloc, known, text, call)? {
         Some(exact) => to_exact(alloc, known, text, spot, call, exact),
@@ -287,14 +297,18 @@ fn other_for(
     text: &[u8],
     call: &CallAt,
 ) -> Result<Option<Other>, AllocError>
-    ensures put { IfOk result (λ o. IfSome o (λ e. specs.put_for text.now (macro_call_of call.now) ≡ Some e.idiom.now)) }
-    ensures said { IfOk result (λ o. IfSome o (λ e. Differs (specs.row_name text.now (macro_call_of call.now)) (length (macro_call_of call.now).args) e.said.now)) }
+    ensures put { IfOk result (λ o.
+        IfSome o (λ e. specs.put_for text.now (macro_call_of call.now) ≡ Some e.idiom.now)) }
+    ensures said { IfOk result (λ o.
+        IfSome o (λ e.
+        Differs (specs.row_name text.now (macro_call_of call.now))
+        (length (macro_call_of call.now).args) e.said.now)) }
 {
     other_of(alloc, &known.index, name_of(text, call), call.args.len())
 }
 
-/// Returns whether a comment can be right before a call that begins a statement: the call is in no argument without brackets, of which
-/// the comment would be a part.
+/// Returns whether a comment can be right before a call that begins a statement: the call is in no
+/// argument without brackets, of which the comment would be a part.
 fn can_be_noted(known: &Known, call: &CallAt) -> bool {
     known.bare.get(call.start) == Some(&false)
 }
@@ -308,8 +322,10 @@ fn to_noted(
     other: &Other,
 ) -> Result<Option<Change>, AllocError>
     requires idiom { specs.put_for text.now (macro_call_of call.now) ≡ Some other.now.idiom.now }
-    requires said { Differs (specs.row_name text.now (macro_call_of call.now)) (length (macro_call_of call.now).args) other.now.said.now }
-    ensures { IfOk result (λ o. IfSome o (λ change. specs.IsNoted text.now (macro_call_of call.now) change.put.items)) }
+    requires said { Differs (specs.row_name text.now (macro_call_of call.now))
+        (length (macro_call_of call.now).args) other.now.said.now }
+    ensures { IfOk result (λ o.
+        IfSome o (λ change. specs.IsNoted text.now (macro_call_of call.now) change.put.items)) }
 {
     match noted_text(alloc, text, line_indent(text, spot), call, other)? {
         Some(put) => Ok(Some(change_to(call, put))),
@@ -317,7 +333,8 @@ fn to_noted(
     }
 }
 
-/// Returns the change of a call that has to go to an idiom that differs from the macro, below a comment, if it has one.
+/// Returns the change of a call that has to go to an idiom that differs from the macro, below a
+/// comment, if it has one.
 fn noted_change(
     alloc: Global,
     known: &Known,
@@ -325,7 +342,8 @@ fn noted_change(
     spot: Spot,
     call: &CallAt,
 ) -> Result<Option<Change>, AllocError>
-    ensures { IfOk result (λ o. IfSome o (λ change. specs.IsNoted text.now (macro_call_of call.now) change.put.items)) }
+    ensures { IfOk result (λ o.
+        IfSome o (λ change. specs.IsNoted text.now (macro_call_of call.now) change.put.items)) }
 {
     if !can_be_noted(known, call) {
         return Ok(None);
@@ -336,7 +354,8 @@ fn noted_change(
     }
 }
 
-/// Returns the change of a call that has to go and has no exact idiom, if it has an idiom that is wanted.
+/// Returns the change of a call that has to go and has no exact idiom, if it has an idiom that is
+/// wanted.
 fn other_change(
     alloc: Global,
     idioms: Idioms,
@@ -345,7 +364,9 @@ fn other_change(
     spot: Spot,
     call: &CallAt,
 ) -> Result<Option<Change>, AllocError>
-    ensures { IfOk result (λ o. IfSome o (λ change. specs.MayPut idioms text.now (macro_call_of call.now) change.put.items)) }
+    ensures { IfOk result (λ o.
+        IfSome o (λ change.
+        specs.MayPut idioms text.now (macro_call_of call.now) change.put.items)) }
 {
     match idioms {
         Idioms::Exact => Ok(None),
@@ -363,7 +384,9 @@ pub(crate) fn change_of(
     spot: Spot,
     call: &CallAt,
 ) -> Result<Option<Change>, AllocError>
-    ensures { IfOk result (λ o. IfSome o (λ change. specs.MayPut idioms text.now (macro_call_of call.now) change.put.items)) }
+    ensures { IfOk result (λ o.
+        IfSome o (λ change.
+        specs.MayPut idioms text.now (macro_call_of call.now) change.put.items)) }
 {
     if !is_same_here(text, spot, call) {
         return Ok(None);

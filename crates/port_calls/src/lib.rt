@@ -1,8 +1,9 @@
 //! Replaces the calls of other macros in a configure.ac by the idioms of the table of other macros.
 //!
-//! A call is replaced if its idiom is exact, which means that it leaves the same definitions and output variables. If all idioms are
-//! wanted, it is also replaced by one that differs, below a comment that says in what. The old name of AS_HELP_STRING is replaced too,
-//! and a backslash that joins two lines of a list of words goes. All else is copied to the byte.
+//! A call is replaced if its idiom is exact, which means that it leaves the same definitions and
+//! output variables. If all idioms are wanted, it is also replaced by one that differs, below a
+//! comment that says in what. The old name of AS_HELP_STRING is replaced too, and a backslash that
+//! joins two lines of a list of words goes. All else is copied to the byte.
 //!
 //! ```text
 //! AC_HAVE_FUNCS(getcwd)        // becomes AC_CHECK_FUNCS([getcwd])
@@ -11,10 +12,11 @@
 //! AC_FUNC_MALLOC               // stays, or becomes a line `dnl acrun: in place of AC_FUNC_MALLOC: ..` and an AC_DEFINE
 //! ```
 //!
-//! Read `specs/Put` (what is put) and `specs/Rewritten` (what is copied). `port_idioms` says which idioms are exact. In `src`, read
-//! `spots`, `around` and `bare` (where a call is, and what is before and after it), `changes` and `noting` (what a call becomes),
-//! `passing` (one pass over the calls), and then `passes`. The time of a pass is in proportion to the length of the text. A call fails only if memory runs out. "own" marks a rule
-//! that no manual gives.
+//! Read `specs/Put` (what is put) and `specs/Rewritten` (what is copied). `port_idioms` says which
+//! idioms are exact. In `src`, read `spots`, `around` and `bare` (where a call is, and what is
+//! before and after it), `changes` and `noting` (what a call becomes), `passing` (one pass over the
+//! calls), and then `passes`. The time of a pass is in proportion to the length of the text. A call
+//! fails only if memory runs out. "own" marks a rule that no manual gives.
 #![tactic(auto)]
 
 mod around;

@@ -43,7 +43,8 @@ fn put_text(out: &mut Vec<u8>, indent: &[u8], text: &[u8]) -> Result<(), AllocEr
     out.extend_from_slice(text)
 }
 
-/// Appends an idiom with these arguments, after a newline and the indent. Returns whether each argument could be put there.
+/// Appends an idiom with these arguments, after a newline and the indent. Returns whether each
+/// argument could be put there.
 fn put_idiom(
     alloc: Global,
     out: &mut Vec<u8>,
@@ -51,7 +52,10 @@ fn put_idiom(
     args: &[&[u8]],
     indent: &[u8],
 ) -> Result<bool, AllocError>
-    ensures { IfOk result (λ b. IsTrue b → out.new.items ≡ out.old.items ++ specs.below indent.now idiom.now (map (λ a. a.now) args.now)) }
+    ensures { IfOk result (λ b.
+        IsTrue b
+        → out.new.items
+        ≡ out.old.items ++ specs.below indent.now idiom.now (map (λ a. a.now) args.now)) }
 {
     match filled(alloc, idiom, args, indent)? {
         Some(text) => {
@@ -76,7 +80,8 @@ fn with_name<'a>(
     Ok(out)
 }
 
-/// Appends an idiom with one name, after a newline and the indent. Returns whether each argument could be put there.
+/// Appends an idiom with one name, after a newline and the indent. Returns whether each argument
+/// could be put there.
 fn put_named(
     alloc: Global,
     out: &mut Vec<u8>,
@@ -85,13 +90,18 @@ fn put_named(
     more: &[&[u8]],
     indent: &[u8],
 ) -> Result<bool, AllocError>
-    ensures { IfOk result (λ b. IsTrue b → out.new.items ≡ out.old.items ++ specs.below indent.now idiom.now (name.now ∷ map (λ a. a.now) more.now)) }
+    ensures { IfOk result (λ b.
+        IsTrue b
+        → out.new.items
+        ≡ out.old.items
+        ++ specs.below indent.now idiom.now (name.now ∷ map (λ a. a.now) more.now)) }
 {
     let args = with_name(alloc, name, more)?;
     put_idiom(alloc, out, idiom, args.as_slice(), indent)
 }
 
-/// Appends an idiom with each of the names, after a newline and the indent. Returns whether each argument could be put there.
+/// Appends an idiom with each of the names, after a newline and the indent. Returns whether each
+/// argument could be put there.
 fn put_each(
     alloc: Global,
     out: &mut Vec<u8>,
@@ -100,7 +110,13 @@ fn put_each(
     more: &[&[u8]],
     indent: &[u8],
 ) -> Result<bool, AllocError>
-    ensures { IfOk result (λ b. IsTrue b → out.new.items ≡ out.old.items ++ flat_map (specs.below indent.now idiom.now) (map (λ name. name ∷ map (λ a. a.now) more.now) (map (λ n. n.now) names.now))) }
+    ensures { IfOk result (λ b.
+        IsTrue b
+        → out.new.items
+        ≡ out.old.items
+        ++ flat_map (specs.below indent.now idiom.now) (
+        map (λ name.
+        name ∷ map (λ a. a.now) more.now) (map (λ n. n.now) names.now))) }
 {
     for name in names {
         if !put_named(alloc, out, idiom, name, more, indent)? {
@@ -110,7 +126,8 @@ fn put_each(
     Ok(true)
 }
 
-/// Appends an idiom with each name of a list, after a newline and the indent. Returns whether each argument could be put there.
+/// Appends an idiom with each name of a list, after a newline and the indent. Returns whether each
+/// argument could be put there.
 fn put_list(
     alloc: Global,
     out: &mut Vec<u8>,
@@ -119,7 +136,12 @@ fn put_list(
     more: &[&[u8]],
     indent: &[u8],
 ) -> Result<bool, AllocError>
-    ensures { IfOk result (λ b. IsTrue b → out.new.items ≡ out.old.items ++ flat_map (specs.below indent.now idiom.now) (specs.each_of (list.now ∷ map (λ a. a.now) more.now))) }
+    ensures { IfOk result (λ b.
+        IsTrue b
+        → out.new.items
+        ≡ out.old.items
+        ++ flat_map (specs.below indent.now idiom.now)
+        (specs.each_of (list.now ∷ map (λ a. a.now) more.now))) }
 {
     let Some(list) = text_of(list) else {
         return Ok(false);
@@ -128,8 +150,8 @@ fn put_list(
     put_each(alloc, out, idiom, names.as_slice(), more, indent)
 }
 
-/// Appends an idiom, once or with each name of a list, each time after a newline and the indent. Returns whether each argument could be
-/// put there.
+/// Appends an idiom, once or with each name of a list, each time after a newline and the indent.
+/// Returns whether each argument could be put there.
 #[tactic(auto, using(crate::proofs::Differing::once))]
 fn put_all(
     alloc: Global,
@@ -139,7 +161,12 @@ fn put_all(
     args: &[&[u8]],
     indent: &[u8],
 ) -> Result<bool, AllocError>
-    ensures { IfOk result (λ b. IsTrue b → out.new.items ≡ out.old.items ++ flat_map (specs.below indent.now idiom.now) (specs.written_with is_list (map (λ a. a.now) args.now))) }
+    ensures { IfOk result (λ b.
+        IsTrue b
+        → out.new.items
+        ≡ out.old.items
+        ++ flat_map (specs.below indent.now idiom.now)
+        (specs.written_with is_list (map (λ a. a.now) args.now))) }
 {
     if !is_list {
         return put_idiom(alloc, out, idiom, args, indent);
@@ -150,8 +177,8 @@ fn put_all(
     }
 }
 
-/// Returns an idiom with the arguments of a call, below the comment that says in what it differs from the macro, unless an argument
-/// can't be put into it.
+/// Returns an idiom with the arguments of a call, below the comment that says in what it differs
+/// from the macro, unless an argument can't be put into it.
 pub(crate) fn noted_text(
     alloc: Global,
     text: &[u8],
@@ -160,9 +187,11 @@ pub(crate) fn noted_text(
     other: &Other,
 ) -> Result<Option<Vec<u8>>, AllocError>
     requires idiom { specs.put_for text.now (macro_call_of call.now) ≡ Some other.now.idiom.now }
-    requires said { Differs (specs.row_name text.now (macro_call_of call.now)) (length (macro_call_of call.now).args) other.now.said.now }
+    requires said { Differs (specs.row_name text.now (macro_call_of call.now))
+        (length (macro_call_of call.now).args) other.now.said.now }
     requires indent { list_all specs.is_space indent.now ≡ true }
-    ensures { IfOk result (λ o. IfSome o (λ v. specs.IsNoted text.now (macro_call_of call.now) v.items)) }
+    ensures { IfOk result (λ o.
+        IfSome o (λ v. specs.IsNoted text.now (macro_call_of call.now) v.items)) }
 {
     let args = texts(alloc, text, call.args.as_slice())?;
     let name = name_of(text, call);

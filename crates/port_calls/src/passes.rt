@@ -7,19 +7,21 @@ use crate::idioms::Idioms;
 use crate::passing::replaced_once;
 use std::alloc::{AllocError, Global};
 
-/// How often the calls are gone over at most. Each time finds those in the arguments of calls that were replaced.
+/// How often the calls are gone over at most. Each time finds those in the arguments of calls that
+/// were replaced.
 const PASSES: usize = 70;
 
-/// Returns the text with each call replaced that has to go and has an idiom that is wanted, also in the arguments of such calls, with the
-/// name of AS_HELP_STRING in place of its old one in the help of options, and without backslashes that join the lines of a list of words.
-/// An idiom that isn't exact is below a comment.
+/// Returns the text with each call replaced that has to go and has an idiom that is wanted, also in
+/// the arguments of such calls, with the name of AS_HELP_STRING in place of its old one in the help
+/// of options, and without backslashes that join the lines of a list of words. An idiom that isn't
+/// exact is below a comment.
 ///
 /// # Errors
 ///
 /// Fails only if memory runs out.
 pub fn replaced(alloc: Global, idioms: Idioms, text: &[u8]) -> Result<Vec<u8>, AllocError>
-    // Calls that have to go may be replaced, and the name AC_HELP_STRING in calls that declare options. A backslash that joins two lines of
-    // a list of words may go. All else is copied.
+    // Calls that have to go may be replaced, and the name AC_HELP_STRING in calls that declare
+    // options. A backslash that joins two lines of a list of words may go. All else is copied.
     ensures rewritten { IfOk result (λ v. specs.IsRewritten idioms text.now v.items) }
 {
     let mut out = Vec::from_slice(alloc, text)?;

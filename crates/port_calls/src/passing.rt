@@ -19,13 +19,16 @@ const OLD_HELP: &[u8] = b"AC_HELP_STRING";
 
 /// Returns whether the call is one of AC_OUTPUT with arguments.
 fn is_output_of_files(text: &[u8], call: &CallAt) -> bool
-    ensures { IsTrue result → (slice_range text.now (macro_call_of call.now).start (macro_call_of call.now).name_end ≡ codes "AC_OUTPUT") × (0 < length (macro_call_of call.now).args) }
+    ensures { IsTrue result
+        → (slice_range text.now (macro_call_of call.now).start (macro_call_of call.now).name_end
+        ≡ codes "AC_OUTPUT") × (0 < length (macro_call_of call.now).args) }
 {
     let has_name = call.start <= call.name_end && call.name_end <= text.len();
     has_name && !call.args.is_empty() && &text[call.start..call.name_end] == b"AC_OUTPUT".as_slice()
 }
 
-/// Returns whether the call has to go: the table of macros doesn't have its name, or it is AC_OUTPUT with arguments.
+/// Returns whether the call has to go: the table of macros doesn't have its name, or it is
+/// AC_OUTPUT with arguments.
 fn has_to_go(text: &[u8], call: &CallAt) -> bool
     ensures { IsTrue result → specs.HasToGo text.now (macro_call_of call.now) }
 {
@@ -46,7 +49,9 @@ fn are_blank(text: &[u8]) -> bool
 
 /// Returns whether the call and, around it, nothing but blanks are between two offsets of the text.
 fn is_around(text: &[u8], call: &CallAt, start: usize, end: usize) -> bool
-    ensures { IsTrue result → specs.IsAround text.now (macro_call_of call.now) start end × (end ≤ length text.now) × (start ≤ length text.now) }
+    ensures { IsTrue result
+        → specs.IsAround text.now (macro_call_of call.now) start end × (end ≤ length text.now)
+        × (start ≤ length text.now) }
 {
     let is_there = start <= call.start
         && call.start <= text.len()
@@ -57,7 +62,8 @@ fn is_around(text: &[u8], call: &CallAt, start: usize, end: usize) -> bool
 
 /// Returns whether a macro of this name declares an option.
 fn is_of_option(name: &[u8]) -> bool
-    ensures { IsTrue result → (name.now ≡ codes "AC_ARG_ENABLE") ⊎ (name.now ≡ codes "AC_ARG_WITH") }
+    ensures { IsTrue result
+        → (name.now ≡ codes "AC_ARG_ENABLE") ⊎ (name.now ≡ codes "AC_ARG_WITH") }
 {
     name == b"AC_ARG_ENABLE".as_slice() || name == b"AC_ARG_WITH".as_slice()
 }
@@ -72,7 +78,9 @@ fn declares_option(text: &[u8], call: &CallAt) -> bool
 
 /// Returns whether the old name of AS_HELP_STRING is between two offsets within the call.
 fn is_old_help(text: &[u8], call: &CallAt, start: usize, end: usize) -> bool
-    ensures { IsTrue result → specs.IsOldHelp text.now (macro_call_of call.now) start end × (end ≤ length text.now) × (start ≤ length text.now) }
+    ensures { IsTrue result
+        → specs.IsOldHelp text.now (macro_call_of call.now) start end × (end ≤ length text.now)
+        × (start ≤ length text.now) }
 {
     let is_there = call.start <= start && start <= end && end <= call.end && end <= text.len();
     is_there && &text[start..end] == b"AC_HELP_STRING".as_slice()
@@ -100,7 +108,10 @@ fn is_of_words(name: &[u8]) -> bool
 
 /// Returns whether the first argument of the call is a list of words.
 fn takes_words(text: &[u8], call: &CallAt) -> bool
-    ensures { IsTrue result → specs.takes_words (slice_range text.now (macro_call_of call.now).start (macro_call_of call.now).name_end) ≡ true }
+    ensures { IsTrue result
+        → specs.takes_words (
+        slice_range text.now (macro_call_of call.now).start (macro_call_of call.now).name_end)
+        ≡ true }
 {
     let has_name = call.start <= call.name_end && call.name_end <= text.len();
     has_name && is_of_words(&text[call.start..call.name_end])
@@ -120,7 +131,8 @@ fn is_before_word(byte: u8) -> bool
     byte == b' ' || byte == b'\t' || byte == b'\n' || byte == b'[' || byte == b'('
 }
 
-/// Returns whether a backslash at an offset of an argument joins two lines, with no word right before it.
+/// Returns whether a backslash at an offset of an argument joins two lines, with no word right
+/// before it.
 fn is_line_joint(text: &[u8], list: Extent, at: usize) -> bool
     ensures { IsTrue result → specs.IsLineJoint text.now list at }
 {
@@ -134,7 +146,8 @@ fn is_line_joint(text: &[u8], list: Extent, at: usize) -> bool
         && text[after] == b'\n'
 }
 
-/// Returns the length of what a help argument has before a call that it begins with: blanks, and perhaps a bracket.
+/// Returns the length of what a help argument has before a call that it begins with: blanks, and
+/// perhaps a bracket.
 fn front_len(arg: &[u8]) -> usize {
     let blanks = blank_len(arg);
     if arg.get(blanks) != Some(&b'[') {
@@ -144,7 +157,8 @@ fn front_len(arg: &[u8]) -> usize {
     inner.saturating_add(blank_len(from(arg, inner)))
 }
 
-/// Returns the offset of the old name of AS_HELP_STRING, if the help argument of the call begins with a call of it.
+/// Returns the offset of the old name of AS_HELP_STRING, if the help argument of the call begins
+/// with a call of it.
 fn old_help(text: &[u8], call: &CallAt) -> Option<usize> {
     let arg = call.args.get(1)?;
     let written = part(text, arg.start, arg.end);
@@ -176,7 +190,10 @@ fn write_change(
     pass: &mut Pass,
 ) -> Result<(), AllocError>
     requires { (pass.old.at ≤ start) × (start ≤ length text.now) }
-    ensures { OnOk result ((pass.new.at ≡ end) × (pass.new.out.items ≡ (pass.old.out.items ++ slice_range text.now pass.old.at start) ++ put.now)) }
+    ensures { OnOk result (
+        (pass.new.at ≡ end)
+        × (pass.new.out.items
+        ≡ (pass.old.out.items ++ slice_range text.now pass.old.at start) ++ put.now)) }
 {
     pass.out.extend_from_slice(&text[pass.at..start])?;
     pass.out.extend_from_slice(put)?;
@@ -185,7 +202,8 @@ fn write_change(
     Ok(())
 }
 
-/// Copies what is before the change of a call, and writes the change, unless it is not after what was read.
+/// Copies what is before the change of a call, and writes the change, unless it is not after what
+/// was read.
 fn put_change(
     idioms: Idioms,
     text: &[u8],
@@ -205,7 +223,8 @@ fn put_change(
     write_change(text, change.start, change.end, change.put.as_slice(), pass)
 }
 
-/// Writes the name of AS_HELP_STRING in place of its old one, which is between two offsets, unless it is not after what was read.
+/// Writes the name of AS_HELP_STRING in place of its old one, which is between two offsets, unless
+/// it is not after what was read.
 fn put_help(
     idioms: Idioms,
     text: &[u8],
@@ -225,7 +244,8 @@ fn put_help(
     write_change(text, start, end, b"AS_HELP_STRING", pass)
 }
 
-/// Writes the name of AS_HELP_STRING in place of its old one, if the help of an option begins with that.
+/// Writes the name of AS_HELP_STRING in place of its old one, if the help of an option begins with
+/// that.
 fn pass_option(
     idioms: Idioms,
     text: &[u8],
@@ -260,7 +280,8 @@ fn put_found(
 ) -> Result<(), AllocError>
     requires call { Contains (calls_in text.now) (macro_call_of call.now) }
     requires goes { specs.HasToGo text.now (macro_call_of call.now) }
-    requires put { IfSome change (λ c. MayPut idioms text.now (macro_call_of call.now) c.put.items) }
+    requires put { IfSome change (λ c.
+        MayPut idioms text.now (macro_call_of call.now) c.put.items) }
     requires begun { specs.IsPass idioms text.now pass.old.at pass.old.out.items }
     ensures { OnOk result (specs.IsPass idioms text.now pass.new.at pass.new.out.items) }
 {
@@ -270,7 +291,8 @@ fn put_found(
     }
 }
 
-/// Replaces a call if it has to go and has an idiom that is wanted, unless it was in what was replaced.
+/// Replaces a call if it has to go and has an idiom that is wanted, unless it was in what was
+/// replaced.
 fn pass_whole(
     alloc: Global,
     idioms: Idioms,
@@ -297,7 +319,8 @@ fn pass_whole(
     Ok(())
 }
 
-/// Drops a backslash that joins two lines of a list, which is at an offset, unless it is not after what was read.
+/// Drops a backslash that joins two lines of a list, which is at an offset, unless it is not after
+/// what was read.
 fn drop_joint(
     idioms: Idioms,
     text: &[u8],
@@ -326,7 +349,9 @@ fn pass_joint(
     pass: &mut Pass,
 ) -> Result<(), AllocError>
     requires call { Contains (calls_in text.now) (macro_call_of call.now) }
-    requires words { specs.takes_words (slice_range text.now (macro_call_of call.now).start (macro_call_of call.now).name_end) ≡ true }
+    requires words { specs.takes_words (
+        slice_range text.now (macro_call_of call.now).start (macro_call_of call.now).name_end)
+        ≡ true }
     requires list { slice_get (macro_call_of call.now).args 0 ≡ Some list }
     requires begun { specs.IsPass idioms text.now pass.old.at pass.old.out.items }
     ensures { OnOk result (specs.IsPass idioms text.now pass.new.at pass.new.out.items) }
@@ -346,7 +371,9 @@ fn pass_list(
     pass: &mut Pass,
 ) -> Result<(), AllocError>
     requires call { Contains (calls_in text.now) (macro_call_of call.now) }
-    requires words { specs.takes_words (slice_range text.now (macro_call_of call.now).start (macro_call_of call.now).name_end) ≡ true }
+    requires words { specs.takes_words (
+        slice_range text.now (macro_call_of call.now).start (macro_call_of call.now).name_end)
+        ≡ true }
     requires list { slice_get (macro_call_of call.now).args 0 ≡ Some list }
     requires begun { specs.IsPass idioms text.now pass.old.at pass.old.out.items }
     ensures { OnOk result (specs.IsPass idioms text.now pass.new.at pass.new.out.items) }
@@ -357,7 +384,8 @@ fn pass_list(
     Ok(())
 }
 
-/// Drops each backslash that joins two lines of the list of a call, if it takes one, unless it was in what was replaced.
+/// Drops each backslash that joins two lines of the list of a call, if it takes one, unless it was
+/// in what was replaced.
 fn pass_words(idioms: Idioms, text: &[u8], call: &CallAt, pass: &mut Pass) -> Result<(), AllocError>
     requires call { Contains (calls_in text.now) (macro_call_of call.now) }
     requires begun { specs.IsPass idioms text.now pass.old.at pass.old.out.items }
@@ -419,13 +447,15 @@ fn finish(idioms: Idioms, text: &[u8], pass: &mut Pass) -> Result<(), AllocError
     pass.out.extend_from_slice(&text[pass.at..text.len()])
 }
 
-/// Returns the text with each call replaced that has to go and has an idiom that is wanted, or `None` if there is none.
+/// Returns the text with each call replaced that has to go and has an idiom that is wanted, or
+/// `None` if there is none.
 pub(crate) fn replaced_once(
     alloc: Global,
     idioms: Idioms,
     text: &[u8],
 ) -> Result<Option<Vec<u8>>, AllocError>
-    ensures { IfOk result (λ o. IfSome o (λ v. specs.IsPass idioms text.now (length text.now) v.items)) }
+    ensures { IfOk result (λ o.
+        IfSome o (λ v. specs.IsPass idioms text.now (length text.now) v.items)) }
 {
     let calls = calls_of(alloc, text)?;
     let mut pass = Pass {

@@ -15,7 +15,10 @@ fn push_body<'a>(
     end: usize,
     out: &mut Vec<&'a [u8]>,
 ) -> Result<bool, AllocError>
-    ensures { IfOk result (λ b. IsTrue b → specs.AddsBody text.now start end (map (λ p. p.now) out.old.items) (map (λ p. p.now) out.new.items)) }
+    ensures { IfOk result (λ b.
+        IsTrue b
+        → specs.AddsBody text.now start end (map (λ p. p.now) out.old.items)
+        (map (λ p. p.now) out.new.items)) }
 {
     let Some(found) = body(text, start, end) else {
         return Ok(false);
@@ -31,7 +34,10 @@ fn push_branch<'a>(
     branch: IfBranch,
     out: &mut Vec<&'a [u8]>,
 ) -> Result<bool, AllocError>
-    ensures { IfOk result (λ b. IsTrue b → specs.AddsBranch text.now branch.start branch.end (map (λ p. p.now) out.old.items) (map (λ p. p.now) out.new.items)) }
+    ensures { IfOk result (λ b.
+        IsTrue b
+        → specs.AddsBranch text.now branch.start branch.end (map (λ p. p.now) out.old.items)
+        (map (λ p. p.now) out.new.items)) }
 {
     let Some(test) = condition(alloc, text, branch.start, branch.at_then)? else {
         return Ok(false);
@@ -57,7 +63,8 @@ fn push_first<'a>(
     out: &mut Vec<&'a [u8]>,
 ) -> Result<bool, AllocError>
     requires { out.old.items ≡ [] }
-    ensures { IfOk result (λ b. IsTrue b → specs.AreBranches text.now start branch.end (map (λ p. p.now) out.new.items)) }
+    ensures { IfOk result (λ b.
+        IsTrue b → specs.AreBranches text.now start branch.end (map (λ p. p.now) out.new.items)) }
 {
     if !is_word(text, start, b"if", branch.start) {
         return Ok(false);
@@ -75,7 +82,8 @@ fn push_next<'a>(
     out: &mut Vec<&'a [u8]>,
 ) -> Result<bool, AllocError>
     requires { specs.AreBranches text.now start at (map (λ p. p.now) out.old.items) }
-    ensures { IfOk result (λ b. IsTrue b → specs.AreBranches text.now start branch.end (map (λ p. p.now) out.new.items)) }
+    ensures { IfOk result (λ b.
+        IsTrue b → specs.AreBranches text.now start branch.end (map (λ p. p.now) out.new.items)) }
 {
     if !is_word(text, at, b"elif", branch.start) {
         return Ok(false);
@@ -93,7 +101,8 @@ fn push_more<'a>(
     out: &mut Vec<&'a [u8]>,
 ) -> Result<Option<usize>, AllocError>
     requires { specs.AreBranches text.now start at (map (λ p. p.now) out.old.items) }
-    ensures { IfOk result (λ o. IfSome o (λ end. specs.AreBranches text.now start end (map (λ p. p.now) out.new.items))) }
+    ensures { IfOk result (λ o.
+        IfSome o (λ end. specs.AreBranches text.now start end (map (λ p. p.now) out.new.items))) }
 {
     let mut end = at;
     for i in 0..more.len() {
@@ -114,7 +123,8 @@ fn push_branches<'a>(
     out: &mut Vec<&'a [u8]>,
 ) -> Result<Option<usize>, AllocError>
     requires { out.old.items ≡ [] }
-    ensures { IfOk result (λ o. IfSome o (λ end. specs.AreBranches text.now start end (map (λ p. p.now) out.new.items))) }
+    ensures { IfOk result (λ o.
+        IfSome o (λ end. specs.AreBranches text.now start end (map (λ p. p.now) out.new.items))) }
 {
     if branches.is_empty() || !push_first(alloc, text, start, branches[0], out)? {
         return Ok(None);
@@ -138,7 +148,8 @@ fn push_else<'a>(
     out: &mut Vec<&'a [u8]>,
 ) -> Result<bool, AllocError>
     requires { specs.AreBranches text.now start at (map (λ p. p.now) out.old.items) }
-    ensures { IfOk result (λ b. IsTrue b → specs.AreAllBranches text.now start at_fi (map (λ p. p.now) out.new.items)) }
+    ensures { IfOk result (λ b.
+        IsTrue b → specs.AreAllBranches text.now start at_fi (map (λ p. p.now) out.new.items)) }
 {
     let after_else = at.saturating_add(4);
     if !is_word(text, at, b"else", after_else) {
@@ -156,7 +167,9 @@ fn push_default<'a>(
     out: &mut Vec<&'a [u8]>,
 ) -> Result<bool, AllocError>
     requires { specs.AreBranches text.now start at (map (λ p. p.now) out.old.items) }
-    ensures { IfOk result (λ b. IsTrue b → specs.AreAllBranches text.now start cut.now.at_fi (map (λ p. p.now) out.new.items)) }
+    ensures { IfOk result (λ b.
+        IsTrue b
+        → specs.AreAllBranches text.now start cut.now.at_fi (map (λ p. p.now) out.new.items)) }
 {
     let Some(_at_else) = cut.at_else else {
         return Ok(is_same(at, cut.at_fi));
@@ -172,7 +185,10 @@ fn push_all<'a>(
     out: &mut Vec<&'a [u8]>,
 ) -> Result<bool, AllocError>
     requires { out.old.items ≡ [] }
-    ensures { IfOk result (λ b. IsTrue b → specs.AreAllBranches text.now cut.now.start cut.now.at_fi (map (λ p. p.now) out.new.items)) }
+    ensures { IfOk result (λ b.
+        IsTrue b
+        → specs.AreAllBranches text.now cut.now.start cut.now.at_fi
+        (map (λ p. p.now) out.new.items)) }
 {
     match push_branches(alloc, text, cut.start, cut.branches.as_slice(), out)? {
         Some(at) => push_default(text, cut.start, at, cut, out),
@@ -180,8 +196,8 @@ fn push_all<'a>(
     }
 }
 
-/// Returns the parts of an `if`: each condition and its body, and the body after `else`. If the offsets are not those of an `if` that is a
-/// statement of its own, returns `None`.
+/// Returns the parts of an `if`: each condition and its body, and the body after `else`. If the
+/// offsets are not those of an `if` that is a statement of its own, returns `None`.
 ///
 /// # Errors
 ///
@@ -191,7 +207,8 @@ pub fn if_parts<'a>(
     text: &'a [u8],
     cut: &IfCut,
 ) -> Result<Option<Vec<&'a [u8]>>, AllocError>
-    ensures { IfOk result (λ o. IfSome o (λ v. specs.IsIf text.now cut.now.start cut.now.end (map (λ p. p.now) v.items))) }
+    ensures { IfOk result (λ o.
+        IfSome o (λ v. specs.IsIf text.now cut.now.start cut.now.end (map (λ p. p.now) v.items))) }
 {
     if !is_statement(text, cut.start, b"fi", cut.at_fi, cut.end) {
         return Ok(None);

@@ -16,9 +16,13 @@ use std::alloc::{AllocError, Global};
 
 // ---- the word
 
-/// Returns whether there are blanks between the first two offsets and between the last two, in order.
+/// Returns whether there are blanks between the first two offsets and between the last two, in
+/// order.
 fn is_between_blanks(text: &[u8], start: usize, from: usize, to: usize, end: usize) -> bool
-    ensures { IsTrue result → ((start < from) × (from ≤ to) × (to < end)) × ((end ≤ length text.now) × (AreBlank text.now start from × AreBlank text.now to end)) }
+    ensures { IsTrue result
+        → ((start < from) × (from ≤ to) × (to < end))
+        × ((end ≤ length text.now)
+        × (AreBlank text.now start from × AreBlank text.now to end)) }
 {
     start < from
         && from <= to
@@ -79,7 +83,8 @@ fn head<'a>(
 
 // ---- the patterns of a branch
 
-/// Returns whether an offset between two others is that of a parenthesis, with blanks before it and spaces after it.
+/// Returns whether an offset between two others is that of a parenthesis, with blanks before it and
+/// spaces after it.
 fn is_parenthesis(text: &[u8], start: usize, at: usize, end: usize) -> bool
     ensures { IsTrue result → specs.IsParenthesis text.now start end }
 {
@@ -111,9 +116,14 @@ fn patterns_start(text: &[u8], start: usize) -> usize {
     }
 }
 
-/// Returns whether patterns may be between two offsets, after another one, and before that of a parenthesis.
+/// Returns whether patterns may be between two offsets, after another one, and before that of a
+/// parenthesis.
 fn is_place_of_patterns(text: &[u8], start: usize, from: usize, to: usize, end: usize) -> bool
-    ensures { IsTrue result → ((start ≤ from) × (from ≤ to) × (to ≤ end)) × ((end < length text.now) × ((AreBlank text.now start from ⊎ specs.IsParenthesis text.now start from) × (AreSpaces text.now to end × (slice_index text.now end ≡ 41)))) }
+    ensures { IsTrue result
+        → ((start ≤ from) × (from ≤ to) × (to ≤ end))
+        × ((end < length text.now)
+        × ((AreBlank text.now start from ⊎ specs.IsParenthesis text.now start from)
+        × (AreSpaces text.now to end × (slice_index text.now end ≡ 41)))) }
 {
     start <= from
         && from <= to
@@ -156,8 +166,8 @@ fn is_after_backslash(text: &[u8], at: usize) -> bool
     before < text.len() && text[before] == b'\\'
 }
 
-/// Returns whether spaces are after a body between two offsets, before a third one. The body has neither a `#` nor `dnl`, and doesn't end
-/// in a backslash.
+/// Returns whether spaces are after a body between two offsets, before a third one. The body has
+/// neither a `#` nor `dnl`, and doesn't end in a backslash.
 fn ends_in_spaces(text: &[u8], from: usize, to: usize, end: usize) -> bool
     ensures { IsTrue result → specs.IsBeforeSpaces text.now from to end }
 {
@@ -172,7 +182,9 @@ fn ends_in_spaces(text: &[u8], from: usize, to: usize, end: usize) -> bool
 
 /// Returns whether a body before `;;` may be between two offsets, which are within two others.
 fn is_body_before(text: &[u8], start: usize, from: usize, to: usize, end: usize) -> bool
-    ensures { IsTrue result → (((start ≤ from) × (from ≤ to) × (to ≤ end)) × (end ≤ length text.now)) × (AreSpaces text.now start from × specs.EndsBefore text.now from to end) }
+    ensures { IsTrue result
+        → (((start ≤ from) × (from ≤ to) × (to ≤ end)) × (end ≤ length text.now))
+        × (AreSpaces text.now start from × specs.EndsBefore text.now from to end) }
 {
     start <= from
         && from <= to
@@ -211,7 +223,9 @@ fn closed_body(text: &[u8], start: usize, at: usize, end: usize) -> Option<&[u8]
 
 /// Returns whether a last body may be between two offsets, which are within two others.
 fn is_last(text: &[u8], start: usize, from: usize, to: usize, end: usize) -> bool
-    ensures { IsTrue result → (((start ≤ from) × (from ≤ to) × (to ≤ end)) × (end ≤ length text.now)) × (AreSpaces text.now start from × specs.EndsLast text.now from to end) }
+    ensures { IsTrue result
+        → (((start ≤ from) × (from ≤ to) × (to ≤ end)) × (end ≤ length text.now))
+        × (AreSpaces text.now start from × specs.EndsLast text.now from to end) }
 {
     start <= from
         && from <= to
@@ -245,7 +259,8 @@ fn are_blank_to(text: &[u8], start: usize, end: usize) -> bool
     start <= end && end <= text.len() && are_blank(&text[start..end])
 }
 
-/// Returns the body of the last branch before `esac`, which is at offset `end`, if there is one. It may have `;;` after it, at offset `at`.
+/// Returns the body of the last branch before `esac`, which is at offset `end`, if there is one. It
+/// may have `;;` after it, at offset `at`.
 fn last_body(text: &[u8], start: usize, at: usize, end: usize) -> Option<&[u8]>
     ensures { IfSome result (λ b. specs.IsLastBody text.now start end b.now) }
 {
@@ -268,7 +283,10 @@ fn push_branch<'a>(
     end: usize,
     out: &mut Vec<&'a [u8]>,
 ) -> Result<bool, AllocError>
-    ensures { IfOk result (λ b. IsTrue b → specs.AddsBranch text.now start end (map (λ p. p.now) out.old.items) (map (λ p. p.now) out.new.items)) }
+    ensures { IfOk result (λ b.
+        IsTrue b
+        → specs.AddsBranch text.now start end (map (λ p. p.now) out.old.items)
+        (map (λ p. p.now) out.new.items)) }
 {
     let Some(found) = patterns(alloc, text, start, branch.at_close)? else {
         return Ok(false);
@@ -295,7 +313,10 @@ fn push_found<'a>(
     body: &'a [u8],
     out: &mut Vec<&'a [u8]>,
 ) -> Result<bool, AllocError>
-    ensures { IfOk result (λ b. IsTrue b → specs.AreLastParts patterns.now body.now (map (λ p. p.now) out.old.items) (map (λ p. p.now) out.new.items)) }
+    ensures { IfOk result (λ b.
+        IsTrue b
+        → specs.AreLastParts patterns.now body.now (map (λ p. p.now) out.old.items)
+        (map (λ p. p.now) out.new.items)) }
 {
     if is_star(patterns) {
         out.push(body)?;
@@ -315,7 +336,10 @@ fn push_last<'a>(
     at_esac: usize,
     out: &mut Vec<&'a [u8]>,
 ) -> Result<bool, AllocError>
-    ensures { IfOk result (λ b. IsTrue b → specs.AddsLast text.now start at_esac (map (λ p. p.now) out.old.items) (map (λ p. p.now) out.new.items)) }
+    ensures { IfOk result (λ b.
+        IsTrue b
+        → specs.AddsLast text.now start at_esac (map (λ p. p.now) out.old.items)
+        (map (λ p. p.now) out.new.items)) }
 {
     let Some(found) = patterns(alloc, text, start, branch.at_close)? else {
         return Ok(false);
@@ -337,7 +361,8 @@ fn push_next<'a>(
     out: &mut Vec<&'a [u8]>,
 ) -> Result<bool, AllocError>
     requires { specs.AreBranches text.now start at (map (λ p. p.now) out.old.items) }
-    ensures { IfOk result (λ b. IsTrue b → specs.AreBranches text.now start end (map (λ p. p.now) out.new.items)) }
+    ensures { IfOk result (λ b.
+        IsTrue b → specs.AreBranches text.now start end (map (λ p. p.now) out.new.items)) }
 {
     push_branch(alloc, text, at, branch, end, out)
 }
@@ -352,7 +377,8 @@ fn push_more<'a>(
     out: &mut Vec<&'a [u8]>,
 ) -> Result<Option<usize>, AllocError>
     requires { specs.AreBranches text.now start at (map (λ p. p.now) out.old.items) }
-    ensures { IfOk result (λ o. IfSome o (λ end. specs.AreBranches text.now start end (map (λ p. p.now) out.new.items))) }
+    ensures { IfOk result (λ o.
+        IfSome o (λ end. specs.AreBranches text.now start end (map (λ p. p.now) out.new.items))) }
 {
     let mut end = at;
     for i in 0..branches.len() {
@@ -374,7 +400,8 @@ fn push_head<'a>(
     out: &mut Vec<&'a [u8]>,
 ) -> Result<Option<usize>, AllocError>
     requires { out.old.items ≡ [] }
-    ensures { IfOk result (λ o. IfSome o (λ end. specs.AreBranches text.now start end (map (λ p. p.now) out.new.items))) }
+    ensures { IfOk result (λ o.
+        IfSome o (λ end. specs.AreBranches text.now start end (map (λ p. p.now) out.new.items))) }
 {
     let end = at_in.saturating_add(2);
     let Some(word) = head(alloc, text, start, at_in, end)? else {
@@ -384,7 +411,8 @@ fn push_head<'a>(
     Ok(Some(end))
 }
 
-/// Appends the parts of a last branch of a `case`, which is at an offset. Returns whether it has them.
+/// Appends the parts of a last branch of a `case`, which is at an offset. Returns whether it has
+/// them.
 fn push_end<'a>(
     alloc: Global,
     text: &'a [u8],
@@ -395,12 +423,14 @@ fn push_end<'a>(
     out: &mut Vec<&'a [u8]>,
 ) -> Result<bool, AllocError>
     requires { specs.AreBranches text.now start at (map (λ p. p.now) out.old.items) }
-    ensures { IfOk result (λ b. IsTrue b → specs.AreAllBranches text.now start at_esac (map (λ p. p.now) out.new.items)) }
+    ensures { IfOk result (λ b.
+        IsTrue b → specs.AreAllBranches text.now start at_esac (map (λ p. p.now) out.new.items)) }
 {
     push_last(alloc, text, at, branch, at_esac, out)
 }
 
-/// Appends the parts of the branches of a `case` that begin at an offset. Returns whether it has them.
+/// Appends the parts of the branches of a `case` that begin at an offset. Returns whether it has
+/// them.
 fn push_branches<'a>(
     alloc: Global,
     text: &'a [u8],
@@ -409,7 +439,10 @@ fn push_branches<'a>(
     out: &mut Vec<&'a [u8]>,
 ) -> Result<bool, AllocError>
     requires { specs.AreBranches text.now cut.now.start at (map (λ p. p.now) out.old.items) }
-    ensures { IfOk result (λ b. IsTrue b → specs.AreAllBranches text.now cut.now.start cut.now.at_esac (map (λ p. p.now) out.new.items)) }
+    ensures { IfOk result (λ b.
+        IsTrue b
+        → specs.AreAllBranches text.now cut.now.start cut.now.at_esac
+        (map (λ p. p.now) out.new.items)) }
 {
     let count = cut.branches.len();
     if count == 0 {
@@ -433,7 +466,10 @@ fn push_all<'a>(
     out: &mut Vec<&'a [u8]>,
 ) -> Result<bool, AllocError>
     requires { out.old.items ≡ [] }
-    ensures { IfOk result (λ b. IsTrue b → specs.AreAllBranches text.now cut.now.start cut.now.at_esac (map (λ p. p.now) out.new.items)) }
+    ensures { IfOk result (λ b.
+        IsTrue b
+        → specs.AreAllBranches text.now cut.now.start cut.now.at_esac
+        (map (λ p. p.now) out.new.items)) }
 {
     match push_head(alloc, text, cut.start, cut.at_in, out)? {
         Some(at) => push_branches(alloc, text, cut, at, out),
@@ -441,8 +477,9 @@ fn push_all<'a>(
     }
 }
 
-/// Returns the parts of a `case`: its word, the patterns and the body of each branch, and the body of a last branch whose pattern is `*`.
-/// If the offsets are not those of a `case` that is a statement of its own, or if a comment is before a pattern, returns `None`.
+/// Returns the parts of a `case`: its word, the patterns and the body of each branch, and the body
+/// of a last branch whose pattern is `*`. If the offsets are not those of a `case` that is a
+/// statement of its own, or if a comment is before a pattern, returns `None`.
 ///
 /// # Errors
 ///
@@ -452,7 +489,9 @@ pub fn case_parts<'a>(
     text: &'a [u8],
     cut: &CaseCut,
 ) -> Result<Option<Vec<&'a [u8]>>, AllocError>
-    ensures { IfOk result (λ o. IfSome o (λ v. specs.IsCase text.now cut.now.start cut.now.end (map (λ p. p.now) v.items))) }
+    ensures { IfOk result (λ o.
+        IfSome o (λ v.
+        specs.IsCase text.now cut.now.start cut.now.end (map (λ p. p.now) v.items))) }
 {
     if !is_statement(text, cut.start, b"esac", cut.at_esac, cut.end) {
         return Ok(None);

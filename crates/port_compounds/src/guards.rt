@@ -165,7 +165,9 @@ fn push_and<'a>(
     out: &mut Vec<&'a [u8]>,
 ) -> Result<bool, AllocError>
     requires { out.old.items ≡ [] }
-    ensures { IfOk result (λ b. IsTrue b → specs.AreGuardParts text.now cut.start cut.end (map (λ p. p.now) out.new.items)) }
+    ensures { IfOk result (λ b.
+        IsTrue b
+        → specs.AreGuardParts text.now cut.start cut.end (map (λ p. p.now) out.new.items)) }
 {
     let after = cut.at_joint.saturating_add(2);
     if !is_word(text, cut.at_joint, b"&&", after) {
@@ -197,7 +199,9 @@ fn push_or<'a>(
     out: &mut Vec<&'a [u8]>,
 ) -> Result<bool, AllocError>
     requires { out.old.items ≡ [] }
-    ensures { IfOk result (λ b. IsTrue b → specs.AreGuardParts text.now cut.start cut.end (map (λ p. p.now) out.new.items)) }
+    ensures { IfOk result (λ b.
+        IsTrue b
+        → specs.AreGuardParts text.now cut.start cut.end (map (λ p. p.now) out.new.items)) }
 {
     let after = cut.at_joint.saturating_add(2);
     if !is_word(text, cut.at_joint, b"||", after) {
@@ -223,7 +227,9 @@ fn push_parts<'a>(
     out: &mut Vec<&'a [u8]>,
 ) -> Result<bool, AllocError>
     requires { out.old.items ≡ [] }
-    ensures { IfOk result (λ b. IsTrue b → specs.AreGuardParts text.now cut.start cut.end (map (λ p. p.now) out.new.items)) }
+    ensures { IfOk result (λ b.
+        IsTrue b
+        → specs.AreGuardParts text.now cut.start cut.end (map (λ p. p.now) out.new.items)) }
 {
     if text.get(cut.at_joint) == Some(&b'&') {
         push_and(alloc, text, cut, out)
@@ -239,9 +245,10 @@ fn is_own(text: &[u8], start: usize, end: usize) -> bool
     begins_statement(text, start) && ends_statement(text, end)
 }
 
-/// Returns the parts of a statement that a condition guards, as AS_IF takes them: the condition and the statement after `&&`, or the
-/// condition, nothing, and the statement after `||`. The statement is one command: words such as assignments, a definition or a message.
-/// If the offsets are not those of such a list that is a statement of its own, returns `None`.
+/// Returns the parts of a statement that a condition guards, as AS_IF takes them: the condition and
+/// the statement after `&&`, or the condition, nothing, and the statement after `||`. The statement
+/// is one command: words such as assignments, a definition or a message. If the offsets are not
+/// those of such a list that is a statement of its own, returns `None`.
 ///
 /// # Errors
 ///
@@ -251,7 +258,8 @@ pub fn guard_parts<'a>(
     text: &'a [u8],
     cut: GuardCut,
 ) -> Result<Option<Vec<&'a [u8]>>, AllocError>
-    ensures { IfOk result (λ o. IfSome o (λ v. specs.IsGuarded text.now cut.start cut.end (map (λ p. p.now) v.items))) }
+    ensures { IfOk result (λ o.
+        IfSome o (λ v. specs.IsGuarded text.now cut.start cut.end (map (λ p. p.now) v.items))) }
 {
     if !is_own(text, cut.start, cut.end) {
         return Ok(None);

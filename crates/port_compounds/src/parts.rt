@@ -25,7 +25,8 @@ fn has_newline(text: &[u8]) -> bool
     text.iter().any(|byte| *byte == b'\n')
 }
 
-/// Returns whether an offset between two others is that of a `;` or a newline, with spaces before it and blanks after it.
+/// Returns whether an offset between two others is that of a `;` or a newline, with spaces before
+/// it and blanks after it.
 fn is_list_end_at(text: &[u8], start: usize, at: usize, end: usize) -> bool
     ensures { IsTrue result → specs.IsListEnd text.now start end }
 {
@@ -91,7 +92,8 @@ fn are_bare(items: &[Item<'_>], text: &[u8]) -> bool
     items.len() == 1 && is_bare(&items[0], text)
 }
 
-/// Returns whether the text is on one line and has no `#`, and m4 finds neither a macro nor `dnl` in it.
+/// Returns whether the text is on one line and has no `#`, and m4 finds neither a macro nor `dnl`
+/// in it.
 pub(crate) fn is_plain_line(alloc: Global, text: &[u8]) -> Result<bool, AllocError>
     ensures { IfOk result (λ b. IsTrue b → specs.IsPlainLine text.now) }
 {
@@ -101,9 +103,11 @@ pub(crate) fn is_plain_line(alloc: Global, text: &[u8]) -> Result<bool, AllocErr
     is_plain(alloc, text)
 }
 
-/// Returns whether between two offsets, which are within two others, is a condition, apart from what m4 finds in it.
+/// Returns whether between two offsets, which are within two others, is a condition, apart from
+/// what m4 finds in it.
 fn is_condition(text: &[u8], start: usize, end: usize, from: usize, to: usize) -> bool
-    ensures { IsTrue result → ifs.IsConditionAt text.now start end from to × (end ≤ length text.now) }
+    ensures { IsTrue result
+        → ifs.IsConditionAt text.now start end from to × (end ≤ length text.now) }
 {
     start < from
         && from <= to
@@ -135,7 +139,8 @@ pub(crate) fn before_blanks(text: &[u8], start: usize, at: usize) -> usize {
     start.min(at)
 }
 
-/// Returns the offset after a condition that ends before `end`, but not before `start`: that of the blanks and the `;` before `end`.
+/// Returns the offset after a condition that ends before `end`, but not before `start`: that of the
+/// blanks and the `;` before `end`.
 fn condition_end(text: &[u8], start: usize, end: usize) -> usize {
     let to = before_blanks(text, start, end);
     if to > start && text.get(to.saturating_sub(1)) == Some(&b';') {
@@ -152,7 +157,8 @@ pub(crate) fn condition<'a>(
     start: usize,
     end: usize,
 ) -> Result<Option<&'a [u8]>, AllocError>
-    ensures { IfOk result (λ o. IfSome o (λ c. ifs.IsCondition text.now start end c.now × (end ≤ length text.now))) }
+    ensures { IfOk result (λ o.
+        IfSome o (λ c. ifs.IsCondition text.now start end c.now × (end ≤ length text.now))) }
 {
     let from = after_blanks(text, start);
     let to = condition_end(text, from, end);
@@ -188,7 +194,8 @@ pub(crate) fn has_dnl(text: &[u8]) -> bool
     false
 }
 
-/// Returns whether the line before an offset has nothing but spaces after its newline, which is at another offset.
+/// Returns whether the line before an offset has nothing but spaces after its newline, which is at
+/// another offset.
 fn is_line_start(text: &[u8], start: usize, newline: usize, end: usize) -> bool
     ensures { IsTrue result → specs.IsAtLineStart text.now start end }
 {
@@ -208,7 +215,8 @@ pub(crate) fn ends_in_line(text: &[u8], start: usize, end: usize) -> bool
     is_line_start(text, start, newline, end)
 }
 
-/// Returns whether a `;` is after a body between two offsets, which has neither a `#` nor `dnl`, before a third one.
+/// Returns whether a `;` is after a body between two offsets, which has neither a `#` nor `dnl`,
+/// before a third one.
 pub(crate) fn ends_in_semicolon(text: &[u8], from: usize, to: usize, end: usize) -> bool
     ensures { IsTrue result → specs.IsBeforeSemicolon text.now from to end }
 {
@@ -220,7 +228,8 @@ pub(crate) fn ends_in_semicolon(text: &[u8], from: usize, to: usize, end: usize)
         && !has_dnl(&text[from..to])
 }
 
-/// Returns the offset of the `;` and of the spaces around it that are before an offset, but not before `start`.
+/// Returns the offset of the `;` and of the spaces around it that are before an offset, but not
+/// before `start`.
 pub(crate) fn semicolon_start(text: &[u8], start: usize, end: usize) -> usize {
     let to = before_spaces(text, start, end).saturating_sub(1).max(start);
     before_spaces(text, start, to)

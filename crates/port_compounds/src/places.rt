@@ -67,9 +67,11 @@ fn begins_list(byte: u8) -> bool
     byte == b'\n' || byte == b';' || byte == b'[' || byte == b')'
 }
 
-/// Returns whether an offset is the first of a text, or after a byte after which a statement may begin.
+/// Returns whether an offset is the first of a text, or after a byte after which a statement may
+/// begin.
 fn is_after_byte(text: &[u8], at: usize) -> bool
-    ensures { IsTrue result → (at ≡ 0) ⊎ ((0 < at) × (specs.begins_list (slice_index text.now (at - 1)) ≡ true)) }
+    ensures { IsTrue result
+        → (at ≡ 0) ⊎ ((0 < at) × (specs.begins_list (slice_index text.now (at - 1)) ≡ true)) }
 {
     if at == 0 {
         return true;
@@ -79,7 +81,9 @@ fn is_after_byte(text: &[u8], at: usize) -> bool
 
 /// Returns whether `then` or `else` is before an offset.
 fn is_after_word(text: &[u8], at: usize) -> bool
-    ensures { IsTrue result → specs.IsWord text.now (at - 4) (codes "then") at ⊎ specs.IsWord text.now (at - 4) (codes "else") at }
+    ensures { IsTrue result
+        → specs.IsWord text.now (at - 4) (codes "then") at
+        ⊎ specs.IsWord text.now (at - 4) (codes "else") at }
 {
     let start = at.saturating_sub(4);
     is_word(text, start, b"then", at) || is_word(text, start, b"else", at)
@@ -112,7 +116,8 @@ fn ends_list(byte: u8) -> bool
 
 /// Returns whether a statement may end at an offset.
 fn is_list_end(text: &[u8], at: usize) -> bool
-    ensures { IsTrue result → (at ≡ length text.now) ⊎ (specs.ends_list (slice_index text.now at) ≡ true) }
+    ensures { IsTrue result
+        → (at ≡ length text.now) ⊎ (specs.ends_list (slice_index text.now at) ≡ true) }
 {
     if at >= text.len() {
         return at == text.len();
@@ -139,7 +144,8 @@ pub(crate) fn ends_statement(text: &[u8], end: usize) -> bool
         && is_list_end(text, to)
 }
 
-/// Returns whether a statement of its own may be between two offsets, which ends in a word at a third one.
+/// Returns whether a statement of its own may be between two offsets, which ends in a word at a
+/// third one.
 pub(crate) fn is_statement(text: &[u8], start: usize, last: &[u8], at: usize, end: usize) -> bool
     ensures { IsTrue result → IsStatement text.now start last.now at end }
 {

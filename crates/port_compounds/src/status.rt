@@ -38,7 +38,8 @@ fn is_before_option(text: &[u8], at: usize) -> bool
     after < text.len() && is_blank(text[at]) && may_begin_option(text[after])
 }
 
-/// Returns whether the status of a command is read at an offset, or a shell may be asked to end at one.
+/// Returns whether the status of a command is read at an offset, or a shell may be asked to end at
+/// one.
 fn is_status_at(text: &[u8], at: usize) -> bool
     requires { at ≤ length text.now }
     ensures { result ≡ false → specs.IsStatusAt text.now at → ⊥ }
@@ -47,7 +48,8 @@ fn is_status_at(text: &[u8], at: usize) -> bool
         || is_set_word_at(text, at) && is_before_option(text, at.saturating_add(3))
 }
 
-/// Returns whether a text reads the status of a command at some place, or may ask a shell to end at one.
+/// Returns whether a text reads the status of a command at some place, or may ask a shell to end at
+/// one.
 pub fn reads_status(text: &[u8]) -> bool
     ensures { result ≡ false → specs.ReadsStatus text.now → ⊥ }
 {

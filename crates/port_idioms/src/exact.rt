@@ -44,15 +44,18 @@ fn exact_by(entry: Option<MacroEntry>) -> Option<Exact>
     }
 }
 
-/// Returns what a call of a macro of this name with so many arguments is replaced by, if there is something exact.
+/// Returns what a call of a macro of this name with so many arguments is replaced by, if there is
+/// something exact.
 pub fn exact_of(
     alloc: Global,
     index: &Index,
     name: &[u8],
     count: usize,
 ) -> Result<Option<Exact>, AllocError>
-    // It is the text of the idiom that the table has for the name, or nothing if the table says that the call has no meaning.
-    ensures of_table { IfOk result (λ o. IfSome o (λ e. put_by (entry_of name.now TABLE.now) ≡ Some (specs.text_of e))) }
+    // It is the text of the idiom that the table has for the name, or nothing if the table says
+    // that the call has no meaning.
+    ensures of_table { IfOk result (λ o.
+        IfSome o (λ e. put_by (entry_of name.now TABLE.now) ≡ Some (specs.text_of e))) }
     // It is exact for so many arguments.
     ensures exact { IfOk result (λ o. IfSome o (λ e. IsExact name.now count)) }
 {
@@ -82,8 +85,8 @@ fn other_by(entry: Option<MacroEntry>, words: &'static [u8]) -> Option<Other>
     }
 }
 
-/// Returns the idiom that is written in the place of a call of a macro of this name with so many arguments though it differs from
-/// the macro, if there is one.
+/// Returns the idiom that is written in the place of a call of a macro of this name with so many
+/// arguments though it differs from the macro, if there is one.
 #[tactic(auto, unfolding(crate::specs::Rows::Differs))]
 pub fn other_of(
     alloc: Global,
@@ -92,7 +95,8 @@ pub fn other_of(
     count: usize,
 ) -> Result<Option<Other>, AllocError>
     // It is the idiom that the table has for the name.
-    ensures of_table { IfOk result (λ o. IfSome o (λ other. put_by (entry_of name.now TABLE.now) ≡ Some other.idiom.now)) }
+    ensures of_table { IfOk result (λ o.
+        IfSome o (λ other. put_by (entry_of name.now TABLE.now) ≡ Some other.idiom.now)) }
     // What is said is what the rows have for so many arguments.
     ensures said { IfOk result (λ o. IfSome o (λ other. Differs name.now count other.said.now)) }
 {

@@ -27,7 +27,8 @@ fn has_macro(text: &[u8]) -> bool {
     text.split(|byte| !is_word_byte(*byte)).any(is_known)
 }
 
-/// Returns whether the brackets of a text are closed within it, and no parenthesis, comma or comment is outside of them.
+/// Returns whether the brackets of a text are closed within it, and no parenthesis, comma or
+/// comment is outside of them.
 fn is_one_text(inner: &[u8]) -> bool {
     let mut depth: usize = 0;
     for byte in inner {
@@ -60,8 +61,8 @@ fn is_verbatim(byte: u8) -> bool {
     !matches!(byte, b'[' | b']' | b'(' | b')' | b',' | b'#')
 }
 
-/// Returns whether m4 puts the one text in the place of the other, which is the same or has brackets around it, whatever the macros
-/// are.
+/// Returns whether m4 puts the one text in the place of the other, which is the same or has
+/// brackets around it, whatever the macros are.
 fn is_certain(written: &[u8], inner: &[u8]) -> bool {
     if inner.len() < written.len() {
         is_one_text(inner)
@@ -70,7 +71,8 @@ fn is_certain(written: &[u8], inner: &[u8]) -> bool {
     }
 }
 
-/// Returns the text that m4 puts in the place of an argument, if that is known without a definition of any macro.
+/// Returns the text that m4 puts in the place of an argument, if that is known without a definition
+/// of any macro.
 ///
 /// It has no blanks and no pair of brackets around it.
 pub fn text_of(argument: &[u8]) -> Option<&[u8]>
@@ -85,9 +87,11 @@ pub fn text_of(argument: &[u8]) -> Option<&[u8]>
     }
 }
 
-/// Returns the text of the argument of an index, if that is known. An argument that isn't given is empty.
+/// Returns the text of the argument of an index, if that is known. An argument that isn't given is
+/// empty.
 fn text_at<'a>(args: &[&'a [u8]], index: usize) -> Option<&'a [u8]>
-    ensures { IfSome result (λ t. t.now ≡ specs.text_of (slice_get (map (λ a. a.now) args.now) index)) }
+    ensures { IfSome result (λ t.
+        t.now ≡ specs.text_of (slice_get (map (λ a. a.now) args.now) index)) }
 {
     match args.get(index) {
         Some(argument) => text_of(argument),
@@ -192,7 +196,8 @@ fn put_symbol(alloc: Global, out: &mut Vec<u8>, text: &[u8]) -> Result<(), Alloc
 
 /// Appends what is before the first dot of a text. Returns whether there is one.
 fn put_front(out: &mut Vec<u8>, text: &[u8]) -> Result<bool, AllocError>
-    ensures { IfOk result (λ b. IsTrue b → out.new.items ≡ out.old.items ++ specs.front_of (around 46 text.now)) }
+    ensures { IfOk result (λ b.
+        IsTrue b → out.new.items ≡ out.old.items ++ specs.front_of (around 46 text.now)) }
 {
     match around_dot(text) {
         Some((front, _)) => {
@@ -205,7 +210,8 @@ fn put_front(out: &mut Vec<u8>, text: &[u8]) -> Result<bool, AllocError>
 
 /// Appends what is after the first dot of a text. Returns whether there is one.
 fn put_rest(out: &mut Vec<u8>, text: &[u8]) -> Result<bool, AllocError>
-    ensures { IfOk result (λ b. IsTrue b → out.new.items ≡ out.old.items ++ specs.rest_of (around 46 text.now)) }
+    ensures { IfOk result (λ b.
+        IsTrue b → out.new.items ≡ out.old.items ++ specs.rest_of (around 46 text.now)) }
 {
     match around_dot(text) {
         Some((_, rest)) => {
@@ -218,7 +224,8 @@ fn put_rest(out: &mut Vec<u8>, text: &[u8]) -> Result<bool, AllocError>
 
 /// Appends a text in a form. Returns whether it can have the form.
 fn put_formed(alloc: Global, out: &mut Vec<u8>, form: Form, text: &[u8]) -> Result<bool, AllocError>
-    ensures { IfOk result (λ b. IsTrue b → out.new.items ≡ out.old.items ++ specs.formed form text.now) }
+    ensures { IfOk result (λ b.
+        IsTrue b → out.new.items ≡ out.old.items ++ specs.formed form text.now) }
 {
     match form {
         Form::AsItIs => out.extend_from_slice(text)?,
@@ -238,7 +245,10 @@ fn put_value(
     place: &Place<'_>,
     args: &[&[u8]],
 ) -> Result<bool, AllocError>
-    ensures { IfOk result (λ b. IsTrue b → out.new.items ≡ out.old.items ++ specs.value (specs.seen place.now) (map (λ a. a.now) args.now)) }
+    ensures { IfOk result (λ b.
+        IsTrue b
+        → out.new.items
+        ≡ out.old.items ++ specs.value (specs.seen place.now) (map (λ a. a.now) args.now)) }
 {
     match text_at(args, place.index) {
         Some(text) if can_have(place.form, text) => put_formed(alloc, out, place.form, text),
@@ -246,14 +256,20 @@ fn put_value(
     }
 }
 
-/// Appends the argument for a place and the text after it. Returns whether the argument can be put there.
+/// Appends the argument for a place and the text after it. Returns whether the argument can be put
+/// there.
 fn put_place(
     alloc: Global,
     out: &mut Vec<u8>,
     place: &Place<'_>,
     args: &[&[u8]],
 ) -> Result<bool, AllocError>
-    ensures { IfOk result (λ b. IsTrue b → out.new.items ≡ out.old.items ++ (specs.value (specs.seen place.now) (map (λ a. a.now) args.now) ++ place.now.rest.now)) }
+    ensures { IfOk result (λ b.
+        IsTrue b
+        → out.new.items
+        ≡ out.old.items
+        ++ (specs.value (specs.seen place.now) (map (λ a. a.now) args.now)
+        ++ place.now.rest.now)) }
 {
     if !put_value(alloc, out, place, args)? {
         return Ok(false);
@@ -262,15 +278,18 @@ fn put_place(
     Ok(true)
 }
 
-/// Appends a `$` and the text after it, with the argument in the place that the text may begin with. Returns whether it could be put
-/// there.
+/// Appends a `$` and the text after it, with the argument in the place that the text may begin
+/// with. Returns whether it could be put there.
 fn put_sign(
     alloc: Global,
     out: &mut Vec<u8>,
     text: &[u8],
     args: &[&[u8]],
 ) -> Result<bool, AllocError>
-    ensures { IfOk result (λ b. IsTrue b → out.new.items ≡ out.old.items ++ specs.filled_sign (map (λ a. a.now) args.now) text.now) }
+    ensures { IfOk result (λ b.
+        IsTrue b
+        → out.new.items
+        ≡ out.old.items ++ specs.filled_sign (map (λ a. a.now) args.now) text.now) }
 {
     match place_of(text) {
         Some(place) => put_place(alloc, out, &place, args),
@@ -282,14 +301,20 @@ fn put_sign(
     }
 }
 
-/// Appends the texts after each `$`, with what becomes of these. Returns whether each argument could be put there.
+/// Appends the texts after each `$`, with what becomes of these. Returns whether each argument
+/// could be put there.
 fn put_signs(
     alloc: Global,
     out: &mut Vec<u8>,
     texts: &[&[u8]],
     args: &[&[u8]],
 ) -> Result<bool, AllocError>
-    ensures { IfOk result (λ b. IsTrue b → out.new.items ≡ out.old.items ++ flat_map (specs.filled_sign (map (λ a. a.now) args.now)) (map (λ t. t.now) texts.now)) }
+    ensures { IfOk result (λ b.
+        IsTrue b
+        → out.new.items
+        ≡ out.old.items
+        ++ flat_map (specs.filled_sign (map (λ a. a.now) args.now))
+        (map (λ t. t.now) texts.now)) }
 {
     for text in texts {
         if !put_sign(alloc, out, text, args)? {
@@ -299,7 +324,8 @@ fn put_signs(
     Ok(true)
 }
 
-/// Appends a line of an idiom, with the arguments in their places. Returns whether each could be put there.
+/// Appends a line of an idiom, with the arguments in their places. Returns whether each could be
+/// put there.
 #[tactic(auto, unfolding(crate::specs::Filled::filled_line))]
 fn put_line(
     alloc: Global,
@@ -307,7 +333,10 @@ fn put_line(
     line: &[u8],
     args: &[&[u8]],
 ) -> Result<bool, AllocError>
-    ensures { IfOk result (λ b. IsTrue b → out.new.items ≡ out.old.items ++ specs.filled_line (map (λ a. a.now) args.now) line.now) }
+    ensures { IfOk result (λ b.
+        IsTrue b
+        → out.new.items
+        ≡ out.old.items ++ specs.filled_line (map (λ a. a.now) args.now) line.now) }
 {
     let texts = parts(alloc, line, b'$')?;
     if let Some((first, more)) = texts.as_slice().split_first() {
@@ -317,7 +346,8 @@ fn put_line(
     Ok(true)
 }
 
-/// Appends a newline, the indent, and a line of an idiom. Returns whether each argument could be put there.
+/// Appends a newline, the indent, and a line of an idiom. Returns whether each argument could be
+/// put there.
 fn put_next(
     alloc: Global,
     out: &mut Vec<u8>,
@@ -325,7 +355,11 @@ fn put_next(
     args: &[&[u8]],
     indent: &[u8],
 ) -> Result<bool, AllocError>
-    ensures { IfOk result (λ b. IsTrue b → out.new.items ≡ out.old.items ++ specs.filled_next (map (λ a. a.now) args.now) indent.now line.now) }
+    ensures { IfOk result (λ b.
+        IsTrue b
+        → out.new.items
+        ≡ out.old.items
+        ++ specs.filled_next (map (λ a. a.now) args.now) indent.now line.now) }
 {
     out.push(b'\n')?;
     out.extend_from_slice(indent)?;
@@ -340,7 +374,12 @@ fn put_lines(
     args: &[&[u8]],
     indent: &[u8],
 ) -> Result<bool, AllocError>
-    ensures { IfOk result (λ b. IsTrue b → out.new.items ≡ out.old.items ++ specs.filled_lines (map (λ a. a.now) args.now) indent.now (map (λ t. t.now) texts.now)) }
+    ensures { IfOk result (λ b.
+        IsTrue b
+        → out.new.items
+        ≡ out.old.items
+        ++ specs.filled_lines (map (λ a. a.now) args.now) indent.now
+        (map (λ t. t.now) texts.now)) }
 {
     let Some((first, more)) = texts.split_first() else {
         return Ok(true);
@@ -356,8 +395,8 @@ fn put_lines(
     Ok(true)
 }
 
-/// Returns an idiom with the arguments in their places and the indent at the front of each line but the first, or `None` if one can't
-/// be put there.
+/// Returns an idiom with the arguments in their places and the indent at the front of each line but
+/// the first, or `None` if one can't be put there.
 ///
 /// An argument is put in its place without the blanks and the pair of brackets around it.
 #[tactic(auto, unfolding(crate::specs::Filled::filled))]
@@ -367,7 +406,8 @@ pub fn filled(
     args: &[&[u8]],
     indent: &[u8],
 ) -> Result<Option<Vec<u8>>, AllocError>
-    ensures filled { IfOk result (λ o. IfSome o (λ v. v.items ≡ specs.filled (map (λ a. a.now) args.now) indent.now idiom.now)) }
+    ensures filled { IfOk result (λ o.
+        IfSome o (λ v. v.items ≡ specs.filled (map (λ a. a.now) args.now) indent.now idiom.now)) }
 {
     let lines = parts(alloc, idiom, b'\n')?;
     let mut out = Vec::new(alloc);

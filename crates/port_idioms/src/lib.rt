@@ -1,8 +1,9 @@
-//! The idioms that are written in the place of calls. Most are exact: a call of the macro and its idiom leave the same definitions and
-//! output variables. For the others there are words that say in what they differ.
+//! The idioms that are written in the place of calls. Most are exact: a call of the macro and its
+//! idiom leave the same definitions and output variables. For the others there are words that say
+//! in what they differ.
 //!
-//! An idiom is written for some numbers of arguments. An argument is put into it only if the text that m4 puts in its place is known
-//! without a definition of any macro.
+//! An idiom is written for some numbers of arguments. An argument is put into it only if the text
+//! that m4 puts in its place is known without a definition of any macro.
 //!
 //! ```text
 //! exact_of(alloc, &index, b"AC_HAVE_FUNCS", 1)?             // the idiom AC_CHECK_FUNCS([$1{FUNCTIONS}])
@@ -10,8 +11,8 @@
 //! other_of(alloc, &index, b"AC_FUNC_MALLOC", 0)?            // an idiom; it says " HAVE_MALLOC is 1 without a check"
 //! ```
 //!
-//! Read `specs/Rows`, `rows` and `exact`, and then `filling`. `tools/macro_table.py` writes `table`. A call fails only if memory runs
-//! out. "own" marks a rule that no manual gives.
+//! Read `specs/Rows`, `rows` and `exact`, and then `filling`. `tools/macro_table.py` writes
+//! `table`. A call fails only if memory runs out. "own" marks a rule that no manual gives.
 #![tactic(auto)]
 
 mod exact;

@@ -50,9 +50,11 @@ fn text_in<'a>(row: &'a [u8], name: &[u8], count: usize) -> Option<&'a [u8]>
     }
 }
 
-/// Returns the text of the first of the rows that is about calls of this name with so many arguments.
+/// Returns the text of the first of the rows that is about calls of this name with so many
+/// arguments.
 fn text_among<'a>(rows: &[&'a [u8]], name: &[u8], count: usize) -> Option<&'a [u8]>
-    ensures { IfSome result (λ text. specs.IsAmong (map (λ r. r.now) rows.now) name.now count text.now) }
+    ensures { IfSome result (λ text.
+        specs.IsAmong (map (λ r. r.now) rows.now) name.now count text.now) }
 {
     for row in rows {
         if let Some(text) = text_in(row, name, count) {
@@ -62,14 +64,16 @@ fn text_among<'a>(rows: &[&'a [u8]], name: &[u8], count: usize) -> Option<&'a [u
     None
 }
 
-/// Returns the text of the first row of a table that is about calls of this name with so many arguments.
+/// Returns the text of the first row of a table that is about calls of this name with so many
+/// arguments.
 pub(crate) fn text_of(
     alloc: Global,
     table: &'static [u8],
     name: &[u8],
     count: usize,
 ) -> Result<Option<&'static [u8]>, AllocError>
-    ensures { IfOk result (λ o. IfSome o (λ text. specs.IsAmong (parts 10 table.now) name.now count text.now)) }
+    ensures { IfOk result (λ o.
+        IfSome o (λ text. specs.IsAmong (parts 10 table.now) name.now count text.now)) }
 {
     let rows = parts(alloc, table, b'\n')?;
     Ok(text_among(rows.as_slice(), name, count))

@@ -75,7 +75,9 @@ fn push_part(
     is_condition: bool,
     out: &mut Vec<Bytes>,
 ) -> Result<(), AllocError>
-    ensures { OnOk result ((parts : List (List ℕ)) → specs.HaveBecome is_condition parts out.old.items → specs.HaveBecome (not is_condition) (parts ++ part.now ∷ []) out.new.items) }
+    ensures { OnOk result (
+        (parts : List (List ℕ)) → specs.HaveBecome is_condition parts out.old.items
+        → specs.HaveBecome (not is_condition) (parts ++ part.now ∷ []) out.new.items) }
 {
     let text = part_text(alloc, part, is_condition)?;
     out.push(text)?;
@@ -98,7 +100,9 @@ fn push_parts(alloc: Global, parts: &[&[u8]], out: &mut Vec<Bytes>) -> Result<bo
 
 /// Appends a last part that is no condition.
 fn push_default(alloc: Global, part: &[u8], out: &mut Vec<Bytes>) -> Result<bool, AllocError>
-    ensures { IfOk result (λ b. IsTrue b → (parts : List (List ℕ)) → specs.HaveBecome true parts out.old.items → specs.AllBecome (parts ++ part.now ∷ []) out.new.items) }
+    ensures { IfOk result (λ b.
+        IsTrue b → (parts : List (List ℕ)) → specs.HaveBecome true parts out.old.items
+        → specs.AllBecome (parts ++ part.now ∷ []) out.new.items) }
 {
     let text = Bytes::from_slice(alloc, part)?;
     out.push(text)?;
@@ -115,7 +119,8 @@ fn push_all(
 ) -> Result<bool, AllocError>
     requires split { map (λ p. p.now) parts.now ≡ map (λ p. p.now) front.now ++ last.now ∷ [] }
     requires empty { out.old.items ≡ [] }
-    ensures { IfOk result (λ b. IsTrue b → specs.AllBecome (map (λ p. p.now) parts.now) out.new.items) }
+    ensures { IfOk result (λ b.
+        IsTrue b → specs.AllBecome (map (λ p. p.now) parts.now) out.new.items) }
 {
     let _ = parts;
     if push_parts(alloc, front, out)? {
@@ -129,7 +134,8 @@ fn push_all(
 #[tactic(auto, using(crate::proofs::Becoming::split_views))]
 fn push_odd(alloc: Global, parts: &[&[u8]], out: &mut Vec<Bytes>) -> Result<bool, AllocError>
     requires { out.old.items ≡ [] }
-    ensures { IfOk result (λ b. IsTrue b → specs.AllBecome (map (λ p. p.now) parts.now) out.new.items) }
+    ensures { IfOk result (λ b.
+        IsTrue b → specs.AllBecome (map (λ p. p.now) parts.now) out.new.items) }
 {
     match parts.split_last() {
         Some((last, front)) => push_all(alloc, parts, front, last, out),
@@ -140,7 +146,8 @@ fn push_odd(alloc: Global, parts: &[&[u8]], out: &mut Vec<Bytes>) -> Result<bool
 /// Appends what conditions and bodies become. Returns whether this was done.
 fn push_even(alloc: Global, parts: &[&[u8]], out: &mut Vec<Bytes>) -> Result<bool, AllocError>
     requires { out.old.items ≡ [] }
-    ensures { IfOk result (λ b. IsTrue b → specs.AllBecome (map (λ p. p.now) parts.now) out.new.items) }
+    ensures { IfOk result (λ b.
+        IsTrue b → specs.AllBecome (map (λ p. p.now) parts.now) out.new.items) }
 {
     push_parts(alloc, parts, out)
 }
@@ -148,7 +155,8 @@ fn push_even(alloc: Global, parts: &[&[u8]], out: &mut Vec<Bytes>) -> Result<boo
 /// Appends what the parts become. Returns whether this was done.
 fn push_texts(alloc: Global, parts: &[&[u8]], out: &mut Vec<Bytes>) -> Result<bool, AllocError>
     requires { out.old.items ≡ [] }
-    ensures { IfOk result (λ b. IsTrue b → specs.AllBecome (map (λ p. p.now) parts.now) out.new.items) }
+    ensures { IfOk result (λ b.
+        IsTrue b → specs.AllBecome (map (λ p. p.now) parts.now) out.new.items) }
 {
     if parts.len() % 2 == 0 {
         push_even(alloc, parts, out)
@@ -157,14 +165,16 @@ fn push_texts(alloc: Global, parts: &[&[u8]], out: &mut Vec<Bytes>) -> Result<bo
     }
 }
 
-/// Returns the parts of an `if`, or of a statement that a condition guards, as they are put into a call. In each condition `-a` and `-o` of
-/// `test` become `&&` and `||` if that means the same: all joints of the condition are of one kind, and none is negated.
+/// Returns the parts of an `if`, or of a statement that a condition guards, as they are put into a
+/// call. In each condition `-a` and `-o` of `test` become `&&` and `||` if that means the same: all
+/// joints of the condition are of one kind, and none is negated.
 ///
 /// # Errors
 ///
 /// Fails only if memory runs out.
 pub fn put_texts(alloc: Global, parts: &[&[u8]]) -> Result<Option<Vec<Bytes>>, AllocError>
-    ensures { IfOk result (λ o. IfSome o (λ v. specs.AllBecome (map (λ p. p.now) parts.now) v.items)) }
+    ensures { IfOk result (λ o.
+        IfSome o (λ v. specs.AllBecome (map (λ p. p.now) parts.now) v.items)) }
 {
     let mut out = Vec::new(alloc);
     if push_texts(alloc, parts, &mut out)? {

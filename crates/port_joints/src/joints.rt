@@ -10,7 +10,8 @@ use port_compounds::is_word;
 use shellword::{ShellFault, Test, read_test};
 use std::alloc::{AllocError, Global};
 
-/// How long a condition is at most that is looked at: the time that it takes grows with the square of that.
+/// How long a condition is at most that is looked at: the time that it takes grows with the square
+/// of that.
 const LONGEST: usize = 1000;
 
 // ---- operands
@@ -59,7 +60,9 @@ fn is_front_at(text: &[u8], at: usize) -> bool
 
 /// Returns whether a double quote is at an offset, and such a byte after it.
 fn is_quoted_at(text: &[u8], at: usize) -> bool
-    ensures { IsTrue result → (slice_index text.now at ≡ 34) × (specs.begins_word (slice_index text.now (at + 1)) ≡ true) }
+    ensures { IsTrue result
+        → (slice_index text.now at ≡ 34)
+        × (specs.begins_word (slice_index text.now (at + 1)) ≡ true) }
 {
     at < text.len() && text[at] == b'"' && is_front_at(text, at + 1)
 }
@@ -88,9 +91,12 @@ fn is_option(text: &[u8], start: usize, end: usize) -> bool
     is_word(text, start, b"-n", end) || is_word(text, start, b"-z", end)
 }
 
-/// Returns whether spaces and tabs, an option, spaces and tabs, and a word are between these offsets and after them.
+/// Returns whether spaces and tabs, an option, spaces and tabs, and a word are between these
+/// offsets and after them.
 fn is_option_between(text: &[u8], at: usize, end: usize, from: usize) -> bool
-    ensures { IsTrue result → (specs.IsGap text.now 0 at × specs.IsOption text.now at end) × (specs.IsGap text.now end from × specs.IsWordAt text.now from) }
+    ensures { IsTrue result
+        → (specs.IsGap text.now 0 at × specs.IsOption text.now at end)
+        × (specs.IsGap text.now end from × specs.IsWordAt text.now from) }
 {
     is_gap_between(text, 0, at)
         && is_option(text, at, end)
@@ -183,22 +189,28 @@ struct Reading {
 
 /// Returns whether an operator is at an offset, after a space or a tab.
 fn is_operator(text: &[u8], at: usize, operator: &[u8], next: usize) -> bool
-    ensures { IsTrue result → (specs.is_gap (slice_index text.now (at - 1)) ≡ true) × IsWord text.now at operator.now next }
+    ensures { IsTrue result
+        → (specs.is_gap (slice_index text.now (at - 1)) ≡ true)
+        × IsWord text.now at operator.now next }
 {
     let before = at.saturating_sub(1);
     before < text.len() && is_gap(text[before]) && is_word(text, at, operator, next)
 }
 
-/// Returns whether a joint is between the first two offsets, then spaces and tabs, and then `test`, up to the last offset.
+/// Returns whether a joint is between the first two offsets, then spaces and tabs, and then `test`,
+/// up to the last offset.
 fn is_kept(text: &[u8], at: usize, joint: &[u8], after: usize, from: usize, end: usize) -> bool
-    ensures { IsTrue result → (IsWord text.now at joint.now after × specs.AreGaps text.now after from) × IsWord text.now from (codes "test") end }
+    ensures { IsTrue result
+        → (IsWord text.now at joint.now after × specs.AreGaps text.now after from)
+        × IsWord text.now from (codes "test") end }
 {
     is_word(text, at, joint, after)
         && are_gaps_between(text, after, from)
         && is_word(text, from, b"test", end)
 }
 
-/// Writes the operand that ends before an operator, and the joint and `test` in the place of the operator.
+/// Writes the operand that ends before an operator, and the joint and `test` in the place of the
+/// operator.
 fn write_joined(
     text: &[u8],
     joint: &[u8],
@@ -207,7 +219,11 @@ fn write_joined(
     reading: &mut Reading,
 ) -> Result<(), AllocError>
     requires { (reading.old.at ≤ at) × (at ≤ length text.now) }
-    ensures { OnOk result ((reading.new.at ≡ next) × (reading.new.out.items ≡ (reading.old.out.items ++ slice_range text.now reading.old.at at) ++ (joint.now ++ codes " test"))) }
+    ensures { OnOk result (
+        (reading.new.at ≡ next)
+        × (reading.new.out.items
+        ≡ (reading.old.out.items ++ slice_range text.now reading.old.at at)
+        ++ (joint.now ++ codes " test"))) }
 {
     reading.out.extend_from_slice(&text[reading.at..at])?;
     reading.out.extend_from_slice(joint)?;
@@ -227,9 +243,12 @@ fn go_on_joined(
 ) -> Result<(), AllocError>
     requires place { (reading.old.at ≤ at) × (at ≤ length text.now) }
     requires operand { specs.IsOperand (slice_range text.now reading.old.at at) }
-    requires is { (specs.is_gap (slice_index text.now (at - 1)) ≡ true) × IsWord text.now at operator.now next }
-    requires begun { specs.IsBegun operator.now joint.now text.now reading.old.at reading.old.out.items }
-    ensures { OnOk result (specs.IsBegun operator.now joint.now text.now reading.new.at reading.new.out.items) }
+    requires is { (specs.is_gap (slice_index text.now (at - 1)) ≡ true)
+        × IsWord text.now at operator.now next }
+    requires begun { specs.IsBegun operator.now joint.now text.now reading.old.at
+        reading.old.out.items }
+    ensures { OnOk result (
+        specs.IsBegun operator.now joint.now text.now reading.new.at reading.new.out.items) }
 {
     let _ = operator;
     write_joined(text, joint, at, next, reading)
@@ -238,7 +257,10 @@ fn go_on_joined(
 /// Writes what is before an offset, at which an operand begins.
 fn write_kept(text: &[u8], end: usize, reading: &mut Reading) -> Result<(), AllocError>
     requires { (reading.old.at ≤ end) × (end ≤ length text.now) }
-    ensures { OnOk result ((reading.new.at ≡ end) × (reading.new.out.items ≡ reading.old.out.items ++ slice_range text.now reading.old.at end)) }
+    ensures { OnOk result (
+        (reading.new.at ≡ end)
+        × (reading.new.out.items
+        ≡ reading.old.out.items ++ slice_range text.now reading.old.at end)) }
 {
     reading.out.extend_from_slice(&text[reading.at..end])?;
     reading.at = end;
@@ -258,9 +280,12 @@ fn go_on_kept(
 ) -> Result<(), AllocError>
     requires place { (reading.old.at ≤ end) × (end ≤ length text.now) }
     requires operand { specs.IsOperand (slice_range text.now reading.old.at at) }
-    requires is { (IsWord text.now at joint.now after × specs.AreGaps text.now after from) × IsWord text.now from (codes "test") end }
-    requires begun { specs.IsBegun operator.now joint.now text.now reading.old.at reading.old.out.items }
-    ensures { OnOk result (specs.IsBegun operator.now joint.now text.now reading.new.at reading.new.out.items) }
+    requires is { (IsWord text.now at joint.now after × specs.AreGaps text.now after from)
+        × IsWord text.now from (codes "test") end }
+    requires begun { specs.IsBegun operator.now joint.now text.now reading.old.at
+        reading.old.out.items }
+    ensures { OnOk result (
+        specs.IsBegun operator.now joint.now text.now reading.new.at reading.new.out.items) }
 {
     let _ = operator;
     let _ = joint;
@@ -279,8 +304,10 @@ fn read_operator(
     at: usize,
     reading: &mut Reading,
 ) -> Result<(), AllocError>
-    requires begun { specs.IsBegun operator.now joint.now text.now reading.old.at reading.old.out.items }
-    ensures { OnOk result (specs.IsBegun operator.now joint.now text.now reading.new.at reading.new.out.items) }
+    requires begun { specs.IsBegun operator.now joint.now text.now reading.old.at
+        reading.old.out.items }
+    ensures { OnOk result (
+        specs.IsBegun operator.now joint.now text.now reading.new.at reading.new.out.items) }
 {
     let next = at.saturating_add(2);
     if at < reading.at || text.len() < at || !is_operator(text, at, operator, next) {
@@ -302,8 +329,10 @@ fn read_joint(
     at: usize,
     reading: &mut Reading,
 ) -> Result<(), AllocError>
-    requires begun { specs.IsBegun operator.now joint.now text.now reading.old.at reading.old.out.items }
-    ensures { OnOk result (specs.IsBegun operator.now joint.now text.now reading.new.at reading.new.out.items) }
+    requires begun { specs.IsBegun operator.now joint.now text.now reading.old.at
+        reading.old.out.items }
+    ensures { OnOk result (
+        specs.IsBegun operator.now joint.now text.now reading.new.at reading.new.out.items) }
 {
     let after = at.saturating_add(2);
     let from = after_gap(text, after);
@@ -331,8 +360,10 @@ fn read_at(
     at: usize,
     reading: &mut Reading,
 ) -> Result<(), AllocError>
-    requires begun { specs.IsBegun operator.now joint.now text.now reading.old.at reading.old.out.items }
-    ensures { OnOk result (specs.IsBegun operator.now joint.now text.now reading.new.at reading.new.out.items) }
+    requires begun { specs.IsBegun operator.now joint.now text.now reading.old.at
+        reading.old.out.items }
+    ensures { OnOk result (
+        specs.IsBegun operator.now joint.now text.now reading.new.at reading.new.out.items) }
 {
     read_operator(alloc, text, operator, joint, at, reading)?;
     read_joint(alloc, text, operator, joint, at, reading)
@@ -346,8 +377,10 @@ fn read_all(
     joint: &[u8],
     reading: &mut Reading,
 ) -> Result<(), AllocError>
-    requires begun { specs.IsBegun operator.now joint.now text.now reading.old.at reading.old.out.items }
-    ensures { OnOk result (specs.IsBegun operator.now joint.now text.now reading.new.at reading.new.out.items) }
+    requires begun { specs.IsBegun operator.now joint.now text.now reading.old.at
+        reading.old.out.items }
+    ensures { OnOk result (
+        specs.IsBegun operator.now joint.now text.now reading.new.at reading.new.out.items) }
 {
     for at in 0..text.len() {
         read_at(alloc, text, operator, joint, at, reading)?;
@@ -365,8 +398,10 @@ fn write_last(
     requires place { reading.old.at ≤ length text.now }
     requires plain { list_any specs.is_special text.now ≡ false }
     requires operand { specs.IsOperand (slice_range text.now reading.old.at (length text.now)) }
-    requires begun { specs.IsBegun operator.now joint.now text.now reading.old.at reading.old.out.items }
-    ensures { IfOk result (λ b. IsTrue b → specs.IsRejoined operator.now joint.now text.now reading.new.out.items) }
+    requires begun { specs.IsBegun operator.now joint.now text.now reading.old.at
+        reading.old.out.items }
+    ensures { IfOk result (λ b.
+        IsTrue b → specs.IsRejoined operator.now joint.now text.now reading.new.out.items) }
 {
     let _ = operator;
     let _ = joint;
@@ -384,8 +419,10 @@ fn read_last(
     reading: &mut Reading,
 ) -> Result<bool, AllocError>
     requires plain { list_any specs.is_special text.now ≡ false }
-    requires begun { specs.IsBegun operator.now joint.now text.now reading.old.at reading.old.out.items }
-    ensures { IfOk result (λ b. IsTrue b → specs.IsRejoined operator.now joint.now text.now reading.new.out.items) }
+    requires begun { specs.IsBegun operator.now joint.now text.now reading.old.at
+        reading.old.out.items }
+    ensures { IfOk result (λ b.
+        IsTrue b → specs.IsRejoined operator.now joint.now text.now reading.new.out.items) }
 {
     if text.len() < reading.at {
         return Ok(false);
@@ -423,8 +460,10 @@ fn read_whole(
     joint: &[u8],
     reading: &mut Reading,
 ) -> Result<bool, AllocError>
-    requires begun { specs.IsBegun operator.now joint.now text.now reading.old.at reading.old.out.items }
-    ensures { IfOk result (λ b. IsTrue b → specs.IsRejoined operator.now joint.now text.now reading.new.out.items) }
+    requires begun { specs.IsBegun operator.now joint.now text.now reading.old.at
+        reading.old.out.items }
+    ensures { IfOk result (λ b.
+        IsTrue b → specs.IsRejoined operator.now joint.now text.now reading.new.out.items) }
 {
     if has_special(text) {
         return Ok(false);
@@ -433,7 +472,8 @@ fn read_whole(
     read_last(alloc, text, operator, joint, reading)
 }
 
-/// Reads a condition that has `test` before an offset. Returns what is written for it, if all of it could be read.
+/// Reads a condition that has `test` before an offset. Returns what is written for it, if all of it
+/// could be read.
 fn read_after(
     alloc: Global,
     text: &[u8],
@@ -442,7 +482,8 @@ fn read_after(
     at: usize,
 ) -> Result<Option<Vec<u8>>, AllocError>
     requires { IsWord text.now 0 (codes "test") at }
-    ensures { IfOk result (λ o. IfSome o (λ v. specs.IsRejoined operator.now joint.now text.now v.items)) }
+    ensures { IfOk result (λ o.
+        IfSome o (λ v. specs.IsRejoined operator.now joint.now text.now v.items)) }
 {
     let out = Vec::from_slice(alloc, b"test")?;
     let mut reading = Reading { at, out };
@@ -454,14 +495,16 @@ fn read_after(
     }
 }
 
-/// Returns a condition with each operator written as the joint and `test`, if all its joints are of this kind.
+/// Returns a condition with each operator written as the joint and `test`, if all its joints are of
+/// this kind.
 pub(crate) fn rejoined(
     alloc: Global,
     text: &[u8],
     operator: &[u8],
     joint: &[u8],
 ) -> Result<Option<Vec<u8>>, AllocError>
-    ensures { IfOk result (λ o. IfSome o (λ v. specs.IsRejoined operator.now joint.now text.now v.items)) }
+    ensures { IfOk result (λ o.
+        IfSome o (λ v. specs.IsRejoined operator.now joint.now text.now v.items)) }
 {
     if text.len() > LONGEST || !has_word(text, operator) || !is_word(text, 0, b"test", 4) {
         return Ok(None);

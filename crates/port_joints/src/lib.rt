@@ -1,12 +1,14 @@
-//! Writes `-a` and `-o` of `test` in a condition of a shell as `&&` and `||`, if that means the same.
+//! Writes `-a` and `-o` of `test` in a condition of a shell as `&&` and `||`, if that means the
+//! same.
 //!
 //! ```text
 //! test -n "$a" -a -z "$b"             // test -n "$a" && test -z "$b"
 //! test -n "$a" -o -z "$b" -a "$c"     // stays, since -a binds closer than -o
 //! ```
 //!
-//! Read `specs/Joints`, which says what conditions become, and then `joints` (one condition) and `conditions` (the parts of a statement,
-//! as `port_compounds` gives them). A call fails only if memory runs out. "own" marks a rule that no manual gives.
+//! Read `specs/Joints`, which says what conditions become, and then `joints` (one condition) and
+//! `conditions` (the parts of a statement, as `port_compounds` gives them). A call fails only if
+//! memory runs out. "own" marks a rule that no manual gives.
 #![tactic(auto)]
 
 mod conditions;

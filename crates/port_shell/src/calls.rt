@@ -32,7 +32,8 @@ fn put_further(out: &mut Vec<u8>, part: &[u8]) -> Result<(), AllocError>
 
 /// Appends further arguments.
 fn put_more(out: &mut Vec<u8>, parts: &[&[u8]]) -> Result<(), AllocError>
-    ensures { OnOk result (out.new.items ≡ out.old.items ++ flat_map specs.further (map (λ p. p.now) parts.now)) }
+    ensures { OnOk result (
+        out.new.items ≡ out.old.items ++ flat_map specs.further (map (λ p. p.now) parts.now)) }
 {
     for part in parts {
         put_further(out, part)?;
@@ -42,7 +43,8 @@ fn put_more(out: &mut Vec<u8>, parts: &[&[u8]]) -> Result<(), AllocError>
 
 /// Appends the arguments of a call.
 fn put_arguments(out: &mut Vec<u8>, parts: &[&[u8]]) -> Result<(), AllocError>
-    ensures { OnOk result (out.new.items ≡ out.old.items ++ specs.arguments (map (λ p. p.now) parts.now)) }
+    ensures { OnOk result (
+        out.new.items ≡ out.old.items ++ specs.arguments (map (λ p. p.now) parts.now)) }
 {
     if let Some((first, more)) = parts.split_first() {
         put_quoted(out, first)?;
@@ -74,7 +76,10 @@ fn is_quoted(alloc: Global, text: &[u8], part: &[u8]) -> Result<bool, AllocError
 
 /// Returns whether the arguments are these parts in brackets.
 fn are_quoted(alloc: Global, args: &[Arg<'_>], parts: &[&[u8]]) -> Result<bool, AllocError>
-    ensures { IfOk result (λ b. IsTrue b → map specs.text_of (map span args.now) ≡ map specs.quoted (map (λ p. p.now) parts.now)) }
+    ensures { IfOk result (λ b.
+        IsTrue b
+        → map specs.text_of (map span args.now)
+        ≡ map specs.quoted (map (λ p. p.now) parts.now)) }
 {
     if args.len() != parts.len() {
         return Ok(false);
@@ -89,7 +94,10 @@ fn are_quoted(alloc: Global, args: &[Arg<'_>], parts: &[&[u8]]) -> Result<bool, 
 
 /// Returns whether the item is a call of this macro with these arguments in brackets.
 fn is_call(alloc: Global, item: &Item<'_>, name: &[u8], parts: &[&[u8]]) -> Result<bool, AllocError>
-    ensures { IfOk result (λ b. IsTrue b → specs.IsCallItem (view item.now) name.now (map specs.quoted (map (λ p. p.now) parts.now))) }
+    ensures { IfOk result (λ b.
+        IsTrue b
+        → specs.IsCallItem (view item.now) name.now
+        (map specs.quoted (map (λ p. p.now) parts.now))) }
 {
     match item {
         Item::Bare { .. } => Ok(false),
@@ -113,7 +121,10 @@ fn are_call(
     name: &[u8],
     parts: &[&[u8]],
 ) -> Result<bool, AllocError>
-    ensures { IfOk result (λ b. IsTrue b → specs.AreCall (views items.now) name.now (map specs.quoted (map (λ p. p.now) parts.now))) }
+    ensures { IfOk result (λ b.
+        IsTrue b
+        → specs.AreCall (views items.now) name.now
+        (map specs.quoted (map (λ p. p.now) parts.now))) }
 {
     if items.len() != 1 {
         return Ok(false);
@@ -123,7 +134,9 @@ fn are_call(
 
 /// Returns whether a text, read alone, is one call of this macro with these arguments in brackets.
 fn is_one_call(alloc: Global, text: &[u8], name: &[u8], parts: &[&[u8]]) -> Result<bool, AllocError>
-    ensures { IfOk result (λ b. IsTrue b → specs.IsOneCall text.now name.now (map specs.quoted (map (λ p. p.now) parts.now))) }
+    ensures { IfOk result (λ b.
+        IsTrue b
+        → specs.IsOneCall text.now name.now (map specs.quoted (map (λ p. p.now) parts.now))) }
 {
     match read_items(alloc, text) {
         Ok(items) => are_call(alloc, items.as_slice(), name, parts),
@@ -193,13 +206,15 @@ fn has_escaped_end(text: &[u8]) -> bool
     false
 }
 
-/// Returns the call of a macro with these arguments, unless it is none, one of them ends in a backslash, or acrun doesn't accept it.
+/// Returns the call of a macro with these arguments, unless it is none, one of them ends in a
+/// backslash, or acrun doesn't accept it.
 pub(crate) fn accepted_call(
     alloc: Global,
     name: &[u8],
     parts: &[&[u8]],
 ) -> Result<Option<Vec<u8>>, AllocError>
-    ensures { IfOk result (λ o. IfSome o (λ v. specs.IsPut name.now (map (λ p. p.now) parts.now) v.items)) }
+    ensures { IfOk result (λ o.
+        IfSome o (λ v. specs.IsPut name.now (map (λ p. p.now) parts.now) v.items)) }
 {
     let text = call_text(alloc, name, parts)?;
     if has_escaped_end(text.as_slice()) {

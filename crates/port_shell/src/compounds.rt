@@ -51,7 +51,8 @@ struct Compound {
     /// Whether the word of a `case` was read.
     has_subject: bool,
     at_in: usize,
-    /// The branches of a `case` so far, and the parenthesis after the patterns of the one that was begun.
+    /// The branches of a `case` so far, and the parenthesis after the patterns of the one that was
+    /// begun.
     cases: Vec<CaseBranch>,
     at_close: usize,
 }
@@ -123,7 +124,8 @@ impl Compounds {
         Ok(found)
     }
 
-    /// Ends a statement that begins with a test, if one was begun. If something is joined to the test, the statement may be rewritten.
+    /// Ends a statement that begins with a test, if one was begun. If something is joined to the
+    /// test, the statement may be rewritten.
     fn end_guard(&mut self) -> Result<(), AllocError> {
         if let Some(guard) = self.guard {
             if guard.at_joint > 0 && guard.at_joint < guard.end {
@@ -433,7 +435,8 @@ impl Compounds {
         Ok(true)
     }
 
-    /// Reads a word of the patterns of a `case`, or of what is before them. Returns whether it is one.
+    /// Reads a word of the patterns of a `case`, or of what is before them. Returns whether it is
+    /// one.
     fn read_of_case(
         &mut self,
         text: &[u8],
@@ -462,7 +465,8 @@ impl Compounds {
         Ok(last.stage == Stage::Patterns)
     }
 
-    /// Reads a word. Returns whether it is a call that is a statement of a list that calls may be put in.
+    /// Reads a word. Returns whether it is a call that is a statement of a list that calls may be
+    /// put in.
     pub(crate) fn read_word(
         &mut self,
         alloc: Global,
@@ -552,7 +556,8 @@ impl Compounds {
         Ok(())
     }
 
-    /// Reads `&` or `|`. If it is right after a `;`, a branch of a `case` goes on with the next one.
+    /// Reads `&` or `|`. If it is right after a `;`, a branch of a `case` goes on with the next
+    /// one.
     fn read_joint(&mut self, at: usize) {
         let is_after_semicolon = at > 0 && self.semicolon == Some(at.saturating_sub(1));
         if let Some(last) = self.open.last_mut() {

@@ -1,8 +1,9 @@
-//! Rewrites statements of a shell that mean the same as a statement that acrun reads: `if` becomes AS_IF, `case`
-//! AS_CASE, and a statement after `&&` or `||` AS_IF.
+//! Rewrites statements of a shell that mean the same as a statement that acrun reads: `if` becomes
+//! AS_IF, `case` AS_CASE, and a statement after `&&` or `||` AS_IF.
 //!
-//! A statement is rewritten only if the new call, read alone, is one call with the same parts, and acrun accepts it. In a condition `-a` and
-//! `-o` of `test` become `&&` and `||` if that means the same. All else is copied to the byte.
+//! A statement is rewritten only if the new call, read alone, is one call with the same parts, and
+//! acrun accepts it. In a condition `-a` and `-o` of `test` become `&&` and `||` if that means the
+//! same. All else is copied to the byte.
 //!
 //! ```text
 //! if test -n "$a"; then b=1; else b=2; fi    // becomes AS_IF([test -n "$a"], [b=1], [b=2])
@@ -12,11 +13,13 @@
 //! if test -f a; then b=1; fi                 // stays, since acrun reads no test of files
 //! ```
 //!
-//! Read the definitions first: those of `port_compounds` say what these statements and their parts are, `specs/Calls` what is put in
-//! their place, and `Formed` what is copied. In `src`, `shell` (what each byte is to a shell), `compounds` (which statements are open) and
-//! `lists` (each list of statements of a source) look for statements. Nothing is proved of what they find: `port_compounds` reads the
-//! parts, `calls` the new call, and `puts` joins the two. `passing` is one pass over a text. A call fails only if memory runs out. "own"
-//! marks a rule that no manual gives.
+//! Read the definitions first: those of `port_compounds` say what these statements and their parts
+//! are, `specs/Calls` what is put in their place, and `Formed` what is copied. In `src`, `shell`
+//! (what each byte is to a shell), `compounds` (which statements are open) and `lists` (each list
+//! of statements of a source) look for statements. Nothing is proved of what they find:
+//! `port_compounds` reads the parts, `calls` the new call, and `puts` joins the two. `passing` is
+//! one pass over a text. A call fails only if memory runs out. "own" marks a rule that no manual
+//! gives.
 #![tactic(auto)]
 
 mod calls;

@@ -9,7 +9,8 @@ use ac_macros::{ChoiceMacro, Macro, Named, QuestionMacro};
 use lint_text::{first_line, first_name, from, is_word_byte, part, without_end_blanks};
 use std::alloc::{AllocError, Global};
 
-/// Returns whether the argument of a macro at an index holds statements, if there are so many arguments.
+/// Returns whether the argument of a macro at an index holds statements, if there are so many
+/// arguments.
 fn holds_statements(named: Named, count: usize, index: usize) -> bool {
     let first = match named {
         Named::Statement(Macro::Choice(ChoiceMacro::If)) => {
@@ -117,7 +118,8 @@ fn first_call(calls: &[CallAt], at: usize) -> usize {
 }
 
 impl Reader {
-    /// Ends the word before an offset, if there is one. The lists of a call that is a statement are appended.
+    /// Ends the word before an offset, if there is one. The lists of a call that is a statement are
+    /// appended.
     fn end_word(
         &mut self,
         alloc: Global,
@@ -230,7 +232,8 @@ impl Reader {
     }
 }
 
-/// Appends the statements of a list that may be rewritten, and the lists in the arguments of its calls.
+/// Appends the statements of a list that may be rewritten, and the lists in the arguments of its
+/// calls.
 fn read_list(
     alloc: Global,
     text: &[u8],
@@ -261,8 +264,8 @@ fn read_list(
     Ok(())
 }
 
-/// Returns the statements of a source that may be rewritten, in order of their offsets. Each is one in which no compound statement of a
-/// shell is.
+/// Returns the statements of a source that may be rewritten, in order of their offsets. Each is one
+/// in which no compound statement of a shell is.
 pub(crate) fn cuts_of(alloc: Global, text: &[u8]) -> Result<Vec<Cut>, AllocError> {
     let calls = calls_of(alloc, text)?;
     let mut lists = Vec::new(alloc);

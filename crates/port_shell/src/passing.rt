@@ -29,7 +29,10 @@ fn write_change(
     pass: &mut Pass,
 ) -> Result<(), AllocError>
     requires { (pass.old.at ≤ start) × (start ≤ length text.now) }
-    ensures { OnOk result ((pass.new.at ≡ end) × (pass.new.out.items ≡ (pass.old.out.items ++ slice_range text.now pass.old.at start) ++ put.now)) }
+    ensures { OnOk result (
+        (pass.new.at ≡ end)
+        × (pass.new.out.items
+        ≡ (pass.old.out.items ++ slice_range text.now pass.old.at start) ++ put.now)) }
 {
     pass.out.extend_from_slice(&text[pass.at..start])?;
     pass.out.extend_from_slice(put)?;
@@ -38,7 +41,8 @@ fn write_change(
     Ok(())
 }
 
-/// Writes what is put in the place of a statement between two offsets, unless the statement was in what was rewritten.
+/// Writes what is put in the place of a statement between two offsets, unless the statement was in
+/// what was rewritten.
 fn put_found(
     text: &[u8],
     start: usize,
@@ -84,7 +88,8 @@ fn pass_case(alloc: Global, text: &[u8], cut: &CaseCut, pass: &mut Pass) -> Resu
     }
 }
 
-/// Writes the call for a statement that a condition guards, if there is one, unless it was in what was rewritten.
+/// Writes the call for a statement that a condition guards, if there is one, unless it was in what
+/// was rewritten.
 fn pass_unread(alloc: Global, text: &[u8], cut: GuardCut, pass: &mut Pass) -> Result<(), AllocError>
     requires begun { specs.IsPass text.now pass.old.at pass.old.out.items }
     requires no_status { ReadsStatus text.now → ⊥ }
@@ -99,7 +104,8 @@ fn pass_unread(alloc: Global, text: &[u8], cut: GuardCut, pass: &mut Pass) -> Re
     }
 }
 
-/// Writes the call for a statement that a condition guards, unless the text reads the status of a command.
+/// Writes the call for a statement that a condition guards, unless the text reads the status of a
+/// command.
 fn pass_guard(
     alloc: Global,
     text: &[u8],
@@ -156,7 +162,8 @@ fn finish(text: &[u8], pass: &mut Pass) -> Result<(), AllocError>
     pass.out.extend_from_slice(&text[pass.at..text.len()])
 }
 
-/// Returns the text with each statement rewritten that has no other one in it, or `None` if there is none.
+/// Returns the text with each statement rewritten that has no other one in it, or `None` if there
+/// is none.
 pub(crate) fn formed_once(alloc: Global, text: &[u8]) -> Result<Option<Vec<u8>>, AllocError>
     ensures { IfOk result (λ o. IfSome o (λ v. specs.IsPass text.now (length text.now) v.items)) }
 {

@@ -33,7 +33,8 @@ fn if_call(alloc: Global, texts: &[Bytes]) -> Result<Option<Vec<u8>>, AllocError
     accepted_call(alloc, b"AS_IF", parts.as_slice())
 }
 
-/// Returns the call for an `if` with these parts, which become these texts, unless acrun doesn't accept it.
+/// Returns the call for an `if` with these parts, which become these texts, unless acrun doesn't
+/// accept it.
 fn put_if(
     alloc: Global,
     text: &[u8],
@@ -43,7 +44,8 @@ fn put_if(
 ) -> Result<Option<Vec<u8>>, AllocError>
     requires parts { IsIf text.now cut.now.start cut.now.end (map (λ p. p.now) parts.now) }
     requires texts { AllBecome (map (λ p. p.now) parts.now) texts.now }
-    ensures { IfOk result (λ o. IfSome o (λ v. specs.MayPut text.now cut.now.start cut.now.end v.items)) }
+    ensures { IfOk result (λ o.
+        IfSome o (λ v. specs.MayPut text.now cut.now.start cut.now.end v.items)) }
 {
     let _ = text;
     let _ = cut;
@@ -59,7 +61,8 @@ fn put_if_of(
     parts: &[&[u8]],
 ) -> Result<Option<Vec<u8>>, AllocError>
     requires { IsIf text.now cut.now.start cut.now.end (map (λ p. p.now) parts.now) }
-    ensures { IfOk result (λ o. IfSome o (λ v. specs.MayPut text.now cut.now.start cut.now.end v.items)) }
+    ensures { IfOk result (λ o.
+        IfSome o (λ v. specs.MayPut text.now cut.now.start cut.now.end v.items)) }
 {
     match put_texts(alloc, parts)? {
         Some(texts) => put_if(alloc, text, cut, parts, texts.as_slice()),
@@ -73,7 +76,8 @@ pub(crate) fn put_for_if(
     text: &[u8],
     cut: &IfCut,
 ) -> Result<Option<Vec<u8>>, AllocError>
-    ensures { IfOk result (λ o. IfSome o (λ v. specs.MayPut text.now cut.now.start cut.now.end v.items)) }
+    ensures { IfOk result (λ o.
+        IfSome o (λ v. specs.MayPut text.now cut.now.start cut.now.end v.items)) }
 {
     match if_parts(alloc, text, cut)? {
         Some(parts) => put_if_of(alloc, text, cut, parts.as_slice()),
@@ -89,7 +93,8 @@ fn put_case(
     parts: &[&[u8]],
 ) -> Result<Option<Vec<u8>>, AllocError>
     requires { IsCase text.now cut.now.start cut.now.end (map (λ p. p.now) parts.now) }
-    ensures { IfOk result (λ o. IfSome o (λ v. specs.MayPut text.now cut.now.start cut.now.end v.items)) }
+    ensures { IfOk result (λ o.
+        IfSome o (λ v. specs.MayPut text.now cut.now.start cut.now.end v.items)) }
 {
     let _ = text;
     let _ = cut;
@@ -102,7 +107,8 @@ pub(crate) fn put_for_case(
     text: &[u8],
     cut: &CaseCut,
 ) -> Result<Option<Vec<u8>>, AllocError>
-    ensures { IfOk result (λ o. IfSome o (λ v. specs.MayPut text.now cut.now.start cut.now.end v.items)) }
+    ensures { IfOk result (λ o.
+        IfSome o (λ v. specs.MayPut text.now cut.now.start cut.now.end v.items)) }
 {
     match case_parts(alloc, text, cut)? {
         Some(parts) => put_case(alloc, text, cut, parts.as_slice()),
@@ -110,7 +116,8 @@ pub(crate) fn put_for_case(
     }
 }
 
-/// Returns the call for a statement that a condition guards, with these parts, which become these texts, unless acrun doesn't accept it.
+/// Returns the call for a statement that a condition guards, with these parts, which become these
+/// texts, unless acrun doesn't accept it.
 fn put_guard(
     alloc: Global,
     text: &[u8],
@@ -129,7 +136,8 @@ fn put_guard(
     if_call(alloc, texts)
 }
 
-/// Returns the call for a statement that a condition guards, with these parts, unless acrun doesn't accept it.
+/// Returns the call for a statement that a condition guards, with these parts, unless acrun doesn't
+/// accept it.
 fn put_guard_of(
     alloc: Global,
     text: &[u8],
@@ -146,7 +154,8 @@ fn put_guard_of(
     }
 }
 
-/// Returns the call for a statement that a condition guards, unless it is none, or acrun doesn't accept it.
+/// Returns the call for a statement that a condition guards, unless it is none, or acrun doesn't
+/// accept it.
 pub(crate) fn put_for_guard(
     alloc: Global,
     text: &[u8],

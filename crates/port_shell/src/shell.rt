@@ -105,7 +105,8 @@ impl Shell {
         }
     }
 
-    /// Returns whether a command may have its words here: no quote is open, and this is no comment and no here-document.
+    /// Returns whether a command may have its words here: no quote is open, and this is no comment
+    /// and no here-document.
     pub(crate) fn is_at_command(&self) -> bool {
         self.open.is_empty() && !self.is_comment && !self.is_here && !self.is_escaped
     }
@@ -328,7 +329,8 @@ impl Shell {
         }
     }
 
-    /// Takes a word that may be the delimiter of a here-document. Returns whether it is no word of a command.
+    /// Takes a word that may be the delimiter of a here-document. Returns whether it is no word of
+    /// a command.
     pub(crate) fn take_delimiter(
         &mut self,
         alloc: Global,

@@ -1,4 +1,5 @@
-//! Runs of a source: the plan of its statements, walked from its first step to an end, with its jobs run by a crew.
+//! Runs of a source: the plan of its statements, walked from its first step to an end, with its
+//! jobs run by a crew.
 //!
 //! ```text
 //! let plan = compile(alloc, &source)?;
@@ -7,15 +8,17 @@
 //! // end.outcome, end.vars, end.defs, end.messages and end.log
 //! ```
 //!
-//! Read `specs/Ran` (a run over a crew) with `specs/Starts` (the events of one), then `running`, then `serving` with
-//! `specs/Serving` (the jobs of one group, in slots). `specs/Progress` says how far a run is between two groups of
-//! jobs. `slots` and `queue` are small, and `agreeing` has a law.
+//! Read `specs/Ran` (a run over a crew) with `specs/Starts` (the events of one), then `running`,
+//! then `serving` with `specs/Serving` (the jobs of one group, in slots). `specs/Progress` says how
+//! far a run is between two groups of jobs. `slots` and `queue` are small, and `agreeing` has a
+//! law.
 //!
-//! What a run leaves is the meaning of the statements under the replies of the crew: the plan's walk is that meaning
-//! (`plan::compile`), a machine follows that walk from its beginning to its end ([`Machine::advance`]), and one start of
-//! each job that it asks for is attempted, in order. A run begins with the given variables and no definitions. No child
-//! is left in flight. Under the same replies, what a run leaves depends neither on the window nor on the order in which
-//! children end.
+//! What a run leaves is the meaning of the statements under the replies of the crew: the plan's
+//! walk is that meaning (`plan::compile`), a machine follows that walk from its beginning to its
+//! end ([`Machine::advance`]), and one start of each job that it asks for is attempted, in order. A
+//! run begins with the given variables and no definitions. No child is left in flight. Under the
+//! same replies, what a run leaves depends neither on the window nor on the order in which children
+//! end.
 #![tactic(auto)]
 
 mod agreeing;

@@ -45,8 +45,13 @@ fn run_groups<C: Crew>(
     ensures idle { IsIdle (C.account crew.new).events }
     ensures landed { in_flight (C.account crew.new).events ≡ in_flight (C.account crew.old).events }
     ensures ended { OnOk result (IsSome (outcome_of machine.new.phase)) }
-    ensures ran { OnOk result ((end : RunEnd) → Leaves machine.new.phase machine.new end → Ran (length slots.old) (whole (walk plan.now 0 empty_mind machine.old.state)) (C.account crew.old) (C.account crew.new) end) }
-    ensures begun { OnErr result (HasBegun (length slots.old) (whole (walk plan.now 0 empty_mind machine.old.state)) (C.account crew.old) (C.account crew.new)) }
+    ensures ran { OnOk result (
+        (end : RunEnd) → Leaves machine.new.phase machine.new end
+        → Ran (length slots.old) (whole (walk plan.now 0 empty_mind machine.old.state))
+        (C.account crew.old) (C.account crew.new) end) }
+    ensures begun { OnErr result (
+        HasBegun (length slots.old) (whole (walk plan.now 0 empty_mind machine.old.state))
+        (C.account crew.old) (C.account crew.new)) }
 {
     bound(plan);
     // the label is for the proof only
@@ -74,18 +79,24 @@ fn run_in<C: Crew>(
     requires may_run { MayRun (C.account crew.old) }
     ensures idle { IsIdle (C.account crew.new).events }
     ensures landed { in_flight (C.account crew.new).events ≡ in_flight (C.account crew.old).events }
-    ensures ran { IfOk result (λ end. Ran (length slots.old) (whole (walk plan.now 0 empty_mind (opened vars))) (C.account crew.old) (C.account crew.new) end) }
-    ensures begun { OnErr result (HasBegun (length slots.old) (whole (walk plan.now 0 empty_mind (opened vars))) (C.account crew.old) (C.account crew.new)) }
+    ensures ran { IfOk result (λ end.
+        Ran (length slots.old) (whole (walk plan.now 0 empty_mind (opened vars)))
+        (C.account crew.old) (C.account crew.new) end) }
+    ensures begun { OnErr result (
+        HasBegun (length slots.old) (whole (walk plan.now 0 empty_mind (opened vars)))
+        (C.account crew.old) (C.account crew.new)) }
 {
     let mut machine = Machine::new(alloc, plan, vars);
     run_groups(alloc, plan, &mut machine, crew, slots)?;
     Ok(machine.end())
 }
 
-/// Runs a plan over a crew, with these variables and no definitions, and at most `window` children at once.
+/// Runs a plan over a crew, with these variables and no definitions, and at most `window` children
+/// at once.
 ///
-/// Each start takes the least free slot. No child is left in flight, whatever the result. The crew has no child in
-/// flight before the run, and counts starts and refusals up to 2^62; a plan asks for at most 2^36 jobs.
+/// Each start takes the least free slot. No child is left in flight, whatever the result. The crew
+/// has no child in flight before the run, and counts starts and refusals up to 2^62; a plan asks
+/// for at most 2^36 jobs.
 ///
 /// # Errors
 ///
@@ -101,11 +112,17 @@ pub fn run<C: Crew>(
     requires may_run { MayRun (C.account crew.old) }
     ensures idle { IsIdle (C.account crew.new).events }
     ensures landed { in_flight (C.account crew.new).events ≡ in_flight (C.account crew.old).events }
-    ensures ran { IfOk result (λ end. Ran window (whole (walk plan.now 0 empty_mind (opened vars))) (C.account crew.old) (C.account crew.new) end) }
+    ensures ran { IfOk result (λ end.
+        Ran window (whole (walk plan.now 0 empty_mind (opened vars))) (C.account crew.old)
+        (C.account crew.new) end) }
     // If memory runs out, the starts so far, and their replies, are those of the same run.
-    ensures begun { OnErr result (HasBegun window (whole (walk plan.now 0 empty_mind (opened vars))) (C.account crew.old) (C.account crew.new)) }
+    ensures begun { OnErr result (
+        HasBegun window (whole (walk plan.now 0 empty_mind (opened vars))) (C.account crew.old)
+        (C.account crew.new)) }
     // If the plan does what a list of statements does, what was run is the meaning of that list.
-    ensures meaning { (script : Script) → DoesWhat plan.now script → WasRun window (whole (meaning script (opened vars))) (C.account crew.old) (C.account crew.new) result }
+    ensures meaning { (script : Script) → DoesWhat plan.now script
+        → WasRun window (whole (meaning script (opened vars))) (C.account crew.old)
+        (C.account crew.new) result }
 {
     let mut slots = free_slots(alloc, window)?;
     run_in(alloc, plan, vars, crew, slots.as_mut_slice())

@@ -33,15 +33,19 @@ fn start_one<C: Crew>(
     job: Job,
     started: usize,
 )
-    requires serving { (before : Account) × Serving before machine.old.jobs started machine.old.replies slots.old (C.account crew.old) }
+    requires serving { (before : Account)
+        × Serving before machine.old.jobs started machine.old.replies slots.old
+        (C.account crew.old) }
     requires next { slice_get machine.old.jobs started ≡ Some job }
     requires free { slice_get slots.old slot ≡ Some None }
     requires least { HeldBelow slot slots.old }
     requires at_most_16 { length slots.old ≤ 16 }
     requires attempts { (C.account crew.old).attempts < 2 ^ 62 }
     requires failures { (C.account crew.old).failures < 2 ^ 62 }
-    ensures serving { (before : Account) → Serving before machine.old.jobs started machine.old.replies slots.old (C.account crew.old)
-        → Serving before machine.old.jobs (started + 1) machine.new.replies slots.new (C.account crew.new) }
+    ensures serving { (before : Account)
+        → Serving before machine.old.jobs started machine.old.replies slots.old (C.account crew.old)
+        → Serving before machine.old.jobs (started + 1) machine.new.replies slots.new
+        (C.account crew.new) }
     ensures fewer { open_count machine.new.replies ≤ open_count machine.old.replies }
     ensures unchanged { machine.new ≡ record machine.old { replies = machine.new.replies } }
 {
@@ -53,12 +57,16 @@ fn start_one<C: Crew>(
 
 // Waits until a child ends, and gives its reply to the machine.
 fn end_one<C: Crew>(machine: &mut Machine, crew: &mut C, slots: &mut [Option<usize>])
-    requires serving { (before : Account) × (started : ℕ) × Serving before machine.old.jobs started machine.old.replies slots.old (C.account crew.old) }
+    requires serving { (before : Account) × (started : ℕ)
+        × Serving before machine.old.jobs started machine.old.replies slots.old
+        (C.account crew.old) }
     requires held { HasHeld slots.old }
     requires failures { (C.account crew.old).failures < 2 ^ 62 }
-    ensures serving { (before : Account) (started : ℕ) → Serving before machine.old.jobs started machine.old.replies slots.old (C.account crew.old)
+    ensures serving { (before : Account) (started : ℕ)
+        → Serving before machine.old.jobs started machine.old.replies slots.old (C.account crew.old)
         → MayWait slots.old started machine.old.jobs
-        → Serving before machine.old.jobs started machine.new.replies slots.new (C.account crew.new) }
+        → Serving before machine.old.jobs started machine.new.replies slots.new
+        (C.account crew.new) }
     ensures fewer { open_count machine.new.replies < open_count machine.old.replies }
     ensures unchanged { machine.new ≡ record machine.old { replies = machine.new.replies } }
 {
@@ -83,7 +91,8 @@ pub(crate) fn serve<C: Crew>(
     requires window { IsWindow (length slots.old) }
     requires attempts { (C.account crew.old).attempts + length machine.old.jobs ≤ 2 ^ 62 }
     requires failures { (C.account crew.old).failures + length machine.old.jobs ≤ 2 ^ 62 }
-    ensures served { Served (length slots.old) (C.account crew.old) machine.old.jobs machine.new.replies (C.account crew.new) }
+    ensures served { Served (length slots.old) (C.account crew.old) machine.old.jobs
+        machine.new.replies (C.account crew.new) }
     ensures unchanged { machine.new ≡ record machine.old { replies = machine.new.replies } }
     ensures free { AllFree slots.new }
 {

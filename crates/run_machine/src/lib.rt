@@ -13,12 +13,13 @@
 //! let end = machine.end();                // the outcome, the variables and the definitions
 //! ```
 //!
-//! Read `specs/Standing` (the position of a machine in a plan, the run that remains from there, and a turn), then
-//! `machine`. The crate `run_step` has single steps, and `run_state` what they change.
+//! Read `specs/Standing` (the position of a machine in a plan, the run that remains from there, and
+//! a turn), then `machine`. The crate `run_step` has single steps, and `run_state` what they
+//! change.
 //!
-//! The theorem is about one run: the plan's walk, with the variables that the machine was given and no definitions. At
-//! each turn, the run that remains is what the walk leaves to do, and each group of replies leads to the run that
-//! follows them.
+//! The theorem is about one run: the plan's walk, with the variables that the machine was given and
+//! no definitions. At each turn, the run that remains is what the walk leaves to do, and each group
+//! of replies leads to the run that follows them.
 #![tactic(auto)]
 
 mod machine;

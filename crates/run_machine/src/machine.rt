@@ -35,7 +35,8 @@ pub enum Turn {
     Ask,
     /// Nothing: the run is completed.
     Done,
-    /// Nothing: the run is stopped, by an error with this exit status, or with status 1 because there is no compiler.
+    /// Nothing: the run is stopped, by an error with this exit status, or with status 1 because
+    /// there is no compiler.
     Stopped(u8),
     /// Nothing: the run is cut short, because the child of this number, from 1, was refused.
     Cut(u64),
@@ -46,7 +47,8 @@ pub enum Turn {
 pub enum RunOutcome {
     /// AC_OUTPUT, or the end of the plan, was reached.
     Completed,
-    /// An error stopped the run with this exit status, or there was no compiler, which has status 1.
+    /// An error stopped the run with this exit status, or there was no compiler, which has status
+    /// 1.
     Stopped(u8),
     /// The start or the end of the child of this number, from 1, was refused.
     CutShort(u64),
@@ -133,14 +135,25 @@ impl Model for Machine {
 }
 
 impl Machine {
-    /// Creates a machine before the first step of the plan, with these variables and no definitions. It allocates
-    /// nothing.
+    /// Creates a machine before the first step of the plan, with these variables and no
+    /// definitions. It allocates nothing.
     #[tactic(auto, using(crate::proofs::Goes::meant_at_first))]
     pub fn new(alloc: Global, plan: &Plan, vars: Vars) -> Machine
-        ensures value { result ≡ record { phase = Phase.Going; place = 0; mind = empty_mind; state = opened vars; wait = waits.Nothing; before = 0; jobs = []; replies = [] } }
+        ensures value { result
+            ≡ record {
+              phase = Phase.Going;
+              place = 0;
+              mind = empty_mind;
+              state = opened vars;
+              wait = waits.Nothing;
+              before = 0;
+              jobs = [];
+              replies = [];
+            } }
         // If the plan does what a list of statements does, the run that remains is the meaning of
         // that list. Each turn leaves the run that remained before it, once its replies are taken.
-        ensures meaning { (script : Script) → DoesWhat plan.now script → run_at plan.now result ≡ whole (meaning script (opened vars)) }
+        ensures meaning { (script : Script) → DoesWhat plan.now script
+            → run_at plan.now result ≡ whole (meaning script (opened vars)) }
     {
         let _plan = plan;
         Machine {
@@ -167,7 +180,8 @@ impl Machine {
     /// Gives the reply to the job at index `k` of [`asked`](Machine::asked), which has none yet.
     pub fn give(&mut self, k: usize, reply: Reply)
         requires { slice_get self.old.replies k ≡ Some None }
-        ensures { self.new ≡ record self.old { replies = slice_set self.old.replies k (Some reply) } }
+        ensures { self.new
+            ≡ record self.old { replies = slice_set self.old.replies k (Some reply) } }
     {
         put(self.replies.as_mut_slice(), k, reply);
     }
@@ -179,8 +193,9 @@ impl Machine {
         refuse_rest(self.replies.as_mut_slice());
     }
 
-    /// Advances to the next jobs or to the end of the run, once each job that is asked for has its reply. A job without
-    /// one counts as a refused start. At the end of the run, returns the same turn again.
+    /// Advances to the next jobs or to the end of the run, once each job that is asked for has its
+    /// reply. A job without one counts as a refused start. At the end of the run, returns the same
+    /// turn again.
     ///
     /// # Errors
     ///
@@ -207,7 +222,15 @@ impl Machine {
     /// Returns the result of a run that is at its end.
     pub fn end(self) -> RunEnd
         requires { IsSome (outcome_of self.phase) }
-        ensures { IfSome (outcome_of self.phase) (λ outcome. result ≡ record { outcome = outcome; vars = self.state.vars; defs = self.state.defs; messages = self.state.messages; log = self.state.log }) }
+        ensures { IfSome (outcome_of self.phase) (λ outcome.
+            result
+            ≡ record {
+              outcome = outcome;
+              vars = self.state.vars;
+              defs = self.state.defs;
+              messages = self.state.messages;
+              log = self.state.log;
+            }) }
     {
         let Machine {
             alloc: _alloc,
@@ -241,13 +264,21 @@ impl Machine {
 
     // Does a step. The machine stays before it until `arrive`.
     fn step(&mut self, step: &Step) -> Result<Flow, AllocError>
-        ensures unchanged { OnOk result (self.new ≡ record self.old { phase = Phase.Failed; mind = self.new.mind; state = self.new.state }) }
-        ensures err { OnErr result (self.new ≡ record self.old { phase = Phase.Failed; mind = self.new.mind; state = self.new.state }) }
+        ensures unchanged { OnOk result (
+            self.new
+            ≡ record self.old
+            { phase = Phase.Failed; mind = self.new.mind; state = self.new.state }) }
+        ensures err { OnErr result (
+            self.new
+            ≡ record self.old
+            { phase = Phase.Failed; mind = self.new.mind; state = self.new.state }) }
         ensures within { IfOk result (λ flow. passed flow ≤ reach (instruction_of step.now)) }
         ensures asks { IfOk result (λ flow. asks_now flow ≤ asks_of (instruction_of step.now)) }
         ensures group { IfOk result IsGroup }
         ensures heeds { IfOk result (λ flow. Heeds flow None) }
-        ensures leads { IfOk result (λ flow. Continues flow (λ next. act (instruction_of step.now) next self.old.mind self.old.state) self.new.mind self.new.state) }
+        ensures leads { IfOk result (λ flow.
+            Continues flow (λ next. act (instruction_of step.now) next self.old.mind self.old.state)
+            self.new.mind self.new.state) }
     {
         self.phase = Phase::Failed;
         do_step(
@@ -264,10 +295,35 @@ impl Machine {
         requires awaits { Awaits self.old.wait self.old.jobs }
         requires replies { length self.old.replies ≡ length self.old.jobs }
         requires room { self.old.before + length self.old.jobs < 2 ^ 64 }
-        ensures unchanged { OnOk result (self.new ≡ record self.old { phase = Phase.Failed; mind = minded self.new.mind.scope self.old.mind.open_tests; state = self.new.state; wait = waits.Nothing; before = self.old.before + length self.old.jobs; jobs = []; replies = [] }) }
-        ensures err { OnErr result (self.new ≡ record self.old { phase = Phase.Failed; mind = minded self.new.mind.scope self.old.mind.open_tests; state = self.new.state; wait = waits.Nothing; before = self.old.before + length self.old.jobs; jobs = []; replies = [] }) }
-        ensures step { IfOk result (IsStep (waits_for self.old.wait) (refused_after self.old.before (given self.old.replies))) }
-        ensures leads { IfOk result (λ flow. Leads flow (λ tests next. resumed tests self.old.wait self.old.jobs (given self.old.replies) (next 0) self.old.mind.scope self.old.state) self.new.mind.scope self.new.state) }
+        ensures unchanged { OnOk result (
+            self.new
+            ≡ record self.old {
+              phase = Phase.Failed;
+              mind = minded self.new.mind.scope self.old.mind.open_tests;
+              state = self.new.state;
+              wait = waits.Nothing;
+              before = self.old.before + length self.old.jobs;
+              jobs = [];
+              replies = [];
+            }) }
+        ensures err { OnErr result (
+            self.new
+            ≡ record self.old {
+              phase = Phase.Failed;
+              mind = minded self.new.mind.scope self.old.mind.open_tests;
+              state = self.new.state;
+              wait = waits.Nothing;
+              before = self.old.before + length self.old.jobs;
+              jobs = [];
+              replies = [];
+            }) }
+        ensures step { IfOk result (
+            IsStep (waits_for self.old.wait) (
+            refused_after self.old.before (given self.old.replies))) }
+        ensures leads { IfOk result (λ flow.
+            Leads flow (λ tests next.
+            resumed tests self.old.wait self.old.jobs (given self.old.replies) (next 0)
+            self.old.mind.scope self.old.state) self.new.mind.scope self.new.state) }
     {
         self.phase = Phase::Failed;
         let before = self.before;
@@ -308,7 +364,14 @@ impl Machine {
     // Asks for jobs, and waits for their replies.
     fn ask(&mut self, jobs: Vec<Job>, wait: Wait) -> Result<Option<Turn>, AllocError>
         ensures turn { IfOk result (λ turn. turn ≡ Some Turn.Ask) }
-        ensures moved { OnOk result (self.new ≡ record self.old { phase = Phase.Asking; wait = wait; jobs = jobs.items; replies = replicate (length jobs.items) None }) }
+        ensures moved { OnOk result (
+            self.new
+            ≡ record self.old {
+              phase = Phase.Asking;
+              wait = wait;
+              jobs = jobs.items;
+              replies = replicate (length jobs.items) None;
+            }) }
         ensures err { OnErr result (self.new ≡ self.old) }
     {
         let replies = no_replies(self.alloc, jobs.len())?;
@@ -319,7 +382,12 @@ impl Machine {
 
     // Breaks the tests that are not at their end, and ends the run in this phase.
     fn end_in(&mut self, phase: Phase)
-        ensures { self.new ≡ record self.old { phase = phase; mind = minded self.old.mind.scope []; state = unset_all self.old.mind.open_tests self.old.state } }
+        ensures { self.new
+            ≡ record self.old {
+              phase = phase;
+              mind = minded self.old.mind.scope [];
+              state = unset_all self.old.mind.open_tests self.old.state;
+            } }
     {
         unset_all(&mut self.store, &mut self.tests);
         self.phase = phase;
@@ -327,17 +395,32 @@ impl Machine {
 
     // Breaks the tests that are not at their end, which are cut short.
     fn refuse_tests(&mut self) -> Result<(), AllocError>
-        ensures moved { OnOk result (self.new ≡ record self.old { mind = minded self.old.mind.scope []; state = refused_all self.old.mind.open_tests self.old.state }) }
-        ensures err { OnErr result (self.new ≡ record self.old { mind = self.new.mind; state = self.new.state }) }
+        ensures moved { OnOk result (
+            self.new
+            ≡ record self.old {
+              mind = minded self.old.mind.scope [];
+              state = refused_all self.old.mind.open_tests self.old.state;
+            }) }
+        ensures err { OnErr result (
+            self.new ≡ record self.old { mind = self.new.mind; state = self.new.state }) }
     {
         refuse_all(self.alloc, &mut self.store, &mut self.tests)
     }
 
-    // Breaks the tests that are not at their end, prints the line of the cut, and ends the run there.
+    // Breaks the tests that are not at their end, prints the line of the cut, and ends the run
+    // there.
     fn cut_at(&mut self, number: u64) -> Result<Option<Turn>, AllocError>
         ensures turn { IfOk result (λ turn. turn ≡ Some (Turn.Cut number)) }
-        ensures moved { OnOk result (self.new ≡ record self.old { phase = Phase.Cut number; mind = minded self.old.mind.scope []; state = with_cut_line (Some number) (refused_all self.old.mind.open_tests self.old.state) }) }
-        ensures err { OnErr result (self.new ≡ record self.old { mind = self.new.mind; state = self.new.state }) }
+        ensures moved { OnOk result (
+            self.new
+            ≡ record self.old {
+              phase = Phase.Cut number;
+              mind = minded self.old.mind.scope [];
+              state = with_cut_line (Some number)
+                  (refused_all self.old.mind.open_tests self.old.state);
+            }) }
+        ensures err { OnErr result (
+            self.new ≡ record self.old { mind = self.new.mind; state = self.new.state }) }
     {
         self.refuse_tests()?;
         report_cut(self.alloc, &mut self.store, number)?;
@@ -350,7 +433,8 @@ impl Machine {
         requires room { self.old.place + (1 + passed flow) < 2 ^ 64 }
         ensures turn { IfOk result (λ turn. turn ≡ turn_by flow) }
         ensures moved { OnOk result (self.new ≡ arrived flow self.old) }
-        ensures err { OnErr result (self.new ≡ record self.old { mind = self.new.mind; state = self.new.state }) }
+        ensures err { OnErr result (
+            self.new ≡ record self.old { mind = self.new.mind; state = self.new.state }) }
     {
         match flow {
             Flow::Pass { more } => {
@@ -381,7 +465,8 @@ impl Machine {
     fn go_on(&mut self, steps: &[Step]) -> Result<Turn, AllocError>
         requires rests { Rests (map instruction_of steps.now) (with_phase Phase.Going self.old) }
         requires inside { StaysInside (map instruction_of steps.now) }
-        ensures turned { IfOk result (λ turn. Turned (map instruction_of steps.now) turn (with_phase Phase.Going self.old) self.new) }
+        ensures turned { IfOk result (λ turn.
+            Turned (map instruction_of steps.now) turn (with_phase Phase.Going self.old) self.new) }
         ensures err { OnErr result (self.new.phase ≡ Phase.Failed) }
         ensures fits_after_error { OnErr result (Fits (map instruction_of steps.now) self.new) }
     {
@@ -402,7 +487,8 @@ impl Machine {
         requires holds { Holds (map instruction_of steps.now) self.old }
         requires inside { StaysInside (map instruction_of steps.now) }
         requires within { asks_after (map instruction_of steps.now) 0 ≤ 2 ^ 36 }
-        ensures turned { IfOk result (λ turn. Turned (map instruction_of steps.now) turn self.old self.new) }
+        ensures turned { IfOk result (λ turn.
+            Turned (map instruction_of steps.now) turn self.old self.new) }
         ensures err { OnErr result (self.new.phase ≡ Phase.Failed) }
         ensures fits_after_error { OnErr result (Fits (map instruction_of steps.now) self.new) }
     {

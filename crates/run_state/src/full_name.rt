@@ -18,7 +18,8 @@ fn starts_slash(text: &[u8]) -> bool
     }
 }
 
-/// Returns whether a text is a full name: it begins with a slash or a backslash, or with one byte, a colon and one of these.
+/// Returns whether a text is a full name: it begins with a slash or a backslash, or with one byte,
+/// a colon and one of these.
 pub(crate) fn is_full_name(text: &[u8]) -> bool
     ensures { result ≡ is_full_name text.now }
 {

@@ -1,5 +1,5 @@
-//! What the steps of a run change: its variables and definitions, its messages and log, and the subject of the choice
-//! that began last.
+//! What the steps of a run change: its variables and definitions, its messages and log, and the
+//! subject of the choice that began last.
 //!
 //! ```text
 //! let mut store = Store::new(alloc, vars);
@@ -8,9 +8,10 @@
 //! end_check(alloc, &mut store, b"yes")?;              // prints `yes` and a newline
 //! ```
 //!
-//! `store` holds all but the subject, and contracts see it as a state of the meaning. `pieces` prints messages. `scope`
-//! is the subject of a choice. `open_tests` has the tests that are not at their end. `package` and `literal` are for
-//! AC_INIT. `full_name` says which names are full. The crate `run_machine` takes the steps.
+//! `store` holds all but the subject, and contracts see it as a state of the meaning. `pieces`
+//! prints messages. `scope` is the subject of a choice. `open_tests` has the tests that are not at
+//! their end. `package` and `literal` are for AC_INIT. `full_name` says which names are full. The
+//! crate `run_machine` takes the steps.
 #![tactic(auto)]
 
 mod full_name;

@@ -40,7 +40,10 @@ fn set_package_string(
     title: &[u8],
     version: &[u8],
 ) -> Result<(), AllocError>
-    ensures { OnOk result (store.new ≡ packages.with_package store.old (codes "PACKAGE_STRING") (packages.package_string title.now version.now)) }
+    ensures { OnOk result (
+        store.new
+        ≡ packages.with_package store.old (codes "PACKAGE_STRING")
+        (packages.package_string title.now version.now)) }
 {
     let string = package_string(alloc, title, version)?;
     set_package(alloc, store, b"PACKAGE_STRING", string.as_slice())
@@ -57,7 +60,9 @@ pub fn initialise(
     tarname: &[u8],
     url: &[u8],
 ) -> Result<(), AllocError>
-    ensures { OnOk result (store.new ≡ packages.initialised title.now version.now bug.now tarname.now url.now store.old) }
+    ensures { OnOk result (
+        store.new
+        ≡ packages.initialised title.now version.now bug.now tarname.now url.now store.old) }
 {
     set_package(alloc, store, b"PACKAGE_NAME", title)?;
     set_package(alloc, store, b"PACKAGE_TARNAME", tarname)?;

@@ -24,7 +24,12 @@ struct Form {
 
 /// Returns the form of a message.
 fn form_of(message: Message) -> Form
-    ensures { record { stream = result.stream; before = result.before.now; after = result.after.now } ≡ form_of message }
+    ensures { record {
+      stream = result.stream;
+      before = result.before.now;
+      after = result.after.now;
+    }
+        ≡ form_of message }
 {
     match message {
         Message::Checking => Form {
@@ -84,7 +89,8 @@ pub fn begin_check(alloc: Global, store: &mut Store, message: &[u8]) -> Result<(
 
 /// Prints that a declaration is looked for.
 pub fn begin_declaration(alloc: Global, store: &mut Store, name: &[u8]) -> Result<(), AllocError>
-    ensures { OnOk result (store.new ≡ checking (codes "whether " ++ name.now ++ codes " is declared") store.old) }
+    ensures { OnOk result (
+        store.new ≡ checking (codes "whether " ++ name.now ++ codes " is declared") store.old) }
 {
     store.tell(
         alloc,
@@ -128,7 +134,8 @@ pub fn end_search(alloc: Global, store: &mut Store, value: &[u8]) -> Result<(), 
 
 /// Prints the value of a search whose name is set, or `no` if it is empty.
 pub fn end_cached(alloc: Global, store: &mut Store, value: &[u8]) -> Result<(), AllocError>
-    ensures { OnOk result (store.new ≡ with_result (codes "(cached) " ++ text_or_no value.now) store.old) }
+    ensures { OnOk result (
+        store.new ≡ with_result (codes "(cached) " ++ text_or_no value.now) store.old) }
 {
     end_known_check(alloc, store, text_or_no(value))
 }

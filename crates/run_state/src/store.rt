@@ -21,7 +21,8 @@ use shellword::{HereText, Test, Word};
 use std::alloc::{AllocError, Global};
 use std::marker::Model;
 
-/// Variables and definitions, the messages that were printed, and the log. Contracts see them as a state.
+/// Variables and definitions, the messages that were printed, and the log. Contracts see them as a
+/// state.
 pub struct Store {
     vars: Vars,
     defs: Defs,
@@ -92,7 +93,8 @@ impl Store {
         text: &[u8],
         after: &[u8],
     ) -> Result<(), AllocError>
-        ensures { OnOk result (self.new ≡ told stream (before.now ++ text.now ++ after.now) self.old) }
+        ensures { OnOk result (
+            self.new ≡ told stream (before.now ++ text.now ++ after.now) self.old) }
     {
         let piece = Bytes::concat(alloc, &[before, text, after])?;
         self.put_piece(alloc, stream, piece)
@@ -145,7 +147,8 @@ impl Store {
 
     /// Sets a variable to the value of another, if that is set. Returns whether it is.
     pub fn copy_value(&mut self, alloc: Global, from: &[u8], to: &[u8]) -> Result<bool, AllocError>
-        ensures { IfOk result (λ b. Copied (value_of self.old.vars from.now) to.now b self.old self.new) }
+        ensures { IfOk result (λ b.
+            Copied (value_of self.old.vars from.now) to.now b self.old self.new) }
     {
         let Some(value) = self.value_of(alloc, from)? else {
             return Ok(false);
@@ -244,7 +247,8 @@ impl Store {
 
     /// Returns the variables, the definitions, the messages and the log.
     pub fn into_parts(self) -> (Vars, Defs, Notes, Log)
-        ensures { record { vars = result.0; defs = result.1; messages = result.2; log = result.3 } ≡ self }
+        ensures { record { vars = result.0; defs = result.1; messages = result.2; log = result.3 }
+            ≡ self }
     {
         let Store {
             vars,

@@ -1,4 +1,5 @@
-//! The beginnings of choices: words, and questions (Autoconf's manual, "Existing Tests" and "Writing Tests").
+//! The beginnings of choices: words, and questions (Autoconf's manual, "Existing Tests" and
+//! "Writing Tests").
 
 ghost use Rattle.std.specs.Prelude.{◌≡◌, ◌<◌, IfOk, None, length};
 ghost use Rattle.deftable.specs.Table as tables;

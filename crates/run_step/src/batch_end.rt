@@ -26,7 +26,8 @@ fn take_job(jobs: &mut Vec<Job>, asks: bool) -> Option<Job>
     if asks { jobs.pop() } else { None }
 }
 
-/// Takes the next reply, if the entry asked for a child. The next one is last, and a missing one is a refused start.
+/// Takes the next reply, if the entry asked for a child. The next one is last, and a missing one is
+/// a refused start.
 fn take_reply(replies: &mut Vec<Option<Reply>>, asks: bool) -> Reply
     ensures { TakesReply asks (given_last replies.old.items) (given_last replies.new.items) result }
 {
@@ -115,8 +116,9 @@ fn first_refused(replies: &[Option<Reply>]) -> Option<u64>
     None
 }
 
-/// Ends a batch with the replies to its jobs, after `before` other children. A missing reply is a refused start. If one is
-/// refused, the run is cut at the first of them, after all entries have ended.
+/// Ends a batch with the replies to its jobs, after `before` other children. A missing reply is a
+/// refused start. If one is refused, the run is cut at the first of them, after all entries have
+/// ended.
 pub fn hear_batch(
     alloc: Global,
     store: &mut Store,

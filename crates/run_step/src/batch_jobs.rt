@@ -41,7 +41,8 @@ fn is_known(store: &Store, earlier: &[Waiting], name: &[u8]) -> bool
     store.get(name).is_some() || is_named(earlier, name)
 }
 
-/// Returns the tests of the entries. An entry asks for a child if its name is unset, and is not that of an earlier entry.
+/// Returns the tests of the entries. An entry asks for a child if its name is unset, and is not
+/// that of an earlier entry.
 pub(crate) fn waiting_for(
     alloc: Global,
     store: &Store,
@@ -96,8 +97,8 @@ fn put_job(jobs: &mut Vec<Job>, job: Option<Job>) -> Result<(), AllocError>
     }
 }
 
-/// Returns the jobs of the entries that ask for a child, or none if there is no compiler. The number of a job is the place
-/// of its entry in the list, from 1.
+/// Returns the jobs of the entries that ask for a child, or none if there is no compiler. The
+/// number of a job is the place of its entry in the list, from 1.
 pub(crate) fn jobs_of(
     alloc: Global,
     store: &Store,

@@ -14,7 +14,8 @@ use run_test::{EntryTest, Flow, Wait, Waiting};
 use shellword::HereText;
 use std::alloc::{AllocError, Global};
 
-/// Ends the test of an entry with the value of its name. If there is none, its child was refused before.
+/// Ends the test of an entry with the value of its name. If there is none, its child was refused
+/// before.
 pub(crate) fn end_quiet(
     alloc: Global,
     store: &mut Store,

@@ -13,7 +13,8 @@ use run_test::{Opening, Search, open_program};
 use shellword::HereText;
 use std::alloc::{AllocError, Global};
 
-/// Returns the value that a variable gets if its program is found, or `None` for the full name of the program.
+/// Returns the value that a variable gets if its program is found, or `None` for the full name of
+/// the program.
 fn found_in(alloc: Global, store: &Store, value: &ProgramValue) -> Result<Option<Bytes>, AllocError>
     ensures { IfOk result (λ v. v ≡ found_in value.now store.now) }
 {
@@ -43,7 +44,15 @@ fn search(
     found: Option<Bytes>,
     otherwise: Option<Bytes>,
 ) -> Result<Search, AllocError>
-    ensures { IfOk result (λ s. s ≡ record { variable = variable.now; name = name; program = program.now; found = found; otherwise = otherwise }) }
+    ensures { IfOk result (λ s.
+        s
+        ≡ record {
+          variable = variable.now;
+          name = name;
+          program = program.now;
+          found = found;
+          otherwise = otherwise;
+        }) }
 {
     let variable = Bytes::from_slice(alloc, variable)?;
     let program = program.copy(alloc)?;
@@ -65,7 +74,8 @@ pub(crate) fn open_search(
     value: &ProgramValue,
     otherwise: &Option<HereText>,
 ) -> Result<Opening, AllocError>
-    ensures { IfOk result (Opens (search_kind variable.now program.now value.now otherwise.now store.now) store.now) }
+    ensures { IfOk result (
+        Opens (search_kind variable.now program.now value.now otherwise.now store.now) store.now) }
 {
     let variable = variable.as_slice();
     let name = search_name(alloc, value, variable)?;

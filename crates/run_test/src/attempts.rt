@@ -1,4 +1,5 @@
-//! Attempts, each made when its turn comes (Autoconf's manual, "Generic Programs" to "Library Files").
+//! Attempts, each made when its turn comes (Autoconf's manual, "Generic Programs" to "Library
+//! Files").
 
 ghost use Rattle.std.specs.Prelude.{◌≡◌, ◌+◌, ◌++◌, ◌<◌, ◌^◌, IfOk, IfSome, codes, map, unwrap_or};
 ghost use Rattle.meaning.specs.Rows.{attempt_in};
@@ -18,8 +19,8 @@ use deftable::Bytes;
 use run_state::Store;
 use std::alloc::{AllocError, Global};
 
-/// An attempt with its job, if there is a compiler for it. If the child's success is `ends_on`, the test ends with the
-/// value.
+/// An attempt with its job, if there is a compiler for it. If the child's success is `ends_on`, the
+/// test ends with the value.
 #[derive(Drop)]
 pub struct Attempt {
     pub job: Option<Job>,

@@ -16,7 +16,8 @@ use run_state::Store;
 use run_state::pieces::report_no_compiler;
 use std::alloc::{AllocError, Global};
 
-/// Returns the first job of a program that is tried, with this number, or `None` if there is no compiler.
+/// Returns the first job of a program that is tried, with this number, or `None` if there is no
+/// compiler.
 pub fn job_to_try(
     alloc: Global,
     store: &Store,
@@ -45,8 +46,8 @@ fn libs_with(alloc: Global, library: &[u8], after: &[u8]) -> Result<Bytes, Alloc
     Bytes::concat(alloc, &[b"-l", library, b" ", after])
 }
 
-/// Returns the job that links a program with a library, or `None` if there is no compiler. `after` is linked after the
-/// library.
+/// Returns the job that links a program with a library, or `None` if there is no compiler. `after`
+/// is linked after the library.
 pub(crate) fn job_with(
     alloc: Global,
     store: &Store,

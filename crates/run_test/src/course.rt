@@ -103,7 +103,8 @@ pub enum Course {
         /// Whether the library is defined and added to LIBS.
         adds: bool,
     },
-    /// A function is looked for in none of these libraries, and then in each. `after` is linked after each.
+    /// A function is looked for in none of these libraries, and then in each. `after` is linked
+    /// after each.
     Libraries {
         name: Bytes,
         function: Bytes,

@@ -42,7 +42,8 @@ fn within<'a, 'b>(parts: &'b [&'a [u8]]) -> &'b [&'a [u8]]
     parts
 }
 
-/// Returns a directory as it is put before a name: with a slash at its end, and `./` if it is empty.
+/// Returns a directory as it is put before a name: with a slash at its end, and `./` if it is
+/// empty.
 fn directory_of(alloc: Global, part: &[u8]) -> Result<Bytes, AllocError>
     ensures { IfOk result (λ f. f ≡ directory_of part.now) }
 {

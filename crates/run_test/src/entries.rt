@@ -1,5 +1,5 @@
-//! The tests of entries and types: what they print, keep and define (Autoconf's manual, "Generic Headers" to "Generic
-//! Types").
+//! The tests of entries and types: what they print, keep and define (Autoconf's manual, "Generic
+//! Headers" to "Generic Types").
 
 ghost use Rattle.std.specs.Prelude.{◌≡◌, IfOk, OnOk};
 ghost use Rattle.meaning.specs.Batches.{yes_or_no};

@@ -1,19 +1,22 @@
 //! Tests: what is kept of one that has begun, its attempts, and its end.
 //!
-//! Say that a step looks for the program `cc`, and PATH is `/usr/local/bin:/usr/bin`. [`open_program`] finds that the name of
-//! the test is unset, and [`start`] asks for a child that tests `/usr/local/bin/cc`. If that is no program, [`take_answer`]
-//! asks for `/usr/bin/cc`.
+//! Say that a step looks for the program `cc`, and PATH is `/usr/local/bin:/usr/bin`.
+//! [`open_program`] finds that the name of the test is unset, and [`start`] asks for a child that
+//! tests `/usr/local/bin/cc`. If that is no program, [`take_answer`] asks for `/usr/bin/cc`.
 //!
-//! Read `specs/Courses` first. A test that has begun is a course: a search for a program, an entry or a type, a library, or
-//! several libraries. Each has a row in each column: its name, what it checks, its attempts, the value if none of them ends
-//! it, what is shown, what is done with the value, and what is answered. `specs/Trying` and `specs/Runs` have the rest of a
-//! test, and `specs/Flows` what it means that a run continues as a flow says.
+//! Read `specs/Courses` first. A test that has begun is a course: a search for a program, an entry
+//! or a type, a library, or several libraries. Each has a row in each column: its name, what it
+//! checks, its attempts, the value if none of them ends it, what is shown, what is done with the
+//! value, and what is answered. `specs/Trying` and `specs/Runs` have the rest of a test, and
+//! `specs/Flows` what it means that a run continues as a flow says.
 //!
-//! In `src`, read `course`, `wait` and `flow`, which have the types. `values` has the columns, and `attempts` makes an attempt
-//! when its turn comes. `trying` begins any test, takes the answers to its attempts and ends it. `starting` makes the course of
-//! a test: a new kind of test adds a row to each column, and a start. `entries` has what batches need of an entry's test, too.
+//! In `src`, read `course`, `wait` and `flow`, which have the types. `values` has the columns, and
+//! `attempts` makes an attempt when its turn comes. `trying` begins any test, takes the answers to
+//! its attempts and ends it. `starting` makes the course of a test: a new kind of test adds a row
+//! to each column, and a start. `entries` has what batches need of an entry's test, too.
 //!
-//! The theorem is that the test of each kind, with what follows it, continues as the flow says, whatever the tests around it.
+//! The theorem is that the test of each kind, with what follows it, continues as the flow says,
+//! whatever the tests around it.
 #![tactic(auto)]
 
 ghost use Rattle.run_test.specs.Laws.{CountsAreOfAttempts, RowsAreOfCourses, ScopesAreOfKinds};

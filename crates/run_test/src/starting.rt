@@ -76,7 +76,8 @@ pub fn open_program(
     Ok(Opening { course, value })
 }
 
-/// Returns the value of a text, if there is one. If `known` is true, the name of the test is set, and none is needed.
+/// Returns the value of a text, if there is one. If `known` is true, the name of the test is set,
+/// and none is needed.
 fn value_unless(
     alloc: Global,
     store: &Store,
@@ -132,7 +133,8 @@ fn others_text(alloc: Global, store: &Store, others: &Option<HereText>) -> Resul
     }
 }
 
-/// Returns what is linked after a library. If `known` is true, the name of the test is set, and none is needed.
+/// Returns what is linked after a library. If `known` is true, the name of the test is set, and
+/// none is needed.
 fn after_unless(
     alloc: Global,
     store: &Store,
@@ -173,7 +175,8 @@ pub fn open_library(
     Ok(Opening { course, value })
 }
 
-/// Returns a copy of the libraries. If `known` is true, the name of the test is set, and none is needed.
+/// Returns a copy of the libraries. If `known` is true, the name of the test is set, and none is
+/// needed.
 fn libraries_unless(alloc: Global, libraries: &Texts, known: bool) -> Result<Texts, AllocError>
     ensures { IfOk result (λ t. t ≡ (if known then [] else libraries.now)) }
 {

@@ -130,7 +130,8 @@ fn ask(
     })
 }
 
-/// Asks for the job of an attempt, whose place is `trial.next`. If there is no attempt, ends the test.
+/// Asks for the job of an attempt, whose place is `trial.next`. If there is no attempt, ends the
+/// test.
 fn make(
     alloc: Global,
     store: &mut Store,
@@ -172,7 +173,8 @@ fn proceed(
     make(alloc, store, about, trial, attempt)
 }
 
-/// Takes the answer to an attempt. If it ends the test, the value is that of the test. Otherwise the next attempt is made.
+/// Takes the answer to an attempt. If it ends the test, the value is that of the test. Otherwise
+/// the next attempt is made.
 pub fn take_answer(
     alloc: Global,
     store: &mut Store,
@@ -209,7 +211,8 @@ fn lacks_job(attempt: &Option<Attempt>) -> bool
     }
 }
 
-/// Begins a test whose name is unset. The job of its first attempt is made before anything is printed.
+/// Begins a test whose name is unset. The job of its first attempt is made before anything is
+/// printed.
 fn begin(
     alloc: Global,
     store: &mut Store,
@@ -261,8 +264,8 @@ fn end_cached(
     Ok(Flow::Pass { more: 0 })
 }
 
-/// A test that a step begins: its course, and the value that its name has. If it has one, the course is without the values
-/// that its attempts are made of.
+/// A test that a step begins: its course, and the value that its name has. If it has one, the
+/// course is without the values that its attempts are made of.
 #[derive(Drop)]
 pub struct Opening {
     pub course: Course,

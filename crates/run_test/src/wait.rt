@@ -19,8 +19,8 @@ pub enum Wait {
     Answer,
     /// Whether the program that is to be run was linked.
     Link,
-    /// Whether a test ends. If the child's success is `ends_on`, it ends with the value. Otherwise the next attempt of `trial`
-    /// is made.
+    /// Whether a test ends. If the child's success is `ends_on`, it ends with the value. Otherwise
+    /// the next attempt of `trial` is made.
     Attempt {
         trial: Trial,
         ends_on: bool,

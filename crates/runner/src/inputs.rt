@@ -40,7 +40,8 @@ fn explain_filter<E: Write>(
     }
 }
 
-/// Reports an error of the filter over this input, and says more of it if it is asked. Returns the exit status.
+/// Reports an error of the filter over this input, and says more of it if it is asked. Returns the
+/// exit status.
 fn tell_filter<E: Write>(
     alloc: Global,
     is_asked: bool,
@@ -75,9 +76,12 @@ pub(crate) fn run_filter<R: Read, W: Write, E: Write>(
     output: &mut W,
     errors: &mut E,
 ) -> u8
-    ensures { (result ≡ 2) ⊎ IfSome (R.remaining input.old)
-        (λ text. (out : List ℕ) × (said : List ℕ) × IsFiltered text out said result × Appends (W.contents output.old) (W.contents output.new) out
-        × (said ≡ [] → errors.new ≡ errors.old) × AreTold (E.contents errors.old) (E.contents errors.new) (said ∷ [])) }
+    ensures { (result ≡ 2)
+        ⊎ IfSome (R.remaining input.old) (λ text.
+        (out : List ℕ) × (said : List ℕ) × IsFiltered text out said result
+        × Appends (W.contents output.old) (W.contents output.new) out
+        × (said ≡ [] → errors.new ≡ errors.old)
+        × AreTold (E.contents errors.old) (E.contents errors.new) (said ∷ [])) }
 {
     let mut text = Vec::new(alloc);
     match filter_keeping(alloc, input, output, &mut text) {

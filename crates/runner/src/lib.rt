@@ -1,16 +1,18 @@
 //! The program's commands, apart from the process that they run in.
 //!
-//! [`command`] chooses by the program's words, as the crate `cmd_call` reads them. `configure`, a whole run over
-//! files, and `status --recheck`, such a run again, are in the crate `cmd_configure`. `status`, which makes the outputs
-//! of a record again, and the stand-in for a compiler are in `cmd_status`. Without words the program is the filter, in
-//! `cmd_filter`.
+//! [`command`] chooses by the program's words, as the crate `cmd_call` reads them. `configure`, a
+//! whole run over files, and `status --recheck`, such a run again, are in the crate
+//! `cmd_configure`. `status`, which makes the outputs of a record again, and the stand-in for a
+//! compiler are in `cmd_status`. Without words the program is the filter, in `cmd_filter`.
 //!
-//! For example, the words `status` and `Makefile` make one output again, and [`command`] returns the exit status.
+//! For example, the words `status` and `Makefile` make one output again, and [`command`] returns
+//! the exit status.
 //!
 //! "own" marks a rule that no manual gives.
 //!
-//! The definitions are those of the crates below: `Calls` in `cmd_call`, `Configures` in `cmd_configure`, `MadeAgain`
-//! in `cmd_status`, and `Filtered` in `cmd_filter`. `specs/Puts` is small. In `src`, read `inputs` and `program`.
+//! The definitions are those of the crates below: `Calls` in `cmd_call`, `Configures` in
+//! `cmd_configure`, `MadeAgain` in `cmd_status`, and `Filtered` in `cmd_filter`. `specs/Puts` is
+//! small. In `src`, read `inputs` and `program`.
 #![tactic(auto)]
 
 mod inputs;

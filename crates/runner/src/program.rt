@@ -39,7 +39,8 @@ use std::rt::Files;
 use std::time::Instant;
 use text_controls::Shown;
 
-/// Reports that the words are no command, and says more of it if it is asked. Returns the exit status.
+/// Reports that the words are no command, and says more of it if it is asked. Returns the exit
+/// status.
 fn tell_unknown<E: Write>(alloc: Global, is_asked: bool, words: &[Bytes], errors: &mut E) -> u8
     ensures { result ≡ 2 }
 {
@@ -48,24 +49,38 @@ fn tell_unknown<E: Write>(alloc: Global, is_asked: bool, words: &[Bytes], errors
     FAULT
 }
 
-/// Runs the command that the words name, if it is one that explains something, and returns its exit status. Any other words are
-/// reported as no command.
+/// Runs the command that the words name, if it is one that explains something, and returns its exit
+/// status. Any other words are reported as no command.
 fn explain<D: Disk, R: Read, W: Write, E: Write>(
     terminal: &mut Terminal<'_, D, R, W, E>,
     words: &[Bytes],
     has_colours: bool,
 ) -> u8
-    ensures explained { IfWhy (call_of words.now) (λ asked. (result ≤ 2) × (result ≢ 2 → terminal.new.errors ≡ terminal.old.errors)) }
-    ensures why { IfWhy (call_of words.now) (λ asked. result ≢ 2 → (out : List ℕ) × IsWhy (D.known terminal.old.outputs.disk) asked out result
+    ensures explained { IfWhy (call_of words.now) (λ asked.
+        (result ≤ 2) × (result ≢ 2 → terminal.new.errors ≡ terminal.old.errors)) }
+    ensures why { IfWhy (call_of words.now) (λ asked.
+        result ≢ 2
+        → (out : List ℕ) × IsWhy (D.known terminal.old.outputs.disk) asked out result
         × Appends (W.contents terminal.old.output) (W.contents terminal.new.output) out) }
-    ensures help { IfHelp (call_of words.now) (λ asked. ((result ≡ 0) ⊎ (result ≡ 2)) × (1 < length asked → result ≡ 2) × (result ≡ 0 → terminal.new.errors ≡ terminal.old.errors)) }
-    ensures version { call_of words.now ≡ Version → ((result ≡ 0) ⊎ (result ≡ 2)) × (result ≡ 0 → terminal.new.errors ≡ terminal.old.errors) }
-    ensures linted { IfLint (call_of words.now) (λ asked. (result ≤ 2) × (result ≢ 2 → terminal.new.errors ≡ terminal.old.errors)) }
-    ensures lint { IfLint (call_of words.now) (λ asked. (list_any is_unknown asked ≡ true → result ≡ 2)
+    ensures help { IfHelp (call_of words.now) (λ asked.
+        ((result ≡ 0) ⊎ (result ≡ 2)) × (1 < length asked → result ≡ 2)
+        × (result ≡ 0 → terminal.new.errors ≡ terminal.old.errors)) }
+    ensures version { call_of words.now ≡ Version
+        → ((result ≡ 0) ⊎ (result ≡ 2)) × (result ≡ 0 → terminal.new.errors ≡ terminal.old.errors) }
+    ensures linted { IfLint (call_of words.now) (λ asked.
+        (result ≤ 2) × (result ≢ 2 → terminal.new.errors ≡ terminal.old.errors)) }
+    ensures lint { IfLint (call_of words.now) (λ asked.
+        (list_any is_unknown asked ≡ true → result ≡ 2)
         × (result ≢ 2 → IsStatus (D.known terminal.old.outputs.disk) asked result)) }
-    ensures ported { IfPort (call_of words.now) (λ asked. (result ≤ 2) × (result ≢ 2 → terminal.new.errors ≡ terminal.old.errors)) }
-    ensures port { IfPort (call_of words.now) (λ asked. (request_of asked ≡ None → result ≡ 2)
-        × (result ≢ 2 → (out : List ℕ) × IsAnswer (D.known terminal.old.outputs.disk) (request_of asked) out result × Appends (W.contents terminal.old.output) (W.contents terminal.new.output) out)) }
+    ensures ported { IfPort (call_of words.now) (λ asked.
+        (result ≤ 2) × (result ≢ 2 → terminal.new.errors ≡ terminal.old.errors)) }
+    ensures port { IfPort (call_of words.now) (λ asked.
+        (request_of asked ≡ None → result ≡ 2)
+        × (result ≢ 2
+        → (out : List ℕ)
+        × IsAnswer (D.known terminal.old.outputs.disk) (request_of asked) out result
+        × Appends (W.contents terminal.old.output) (W.contents terminal.new.output)
+        out)) }
     ensures unknown { call_of words.now ≡ Unknown → result ≡ 2 }
     ensures input { HasNoInput (call_of words.now) → terminal.new.input ≡ terminal.old.input }
     ensures output { HasNoOutput (call_of words.now) → terminal.new.output ≡ terminal.old.output }
@@ -96,15 +111,18 @@ fn explain<D: Disk, R: Read, W: Write, E: Write>(
 
 /// Runs the command that the words name, and returns its exit status.
 ///
-/// Without words, it filters its input, and the status is that of the source's run. After `standin` they are the command line
-/// of a compiler, which the stand-in answers. After `configure` they are the arguments of a run, which has at most one child at
-/// once, or N after `-jN`. After `status` they are the names of outputs of the run's record, which are made again; but `status
-/// --recheck` is the run again, with the arguments of its record. `lint` says what is wrong with sources, `port` rewrites one, `why`
-/// says why a check has its answer, and `help` how commands are called. There is no other command. If anything is wrong, also with the words, the status is 2
-/// (own). `is_terminal` is whether standard output is a terminal, for colours.
+/// Without words, it filters its input, and the status is that of the source's run. After `standin`
+/// they are the command line of a compiler, which the stand-in answers. After `configure` they are
+/// the arguments of a run, which has at most one child at once, or N after `-jN`. After `status`
+/// they are the names of outputs of the run's record, which are made again; but `status --recheck`
+/// is the run again, with the arguments of its record. `lint` says what is wrong with sources,
+/// `port` rewrites one, `why` says why a check has its answer, and `help` how commands are called.
+/// There is no other command. If anything is wrong, also with the words, the status is 2 (own).
+/// `is_terminal` is whether standard output is a terminal, for colours.
 ///
-/// Each error is reported as one line on standard error. If that can't be written, only the status reports it. If the terminal's
-/// `is_asked` is true, further lines may follow such a line, which say why; otherwise none do.
+/// Each error is reported as one line on standard error. If that can't be written, only the status
+/// reports it. If the terminal's `is_asked` is true, further lines may follow such a line, which
+/// say why; otherwise none do.
 pub fn run<F: Files, D: Disk, C: Crew + Causes, R: Read, W: Write, E: Write>(
     terminal: &mut Terminal<'_, D, R, W, E>,
     files: &F,
@@ -114,57 +132,96 @@ pub fn run<F: Files, D: Disk, C: Crew + Causes, R: Read, W: Write, E: Write>(
 ) -> u8
     requires may_run { MayRun (C.account crew.old) }
     requires fresh { terminal.old.outputs ≡ fresh terminal.old.outputs.disk }
-    // Without words: unless the status is 2, what is written and the status are those of the source's meaning.
-    ensures filter { IfFilter (call_of words.now) ((result ≡ 2) ⊎ IfSome (R.remaining terminal.old.input)
-        (λ text. (out : List ℕ) × (said : List ℕ) × IsFiltered text out said result × Appends (W.contents terminal.old.output) (W.contents terminal.new.output) out
-        × (said ≡ [] → terminal.new.errors ≡ terminal.old.errors) × AreTold (E.contents terminal.old.errors) (E.contents terminal.new.errors) (said ∷ []))) }
-    // The stand-in's status is its answer for the texts of its files, unless memory runs out. If it accepts the conftest, it writes nothing.
-    ensures standin { IfStandIn (call_of words.now) (λ others. (result ≡ 2) ⊎ IsAnswered (D.known terminal.old.outputs.disk) others result) }
-    ensures silent { IfStandIn (call_of words.now) (λ others. result ≡ 0 → terminal.new.errors ≡ terminal.old.errors) }
+    // Without words: unless the status is 2, what is written and the status are those of the
+    // source's meaning.
+    ensures filter { IfFilter (call_of words.now) (
+        (result ≡ 2)
+        ⊎ IfSome (R.remaining terminal.old.input) (λ text.
+        (out : List ℕ) × (said : List ℕ) × IsFiltered text out said result
+        × Appends (W.contents terminal.old.output) (W.contents terminal.new.output) out
+        × (said ≡ [] → terminal.new.errors ≡ terminal.old.errors)
+        × AreTold (E.contents terminal.old.errors) (E.contents terminal.new.errors)
+        (said ∷ []))) }
+    // The stand-in's status is its answer for the texts of its files, unless memory runs out. If it
+    // accepts the conftest, it writes nothing.
+    ensures standin { IfStandIn (call_of words.now) (λ others.
+        (result ≡ 2) ⊎ IsAnswered (D.known terminal.old.outputs.disk) others result) }
+    ensures silent { IfStandIn (call_of words.now) (λ others.
+        result ≡ 0 → terminal.new.errors ≡ terminal.old.errors) }
     // Unless the status is 2, the crew made the run of the source that the arguments name, with
     // these arguments, this environment, its cache and its templates; the status is that of its
     // outcome, its messages and the lines on its outputs are printed, and what it hands over and
-    // its log are written, and nothing else. If it isn't asked why, standard error gets its messages for
-    // standard error, as far as it takes them, and nothing else.
-    ensures configure { IfConfigure (call_of words.now) (λ window args. result ≢ 2 → (out : List ℕ) × (said : List (List ℕ))
-        × IsConfigured window args terminal.old.env.now (C.account crew.old) (C.account crew.new)
-        (D.known terminal.old.outputs.disk) (D.known terminal.new.outputs.disk) out said result
+    // its log are written, and nothing else. If it isn't asked why, standard error gets its
+    // messages for standard error, as far as it takes them, and nothing else.
+    ensures configure { IfConfigure (call_of words.now) (λ window args.
+        result ≢ 2
+        → (out : List ℕ) × (said : List (List ℕ))
+        × IsConfigured window args terminal.old.env.now (C.account crew.old)
+        (C.account crew.new) (D.known terminal.old.outputs.disk)
+        (D.known terminal.new.outputs.disk) out said result
         × Appends (W.contents terminal.old.output) (W.contents terminal.new.output) out
-        × (terminal.old.is_asked ≡ false → AreTold (E.contents terminal.old.errors) (E.contents terminal.new.errors) said)) }
+        × (terminal.old.is_asked ≡ false
+        → AreTold (E.contents terminal.old.errors) (E.contents terminal.new.errors)
+        said)) }
     // Unless the status is 2, it is 0, and the outputs of the record with these names are made, and
     // nothing else.
-    ensures status { IfStatus (call_of words.now) (λ tags. result ≢ 2 → (result ≡ 0) × (out : List ℕ)
-        × IsMadeAgain (D.known terminal.old.outputs.disk) (D.known terminal.new.outputs.disk) tags out
+    ensures status { IfStatus (call_of words.now) (λ tags.
+        result ≢ 2
+        → (result ≡ 0) × (out : List ℕ)
+        × IsMadeAgain (D.known terminal.old.outputs.disk)
+        (D.known terminal.new.outputs.disk) tags out
         × Appends (W.contents terminal.old.output) (W.contents terminal.new.output) out) }
     // Then nothing is written on standard error.
-    ensures made_silently { IfStatus (call_of words.now) (λ tags. result ≢ 2 → terminal.new.errors ≡ terminal.old.errors) }
+    ensures made_silently { IfStatus (call_of words.now) (λ tags.
+        result ≢ 2 → terminal.new.errors ≡ terminal.old.errors) }
     // Unless the status is 2, the same holds of the run with the arguments of the record, and then
     // `--no-create`.
-    ensures recheck { IfRecheck (call_of words.now) (result ≢ 2 → (out : List ℕ) × (said : List (List ℕ))
+    ensures recheck { IfRecheck (call_of words.now) (
+        result ≢ 2
+        → (out : List ℕ) × (said : List (List ℕ))
         × IsRechecked terminal.old.env.now (C.account crew.old) (C.account crew.new)
-        (D.known terminal.old.outputs.disk) (D.known terminal.new.outputs.disk) out said result
+        (D.known terminal.old.outputs.disk) (D.known terminal.new.outputs.disk) out said
+        result
         × Appends (W.contents terminal.old.output) (W.contents terminal.new.output) out
-        × (terminal.old.is_asked ≡ false → AreTold (E.contents terminal.old.errors) (E.contents terminal.new.errors) said)) }
-    // What explains something has no other status than these. Unless it is 2, `why` writes nothing on standard error.
-    ensures explained { IfWhy (call_of words.now) (λ asked. (result ≤ 2) × (result ≢ 2 → terminal.new.errors ≡ terminal.old.errors)) }
+        × (terminal.old.is_asked ≡ false
+        → AreTold (E.contents terminal.old.errors) (E.contents terminal.new.errors)
+        said)) }
+    // What explains something has no other status than these. Unless it is 2, `why` writes nothing
+    // on standard error.
+    ensures explained { IfWhy (call_of words.now) (λ asked.
+        (result ≤ 2) × (result ≢ 2 → terminal.new.errors ≡ terminal.old.errors)) }
     // Then what it writes is the answer for the words, by the log or the record.
-    ensures why { IfWhy (call_of words.now) (λ asked. result ≢ 2 → (out : List ℕ) × IsWhy (D.known terminal.old.outputs.disk) asked out result
+    ensures why { IfWhy (call_of words.now) (λ asked.
+        result ≢ 2
+        → (out : List ℕ) × IsWhy (D.known terminal.old.outputs.disk) asked out result
         × Appends (W.contents terminal.old.output) (W.contents terminal.new.output) out) }
-    ensures help { IfHelp (call_of words.now) (λ asked. ((result ≡ 0) ⊎ (result ≡ 2)) × (1 < length asked → result ≡ 2) × (result ≡ 0 → terminal.new.errors ≡ terminal.old.errors)) }
-    ensures version { call_of words.now ≡ Version → ((result ≡ 0) ⊎ (result ≡ 2)) × (result ≡ 0 → terminal.new.errors ≡ terminal.old.errors) }
-    // Unless the status of `lint` is 2, the sources that the words name were read, and it is 1 exactly if one of them has an error. If
-    // an option isn't known, it is 2.
-    ensures linted { IfLint (call_of words.now) (λ asked. (result ≤ 2) × (result ≢ 2 → terminal.new.errors ≡ terminal.old.errors)) }
-    ensures lint { IfLint (call_of words.now) (λ asked. (list_any is_unknown asked ≡ true → result ≡ 2)
+    ensures help { IfHelp (call_of words.now) (λ asked.
+        ((result ≡ 0) ⊎ (result ≡ 2)) × (1 < length asked → result ≡ 2)
+        × (result ≡ 0 → terminal.new.errors ≡ terminal.old.errors)) }
+    ensures version { call_of words.now ≡ Version
+        → ((result ≡ 0) ⊎ (result ≡ 2)) × (result ≡ 0 → terminal.new.errors ≡ terminal.old.errors) }
+    // Unless the status of `lint` is 2, the sources that the words name were read, and it is 1
+    // exactly if one of them has an error. If an option isn't known, it is 2.
+    ensures linted { IfLint (call_of words.now) (λ asked.
+        (result ≤ 2) × (result ≢ 2 → terminal.new.errors ≡ terminal.old.errors)) }
+    ensures lint { IfLint (call_of words.now) (λ asked.
+        (list_any is_unknown asked ≡ true → result ≡ 2)
         × (result ≢ 2 → IsStatus (D.known terminal.old.outputs.disk) asked result)) }
-    // Unless the status of `port` is 2, the source that the words name is written as it was rewritten, and it is 1 exactly if that has
-    // comments about what is left. If the words are wrong, it is 2.
-    ensures ported { IfPort (call_of words.now) (λ asked. (result ≤ 2) × (result ≢ 2 → terminal.new.errors ≡ terminal.old.errors)) }
-    ensures port { IfPort (call_of words.now) (λ asked. (request_of asked ≡ None → result ≡ 2)
-        × (result ≢ 2 → (out : List ℕ) × IsAnswer (D.known terminal.old.outputs.disk) (request_of asked) out result × Appends (W.contents terminal.old.output) (W.contents terminal.new.output) out)) }
+    // Unless the status of `port` is 2, the source that the words name is written as it was
+    // rewritten, and it is 1 exactly if that has comments about what is left. If the words are
+    // wrong, it is 2.
+    ensures ported { IfPort (call_of words.now) (λ asked.
+        (result ≤ 2) × (result ≢ 2 → terminal.new.errors ≡ terminal.old.errors)) }
+    ensures port { IfPort (call_of words.now) (λ asked.
+        (request_of asked ≡ None → result ≡ 2)
+        × (result ≢ 2
+        → (out : List ℕ)
+        × IsAnswer (D.known terminal.old.outputs.disk) (request_of asked) out result
+        × Appends (W.contents terminal.old.output) (W.contents terminal.new.output)
+        out)) }
     ensures unknown { call_of words.now ≡ Unknown → result ≡ 2 }
-    // Only a run starts children, only the filter, `lint` and `port` read the input, and the stand-in
-    // writes no output. Only a run, and outputs that are made again, change files through
+    // Only a run starts children, only the filter, `lint` and `port` read the input, and the
+    // stand-in writes no output. Only a run, and outputs that are made again, change files through
     // `outputs`.
     ensures crew { HasNoRun (call_of words.now) → crew.new ≡ crew.old }
     ensures input { HasNoInput (call_of words.now) → terminal.new.input ≡ terminal.old.input }
@@ -196,8 +253,8 @@ pub fn run<F: Files, D: Disk, C: Crew + Causes, R: Read, W: Write, E: Write>(
     }
 }
 
-/// Returns whether control bytes are to be shown on standard output if it is a terminal. What `lint` prints shows them itself, and may
-/// have colours.
+/// Returns whether control bytes are to be shown on standard output if it is a terminal. What
+/// `lint` prints shows them itself, and may have colours.
 fn shows_output(words: &[Bytes]) -> bool {
     match call_of(words) {
         ProgramCall::Lint(_) => false,
@@ -242,12 +299,14 @@ fn sum_up<E: Write>(
     }
 }
 
-/// Runs the command that the words name, on the streams and the files of the process, and returns its exit status.
+/// Runs the command that the words name, on the streams and the files of the process, and returns
+/// its exit status.
 ///
-/// This is [`run`], which says what each command does. On a terminal control bytes are written as `\xNN`, so that no text of a source,
-/// an argument or a compiler drives it. Lines that say why are asked for if standard error is a terminal, or if the
-/// environment has an ACRUN_WHY that isn't empty. If standard error is a terminal, the last line of a run that made a check sums it
-/// up (own).
+/// This is [`run`], which says what each command does. On a terminal control bytes are written as
+/// `\xNN`, so that no text of a source, an argument or a compiler drives it. Lines that say why are
+/// asked for if standard error is a terminal, or if the environment has an ACRUN_WHY that isn't
+/// empty. If standard error is a terminal, the last line of a run that made a check sums it up
+/// (own).
 pub fn command<C: Crew + Causes + Children>(
     rt: HostRuntime,
     alloc: Global,
@@ -257,18 +316,32 @@ pub fn command<C: Crew + Causes + Children>(
 ) -> u8
     requires may_run { MayRun (C.account crew.old) }
     // What [`run`] says, but for what only known streams and files can show.
-    ensures standin { IfStandIn (call_of words.now) (λ others. (result ≡ 2) ⊎ IsAnswered None others result) }
-    ensures configure { IfConfigure (call_of words.now) (λ window args. result ≢ 2 → (out : List ℕ) × (said : List (List ℕ))
-        × IsConfigured window args env.now (C.account crew.old) (C.account crew.new) None None out said result) }
-    ensures status { IfStatus (call_of words.now) (λ tags. result ≢ 2 → (result ≡ 0) × (out : List ℕ) × IsMadeAgain None None tags out) }
-    ensures recheck { IfRecheck (call_of words.now) (result ≢ 2 → (out : List ℕ) × (said : List (List ℕ))
-        × IsRechecked env.now (C.account crew.old) (C.account crew.new) None None out said result) }
+    ensures standin { IfStandIn (call_of words.now) (λ others.
+        (result ≡ 2) ⊎ IsAnswered None others result) }
+    ensures configure { IfConfigure (call_of words.now) (λ window args.
+        result ≢ 2
+        → (out : List ℕ) × (said : List (List ℕ))
+        × IsConfigured window args env.now (C.account crew.old) (C.account crew.new) None
+        None out said result) }
+    ensures status { IfStatus (call_of words.now) (λ tags.
+        result ≢ 2 → (result ≡ 0) × (out : List ℕ) × IsMadeAgain None None tags out) }
+    ensures recheck { IfRecheck (call_of words.now) (
+        result ≢ 2
+        → (out : List ℕ) × (said : List (List ℕ))
+        × IsRechecked env.now (C.account crew.old) (C.account crew.new) None None out said
+        result) }
     ensures explained { IfWhy (call_of words.now) (λ asked. result ≤ 2) }
-    ensures why { IfWhy (call_of words.now) (λ asked. result ≢ 2 → (out : List ℕ) × IsWhy None asked out result) }
-    ensures help { IfHelp (call_of words.now) (λ asked. ((result ≡ 0) ⊎ (result ≡ 2)) × (1 < length asked → result ≡ 2)) }
+    ensures why { IfWhy (call_of words.now) (λ asked.
+        result ≢ 2 → (out : List ℕ) × IsWhy None asked out result) }
+    ensures help { IfHelp (call_of words.now) (λ asked.
+        ((result ≡ 0) ⊎ (result ≡ 2)) × (1 < length asked → result ≡ 2)) }
     ensures version { call_of words.now ≡ Version → (result ≡ 0) ⊎ (result ≡ 2) }
-    ensures lint { IfLint (call_of words.now) (λ asked. (result ≤ 2) × (list_any is_unknown asked ≡ true → result ≡ 2) × (result ≢ 2 → IsStatus None asked result)) }
-    ensures port { IfPort (call_of words.now) (λ asked. (result ≤ 2) × (request_of asked ≡ None → result ≡ 2) × (result ≢ 2 → (out : List ℕ) × IsAnswer None (request_of asked) out result)) }
+    ensures lint { IfLint (call_of words.now) (λ asked.
+        (result ≤ 2) × (list_any is_unknown asked ≡ true → result ≡ 2)
+        × (result ≢ 2 → IsStatus None asked result)) }
+    ensures port { IfPort (call_of words.now) (λ asked.
+        (result ≤ 2) × (request_of asked ≡ None → result ≡ 2)
+        × (result ≢ 2 → (out : List ℕ) × IsAnswer None (request_of asked) out result)) }
     ensures unknown { call_of words.now ≡ Unknown → result ≡ 2 }
     ensures crew { HasNoRun (call_of words.now) → crew.new ≡ crew.old }
     ensures idle { IsIdle (C.account crew.new).events }

@@ -15,7 +15,8 @@ pub struct Assignment {
     pub value: Word,
 }
 
-/// The assignments of bare text, in the order in which they are made. In contracts, its value is their list.
+/// The assignments of bare text, in the order in which they are made. In contracts, its value is
+/// their list.
 #[derive(Drop)]
 pub struct Assignments {
     list: Vec<Assignment>,

@@ -22,14 +22,16 @@ pub enum BareContext {
     Comment,
 }
 
-/// The context of a byte, and whether the byte before it is a backslash that quotes it and that isn't written yet.
+/// The context of a byte, and whether the byte before it is a backslash that quotes it and that
+/// isn't written yet.
 #[derive(Clone, Copy)]
 pub(crate) struct State {
     pub(crate) place: BareContext,
     pub(crate) escaped: bool,
 }
 
-/// Returns whether the byte, outside quotes, ends a shell word: a blank, a newline or `;` (POSIX shell, 2.3).
+/// Returns whether the byte, outside quotes, ends a shell word: a blank, a newline or `;` (POSIX
+/// shell, 2.3).
 pub fn is_part_end(byte: u8) -> bool
     ensures { result ≡ bytes.is_part_end byte }
 {

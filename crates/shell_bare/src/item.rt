@@ -26,7 +26,8 @@ pub(crate) enum Stage {
     Closed,
 }
 
-/// The front of a text: its assignment, if it is one; its length; and the stage of the statement after it.
+/// The front of a text: its assignment, if it is one; its length; and the stage of the statement
+/// after it.
 #[derive(Drop)]
 pub(crate) struct Item {
     pub(crate) assignment: Option<Assignment>,
@@ -40,7 +41,8 @@ fn is_space(byte: u8) -> bool
     byte == b' ' || byte == b'\t'
 }
 
-/// Returns whether a lone colon may end before `rest`: `rest` is empty, or begins with a blank or `;`.
+/// Returns whether a lone colon may end before `rest`: `rest` is empty, or begins with a blank or
+/// `;`.
 fn is_parted(rest: &[u8]) -> bool
     ensures { result ≡ bytes.is_parted rest.now }
 {
@@ -93,7 +95,8 @@ fn read_value(alloc: Global, start: usize, text: &[u8]) -> Result<(Word, usize),
     }
 }
 
-/// Reads the assignment at the front of `text`, which is at offset `at`. Its name must be the first `len` bytes.
+/// Reads the assignment at the front of `text`, which is at offset `at`. Its name must be the first
+/// `len` bytes.
 fn read_named(alloc: Global, at: usize, text: &[u8], len: usize) -> Result<Item, BareFault>
     requires fits { at + length text.now < 2 ^ 64 }
     requires name { len < length text.now }

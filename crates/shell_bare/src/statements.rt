@@ -55,27 +55,32 @@ fn read_whole(alloc: Global, text: &[u8]) -> Result<Assignments, BareFault>
     read_joined(alloc, &joined)
 }
 
-/// Reads the statements of bare text, as far as they are assignments (POSIX shell, 2.2, 2.3 and 2.9.1).
+/// Reads the statements of bare text, as far as they are assignments (POSIX shell, 2.2, 2.3 and
+/// 2.9.1).
 ///
-/// A backslash before a newline is removed with it, except in single quotes and comments. A newline or `;` outside
-/// quotes and comments ends a statement. Each statement is empty, a lone `:`, or assignments `NAME=WORD` with spaces or
-/// tabs between them. A `#` at the start of a shell word begins a comment, up to the end of its line.
+/// A backslash before a newline is removed with it, except in single quotes and comments. A newline
+/// or `;` outside quotes and comments ends a statement. Each statement is empty, a lone `:`, or
+/// assignments `NAME=WORD` with spaces or tabs between them. A `#` at the start of a shell word
+/// begins a comment, up to the end of its line.
 ///
 /// The time and the memory are in proportion to the length of the text.
 ///
 /// # Errors
 ///
-/// Returns the first error from left to right. Its offset counts the bytes of the text without its line continuations.
+/// Returns the first error from left to right. Its offset counts the bytes of the text without its
+/// line continuations.
 ///
 /// - [`BareFault::UnknownStatement`] if neither an assignment nor a lone `:` begins where one must.
-/// - [`BareFault::Shell`] if the word of an assignment is an error of [`shellword::read_word_front`].
+/// - [`BareFault::Shell`] if the word of an assignment is an error of
+///   [`shellword::read_word_front`].
 pub fn read_statements(alloc: Global, text: &[u8]) -> Result<Assignments, BareFault>
     // The result as one function of the text.
     ensures exact { Gives (λ a. a) result (statements_of text.now) }
     // If assignments are returned, the text makes them.
     ensures sound { IfOk result (IsBareText text.now) }
     // If the text makes assignments, they are returned unless memory runs out.
-    ensures complete { (list : List Assignment) → IsBareText text.now list → Gives (λ a. a) result (Ok list) }
+    ensures complete { (list : List Assignment) → IsBareText text.now list
+        → Gives (λ a. a) result (Ok list) }
     // If an error is returned, it is the first error of the text, or memory ran out.
     ensures error_sound { IfErr result (IsRefused text.now) }
     ensures fault { IfErr result (IsBareFault (length text.now)) }

@@ -21,9 +21,9 @@ fn matches_some(alloc: Global, patterns: &[Pattern], text: &[u8]) -> Result<bool
 
 /// Returns whether one of the patterns matches the whole text (POSIX shell, 2.9.4.3).
 ///
-/// For each pattern the time is in proportion to the length of the text and that of the pattern, if no piece of the pattern is
-/// `?`. Otherwise it is at worst in proportion to the length of the pattern, and to that of the text times the number of parts
-/// between `*` and `?`.
+/// For each pattern the time is in proportion to the length of the text and that of the pattern, if
+/// no piece of the pattern is `?`. Otherwise it is at worst in proportion to the length of the
+/// pattern, and to that of the text times the number of parts between `*` and `?`.
 ///
 /// # Errors
 ///

@@ -12,7 +12,8 @@ struct Stretch {
     to: usize,
 }
 
-/// Returns the length of the front that the whole shares with the text. At least `known` bytes are known to be shared.
+/// Returns the length of the front that the whole shares with the text. At least `known` bytes are
+/// known to be shared.
 fn shared_len(whole: &[u8], text: &[u8], known: usize) -> usize
     requires long { length text.now ≤ length whole.now }
     requires known { known ≤ words.shared whole.now text.now }
@@ -27,14 +28,15 @@ fn shared_len(whole: &[u8], text: &[u8], known: usize) -> usize
     text.len()
 }
 
-/// Returns a number of bytes that the whole shares with the text from `at` on, as far as the lengths of the offsets before
-/// it and the stretch show it.
+/// Returns a number of bytes that the whole shares with the text from `at` on, as far as the
+/// lengths of the offsets before it and the stretch show it.
 fn known_len(text: &[u8], lens: &[usize], at: usize, stretch: &Stretch) -> usize
     requires lens { lens.now ≡ take at (words.shares text.now text.now) }
     requires at { at < length text.now }
     requires count { length lens.now ≡ at }
     requires after { 1 ≤ stretch.now.from }
-    requires shared { stretch.now.to - stretch.now.from ≤ words.shared text.now (drop stretch.now.from text.now) }
+    requires shared { stretch.now.to - stretch.now.from
+        ≤ words.shared text.now (drop stretch.now.from text.now) }
     ensures { result ≤ words.shared text.now (drop at text.now) }
 {
     if stretch.from > at || stretch.to <= at {
@@ -63,10 +65,11 @@ fn later(stretch: Stretch, at: usize, len: usize) -> Stretch
     }
 }
 
-/// Returns, for each offset of the text, the length of the front that the text shares with the text from there on.
+/// Returns, for each offset of the text, the length of the front that the text shares with the text
+/// from there on.
 ///
-/// The time is in proportion to the length of the text: what the stretch shows isn't compared again, and after the first offset
-/// each comparison but the last makes the stretch longer.
+/// The time is in proportion to the length of the text: what the stretch shows isn't compared
+/// again, and after the first offset each comparison but the last makes the stretch longer.
 pub(crate) fn shared_fronts(alloc: Global, text: &[u8]) -> Result<Vec<usize>, AllocError>
     ensures count { IfOk result (λ v. length v.items ≡ length text.now) }
     ensures value { IfOk result (λ v. v.items ≡ words.shares text.now text.now) }

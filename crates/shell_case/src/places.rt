@@ -92,10 +92,12 @@ fn keep_long(
     Ok(kept)
 }
 
-/// Returns the lengths that the part, with the text after it, shares with the text from each offset on.
+/// Returns the lengths that the part, with the text after it, shares with the text from each offset
+/// on.
 fn part_lens(alloc: Global, part: &[u8], text: &[u8]) -> Result<Vec<usize>, AllocError>
     ensures count { IfOk result (λ v. length v.items ≡ length part.now + length text.now) }
-    ensures value { IfOk result (λ v. v.items ≡ shares (part.now ++ text.now) (part.now ++ text.now)) }
+    ensures value { IfOk result (λ v.
+        v.items ≡ shares (part.now ++ text.now) (part.now ++ text.now)) }
 {
     let mut whole = Vec::new(alloc);
     whole.extend_from_slice(part)?;
@@ -111,7 +113,8 @@ fn keep_part(
     text: &[u8],
 ) -> Result<Vec<bool>, AllocError>
     requires { length flags.now ≤ length text.now }
-    ensures { IfOk result (λ v. v.items ≡ words.keep_places (map Byte part.now) flags.now text.now) }
+    ensures { IfOk result (λ v.
+        v.items ≡ words.keep_places (map Byte part.now) flags.now text.now) }
 {
     let lens = part_lens(alloc, part, text)?;
     keep_long(alloc, flags, &lens[part.len()..], part.len())
@@ -126,7 +129,8 @@ fn keep_any(
     text: &[u8],
 ) -> Result<Vec<bool>, AllocError>
     requires { 1 ≤ length part.now → length flags.items ≤ length text.now }
-    ensures { IfOk result (λ v. v.items ≡ words.keep_places (map Byte part.now) flags.items text.now) }
+    ensures { IfOk result (λ v.
+        v.items ≡ words.keep_places (map Byte part.now) flags.items text.now) }
 {
     if part.is_empty() {
         return Ok(flags);
@@ -141,12 +145,14 @@ fn all_set(alloc: Global, count: usize) -> Result<Vec<bool>, AllocError>
     vec![in alloc; true; count]
 }
 
-/// Returns, for each offset at which the text is long enough for the pieces, whether they fit there.
+/// Returns, for each offset at which the text is long enough for the pieces, whether they fit
+/// there.
 fn places(alloc: Global, pieces: &[Piece], text: &[u8]) -> Result<Vec<bool>, AllocError>
     requires single { list_all words.is_single pieces.now ≡ true }
     requires some { 1 ≤ length pieces.now }
     requires long { length pieces.now ≤ length text.now }
-    ensures { IfOk result (λ v. v.items ≡ words.places pieces.now (length text.now + 1 - length pieces.now) text.now) }
+    ensures { IfOk result (λ v.
+        v.items ≡ words.places pieces.now (length text.now + 1 - length pieces.now) text.now) }
 {
     let mut flags = all_set(alloc, text.len() - pieces.len() + 1)?;
     let mut at = 0;
@@ -200,10 +206,12 @@ fn place_of_bytes(alloc: Global, pieces: &[Piece], text: &[u8]) -> Result<Option
     Ok(memmem::find(text, &bytes))
 }
 
-/// Returns the first offset of the text at which the pieces, of which none is `*`, match one byte each.
+/// Returns the first offset of the text at which the pieces, of which none is `*`, match one byte
+/// each.
 ///
-/// If no piece is `?`, the time is in proportion to the place, or to the length of the text if there is none. Otherwise it is in
-/// proportion to the length of the text times the number of parts between `?`. The number of pieces comes on top.
+/// If no piece is `?`, the time is in proportion to the place, or to the length of the text if
+/// there is none. Otherwise it is in proportion to the length of the text times the number of parts
+/// between `?`. The number of pieces comes on top.
 pub(crate) fn first_place(
     alloc: Global,
     pieces: &[Piece],

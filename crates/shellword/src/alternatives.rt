@@ -8,8 +8,8 @@ use crate::matching::match_pieces;
 use crate::pattern::Pattern;
 use std::marker::Model;
 
-/// Patterns separated by `|`, as before one list of a shell's `case`. In contracts, its value is the list of the pieces
-/// of each pattern.
+/// Patterns separated by `|`, as before one list of a shell's `case`. In contracts, its value is
+/// the list of the pieces of each pattern.
 pub struct Patterns {
     alternatives: Vec<Pattern>,
 }

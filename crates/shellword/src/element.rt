@@ -90,7 +90,8 @@ fn is_empty(alloc: Global, word: &Word, vars: &Vars) -> Result<bool, AllocError>
 
 /// Returns whether two words have the same value.
 fn are_equal(alloc: Global, left: &Word, right: &Word, vars: &Vars) -> Result<bool, AllocError>
-    ensures { IfOk result (λ b. b ≡ bytes_eq (word_value left.now vars.now) (word_value right.now vars.now)) }
+    ensures { IfOk result (λ b.
+        b ≡ bytes_eq (word_value left.now vars.now) (word_value right.now vars.now)) }
 {
     let left = left.value(alloc, vars)?;
     let right = right.value(alloc, vars)?;
@@ -157,7 +158,8 @@ fn negated(element: Option<Element>) -> Option<Element>
     }
 }
 
-/// Returns the element of `test` with these words, of which `a` is the first, or `None` if they are no condition.
+/// Returns the element of `test` with these words, of which `a` is the first, or `None` if they are
+/// no condition.
 fn condition_of(a: Word, mut words: VecDeque<Word>) -> Option<Element>
     ensures { result ≡ condition_of a words.items }
 {

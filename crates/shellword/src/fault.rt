@@ -9,7 +9,8 @@ use thiserror::Error;
 /// The error of a shell text, with an offset in the text.
 #[derive(Clone, Copy, Debug, PartialEq, Eq, Error)]
 pub enum ShellFault {
-    /// The text isn't a word that this crate reads (POSIX shell, 2.2 and 2.6; which other words are rejected is own).
+    /// The text isn't a word that this crate reads (POSIX shell, 2.2 and 2.6; which other words are
+    /// rejected is own).
     #[error("1 at {0}")]
     BadWord(usize),
     /// The words aren't a test.

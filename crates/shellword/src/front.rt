@@ -28,7 +28,8 @@ pub(crate) enum Context {
     Here,
 }
 
-/// The front of a text: the part that it produces, if any; its length; and the context of the next byte.
+/// The front of a text: the part that it produces, if any; its length; and the context of the next
+/// byte.
 #[derive(Drop)]
 pub(crate) struct Front {
     pub(crate) part: Option<Part>,
@@ -82,7 +83,8 @@ fn byte_in(context: Context, byte: u8) -> Part
     }
 }
 
-/// Returns the part that a byte after a dropped backslash produces: the byte itself, but none for a newline in a here text.
+/// Returns the part that a byte after a dropped backslash produces: the byte itself, but none for a
+/// newline in a here text.
 fn escaped_part(context: Context, byte: u8) -> Option<Part>
     ensures { result ≡ escaped_part context byte }
 {
@@ -155,7 +157,8 @@ fn variable_front(
     context: Context,
 ) -> Result<Front, ShellFault>
     requires { around < 4 }
-    ensures ok { IfOk result (λ f. f ≡ front (Some (Variable name.now)) (length name.now + around) context) }
+    ensures ok { IfOk result (λ f.
+        f ≡ front (Some (Variable name.now)) (length name.now + around) context) }
     ensures err { IfErr result (λ e. e ≡ OutOfMemory) }
 {
     let len = name.len() + around;
@@ -167,7 +170,8 @@ fn variable_front(
     })
 }
 
-/// Reads the front of a text that is `$` and then `rest`, which doesn't begin with a name. Only `${name}` is read.
+/// Reads the front of a text that is `$` and then `rest`, which doesn't begin with a name. Only
+/// `${name}` is read.
 fn read_braced(alloc: Global, at: usize, context: Context, rest: &[u8]) -> Result<Front, ShellFault>
     ensures value { Gives (λ f. f) result (braced_front at context rest.now) }
     ensures fault { IfErr result (IsWordFault at) }

@@ -37,8 +37,8 @@ fn next_step(pieces: &[Piece], text: &[u8]) -> Step
     }
 }
 
-/// Returns whether the pieces match the whole text. If the matcher is stuck, it goes back to the last `*`, which then
-/// takes one byte more. It never has to go back to an earlier one.
+/// Returns whether the pieces match the whole text. If the matcher is stuck, it goes back to the
+/// last `*`, which then takes one byte more. It never has to go back to an earlier one.
 pub(crate) fn match_pieces(pieces: &[Piece], text: &[u8]) -> bool
     ensures { result ≡ matching pieces.now text.now }
 {

@@ -158,8 +158,9 @@ fn read_whole(alloc: Global, text: &[u8]) -> Result<Vec<Pattern>, ShellFault>
     }
 }
 
-/// Reads a list of patterns (POSIX shell, 2.9.4.3 and 2.14): alternatives separated by `|`, with spaces and tabs around
-/// them. Unless they are quoted, `*` matches any bytes and `?` one byte. Every other byte matches itself.
+/// Reads a list of patterns (POSIX shell, 2.9.4.3 and 2.14): alternatives separated by `|`, with
+/// spaces and tabs around them. Unless they are quoted, `*` matches any bytes and `?` one byte.
+/// Every other byte matches itself.
 ///
 /// # Errors
 ///
@@ -169,16 +170,18 @@ fn read_whole(alloc: Global, text: &[u8]) -> Result<Vec<Pattern>, ShellFault>
 /// - outside quotes, one of `;`, `<`, `>`, `(` and `)`, or a lone `&`;
 /// - the end of the text, if a quote is open there.
 ///
-/// Otherwise, returns [`ShellFault::BadPattern`] for the first alternative that has a variable, an unquoted bracket, an
-/// unquoted blank within it, an unquoted newline, `&&` or `||`, or no byte (`''` has two, and matches the empty text).
-/// The offset is that after the bar before the alternative, or 0.
+/// Otherwise, returns [`ShellFault::BadPattern`] for the first alternative that has a variable, an
+/// unquoted bracket, an unquoted blank within it, an unquoted newline, `&&` or `||`, or no byte
+/// (`''` has two, and matches the empty text). The offset is that after the bar before the
+/// alternative, or 0.
 pub fn read_patterns(alloc: Global, text: &[u8]) -> Result<Vec<Pattern>, ShellFault>
     // The result as one function of the text.
     ensures exact { Gives (λ v. v.items) result (patterns_of text.now) }
     // If patterns are returned, the text lists them.
     ensures sound { IfOk result (λ v. ArePatterns text.now v.items) }
     // If the text lists patterns, they are returned unless memory runs out.
-    ensures complete { (patterns : List (List Piece)) → ArePatterns text.now patterns → Gives (λ v. v.items) result (Ok patterns) }
+    ensures complete { (patterns : List (List Piece)) → ArePatterns text.now patterns
+        → Gives (λ v. v.items) result (Ok patterns) }
     ensures fault { IfErr result (IsPatternFault (length text.now)) }
 {
     read_whole(alloc, text)

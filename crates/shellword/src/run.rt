@@ -62,7 +62,8 @@ fn push_part(parts: &mut Vec<Part>, part: Option<Part>) -> Result<(), ShellFault
     Ok(())
 }
 
-/// Reads the parts from `start` to the end of the word or here text. Returns them and the offset after them.
+/// Reads the parts from `start` to the end of the word or here text. Returns them and the offset
+/// after them.
 pub(crate) fn read_run(
     alloc: Global,
     text: &[u8],
@@ -70,7 +71,8 @@ pub(crate) fn read_run(
     first: Context,
 ) -> Result<(Vec<Part>, usize), ShellFault>
     requires { start ≤ length text.now }
-    ensures value { Gives (λ r. (r.0.items, r.1)) result (scan 0 first start (drop start text.now)) }
+    ensures value { Gives (λ r. (r.0.items, r.1)) result
+        (scan 0 first start (drop start text.now)) }
     ensures fault { IfErr result (IsWordFault (length text.now)) }
     ensures within { IfOk result (λ r. (start ≤ r.1) × (r.1 ≤ length text.now)) }
 {

@@ -105,8 +105,8 @@ impl Test {
         (&self.first, self.rest.as_slice())
     }
 
-    /// Returns whether the test is true with these variables. `&&` and `||` have equal precedence and group from the
-    /// left (POSIX shell, 2.9.3).
+    /// Returns whether the test is true with these variables. `&&` and `||` have equal precedence
+    /// and group from the left (POSIX shell, 2.9.3).
     pub fn holds(&self, alloc: Global, vars: &Vars) -> Result<bool, AllocError>
         ensures { IfOk result (λ b. b ≡ truth self.now vars.now) }
     {
@@ -129,8 +129,8 @@ fn with_element(
     }
 }
 
-/// Ends an element of these words, which begins at offset `at`, and returns the test up to it. Takes the words, and
-/// takes the test from `before`.
+/// Ends an element of these words, which begins at offset `at`, and returns the test up to it.
+/// Takes the words, and takes the test from `before`.
 fn end_element(
     alloc: Global,
     before: &mut Option<(Test, Joint)>,
@@ -168,7 +168,9 @@ fn end_line(
     at: usize,
     tokens: &mut VecDeque<Token>,
 ) -> Result<Test, ShellFault>
-    ensures value { Gives (λ t. t) result (if list_all is_newline tokens.old.items then ended before.old words.old.items at else Err (BadTest at)) }
+    ensures value { Gives (λ t. t) result (
+        if list_all is_newline tokens.old.items then ended before.old words.old.items at else Err
+        (BadTest at)) }
 {
     if are_newlines(tokens) {
         end_element(alloc, before, words, at)
@@ -177,8 +179,8 @@ fn end_line(
     }
 }
 
-/// Returns the test that the tokens form, after `before` and the words of an element that begins at offset 0. Takes the
-/// tokens, the words and the test in `before`.
+/// Returns the test that the tokens form, after `before` and the words of an element that begins at
+/// offset 0. Takes the tokens, the words and the test in `before`.
 fn join_all(
     alloc: Global,
     before: &mut Option<(Test, Joint)>,
@@ -227,9 +229,9 @@ fn read_whole(alloc: Global, text: &[u8]) -> Result<Test, ShellFault>
 
 /// Reads a test (POSIX shell, 2.9.3, and POSIX, `test`, by the number of its words).
 ///
-/// A test is a list of elements joined by `&&` and `||`, which have equal precedence and group from the left. Newlines
-/// may come at both ends and after a joint. An element is `:`, `true`, `false`, `test` with one to four words, or `!`
-/// before an element.
+/// A test is a list of elements joined by `&&` and `||`, which have equal precedence and group from
+/// the left. Newlines may come at both ends and after a joint. An element is `:`, `true`, `false`,
+/// `test` with one to four words, or `!` before an element.
 ///
 /// # Errors
 ///
@@ -239,8 +241,8 @@ fn read_whole(alloc: Global, text: &[u8]) -> Result<Test, ShellFault>
 /// - outside quotes, one of `;`, `<`, `>`, `(` and `)`, or a lone `&` or `|`;
 /// - the end of the text, if a quote is open there.
 ///
-/// Otherwise, returns [`ShellFault::BadTest`] if the words and joints aren't a test. The offset is that after the joint
-/// before the wrong element, or 0.
+/// Otherwise, returns [`ShellFault::BadTest`] if the words and joints aren't a test. The offset is
+/// that after the joint before the wrong element, or 0.
 pub fn read_test(alloc: Global, text: &[u8]) -> Result<Test, ShellFault>
     // The result as one function of the text.
     ensures exact { Gives (λ t. t) result (test_of text.now) }

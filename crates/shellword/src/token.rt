@@ -47,7 +47,8 @@ fn is_space(byte: u8) -> bool
     byte == b' ' || byte == b'\t'
 }
 
-/// Reads the token that begins with the `&` at offset `at`, which must be `&&`. Returns it and the offset after it.
+/// Reads the token that begins with the `&` at offset `at`, which must be `&&`. Returns it and the
+/// offset after it.
 fn read_ampersand(text: &[u8], at: usize) -> Result<(Token, usize), ShellFault>
     requires { at < length text.now }
     ensures value { Gives (λ r. (r.0, r.1)) result (ampersand_at at (drop (at + 1) text.now)) }
@@ -61,8 +62,8 @@ fn read_ampersand(text: &[u8], at: usize) -> Result<(Token, usize), ShellFault>
     }
 }
 
-/// Reads the token that begins with the `|` at offset `at`: `||`, or a lone bar if those are allowed. Returns it and
-/// the offset after it.
+/// Reads the token that begins with the `|` at offset `at`: `||`, or a lone bar if those are
+/// allowed. Returns it and the offset after it.
 fn read_bar(text: &[u8], at: usize, lone_bars: bool) -> Result<(Token, usize), ShellFault>
     requires { at < length text.now }
     ensures value { Gives (λ r. (r.0, r.1)) result (bar_at lone_bars at (drop (at + 1) text.now)) }
@@ -78,7 +79,8 @@ fn read_bar(text: &[u8], at: usize, lone_bars: bool) -> Result<(Token, usize), S
     }
 }
 
-/// Reads the word at offset `at`, where no blank and no operator begins. Returns it and the offset after it.
+/// Reads the word at offset `at`, where no blank and no operator begins. Returns it and the offset
+/// after it.
 fn read_word_at(alloc: Global, text: &[u8], at: usize) -> Result<(Token, usize), ShellFault>
     requires within { at < length text.now }
     requires word { ends_word (slice_index text.now at) ≡ false }
@@ -99,7 +101,8 @@ fn read_token(
     lone_bars: bool,
 ) -> Result<(Token, usize), ShellFault>
     requires { at < length text.now }
-    ensures value { Gives (λ r. (r.0, r.1)) result (token_at lone_bars at (slice_index text.now at) (drop (at + 1) text.now)) }
+    ensures value { Gives (λ r. (r.0, r.1)) result
+        (token_at lone_bars at (slice_index text.now at) (drop (at + 1) text.now)) }
     ensures fault { IfErr result (IsWordFault (length text.now)) }
     ensures within { IfOk result (λ r. (at < r.1) × (r.1 ≤ length text.now)) }
 {

@@ -10,7 +10,8 @@ use std::alloc::{AllocError, Global};
 
 /// Appends a variable's value to `out`, or nothing if the variable is unset.
 fn push_variable(out: &mut Vec<u8>, name: &Bytes, vars: &Vars) -> Result<(), AllocError>
-    ensures { OnOk result (out.new.items ≡ out.old.items ++ part_value vars.now (Variable name.now)) }
+    ensures { OnOk result (
+        out.new.items ≡ out.old.items ++ part_value vars.now (Variable name.now)) }
 {
     match vars.get(name.as_slice()) {
         Some(value) => out.extend_from_slice(value.as_slice()),

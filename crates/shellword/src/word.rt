@@ -48,7 +48,8 @@ fn are_blanks(text: &[u8]) -> bool
     text.iter().all(|b| is_blank(*b))
 }
 
-/// Returns whether a word at the front of bare text may end before `rest`: `rest` is empty, or begins with a blank or `;`.
+/// Returns whether a word at the front of bare text may end before `rest`: `rest` is empty, or
+/// begins with a blank or `;`.
 fn is_parted(rest: &[u8]) -> bool
     ensures { result ≡ is_parted rest.now }
 {
@@ -116,7 +117,8 @@ fn read_front_word(alloc: Global, text: &[u8]) -> Result<(Word, usize), ShellFau
 ///
 /// - a backquote that no backslash and no single quote quotes;
 /// - a `$` that a shell expands and that begins neither `$name` nor `${name}`;
-/// - outside quotes, one of `;`, `&`, `|`, `<`, `>`, `(` and `)`, or a blank that is followed by anything but blanks;
+/// - outside quotes, one of `;`, `&`, `|`, `<`, `>`, `(` and `)`, or a blank that is followed by
+///   anything but blanks;
 /// - the end of the text, if a quote is open there.
 pub fn read_word(alloc: Global, text: &[u8]) -> Result<Word, ShellFault>
     // The result as one function of the text.
@@ -124,19 +126,21 @@ pub fn read_word(alloc: Global, text: &[u8]) -> Result<Word, ShellFault>
     // If parts are returned, they are those of the word.
     ensures sound { IfOk result (IsWord text.now) }
     // If the text is a word, its parts are returned unless memory runs out.
-    ensures complete { (parts : List Part) → IsWord text.now parts → Gives (λ w. w) result (Ok parts) }
-    // If an error is returned, the text isn't a word because of the byte at that offset, or memory ran out.
+    ensures complete { (parts : List Part) → IsWord text.now parts
+        → Gives (λ w. w) result (Ok parts) }
+    // If an error is returned, the text isn't a word because of the byte at that offset, or memory
+    // ran out.
     ensures error_sound { IfErr result (IsRefusal (IsBadWord text.now)) }
     ensures fault { IfErr result (IsWordFault (length text.now)) }
 {
     read_whole(alloc, text)
 }
 
-/// Reads the word at the front of bare text, and returns it with its length (POSIX shell, 2.2 and 2.3; that other
-/// operators are rejected is own).
+/// Reads the word at the front of bare text, and returns it with its length (POSIX shell, 2.2 and
+/// 2.3; that other operators are rejected is own).
 ///
-/// The word ends at the end of the text or before the first blank or `;` outside quotes. It may be empty. The text
-/// after the word isn't read.
+/// The word ends at the end of the text or before the first blank or `;` outside quotes. It may be
+/// empty. The text after the word isn't read.
 ///
 /// # Errors
 ///
@@ -151,8 +155,10 @@ pub fn read_word_front(alloc: Global, text: &[u8]) -> Result<(Word, usize), Shel
     // If a word is returned, it is at the front of the text, with this length.
     ensures sound { IfOk result (λ r. IsWordFront text.now r.0 r.1) }
     // If a word is at the front of the text, it is returned unless memory runs out.
-    ensures complete { (parts : List Part) (n : ℕ) → IsWordFront text.now parts n → Gives {Y = List Part × ℕ} (λ r. (r.0, r.1)) result (Ok (parts, n)) }
-    // If an error is returned, no word is at the front because of the byte at that offset, or memory ran out.
+    ensures complete { (parts : List Part) (n : ℕ) → IsWordFront text.now parts n
+        → Gives {Y = List Part × ℕ} (λ r. (r.0, r.1)) result (Ok (parts, n)) }
+    // If an error is returned, no word is at the front because of the byte at that offset, or
+    // memory ran out.
     ensures error_sound { IfErr result (IsRefusal (IsBadFront text.now)) }
     ensures within { IfOk result (λ r. r.1 ≤ length text.now) }
     ensures fault { IfErr result (IsWordFault (length text.now)) }
@@ -190,8 +196,8 @@ impl Word {
         are_bytes(&self.parts, text)
     }
 
-    /// Returns the word with each variable replaced by its value (POSIX shell, 2.6.2; that a value is never split is
-    /// own). An unset variable is empty, and a value is never read again.
+    /// Returns the word with each variable replaced by its value (POSIX shell, 2.6.2; that a value
+    /// is never split is own). An unset variable is empty, and a value is never read again.
     pub fn value(&self, alloc: Global, vars: &Vars) -> Result<Bytes, AllocError>
         ensures { IfOk result (λ v. v ≡ word_value self.now vars.now) }
     {

@@ -44,10 +44,12 @@ fn byte_after_backslash(byte: u8) -> Option<u8>
     }
 }
 
-/// Reads one more byte. Returns whether it is the backslash of an escape, or `None` if the byte can't be here.
+/// Reads one more byte. Returns whether it is the backslash of an escape, or `None` if the byte
+/// can't be here.
 #[tactic(auto, unfolding(crate::specs::Escape::with_byte))]
 fn take_byte(out: &mut Vec<u8>, in_escape: bool, byte: u8) -> Result<Option<bool>, AllocError>
-    ensures { IfOk result (λ r. option_map (λ w. (w, out.new.items)) r ≡ specs.with_byte in_escape out.old.items byte) }
+    ensures { IfOk result (λ r.
+        option_map (λ w. (w, out.new.items)) r ≡ specs.with_byte in_escape out.old.items byte) }
 {
     if in_escape {
         let Some(escaped) = byte_after_backslash(byte) else {

@@ -8,10 +8,11 @@ use std::alloc::{AllocError, AllocFailed};
 use std::error::Error;
 use std::fmt;
 
-/// The first fault of a text that is no record. The number is that of the line, which is 1 for the first.
+/// The first fault of a text that is no record. The number is that of the line, which is 1 for the
+/// first.
 ///
-/// It is displayed as its number, followed by `at` and the number of the line if it has one. Out of memory is displayed as
-/// `memory` (own).
+/// It is displayed as its number, followed by `at` and the number of the line if it has one. Out of
+/// memory is displayed as `memory` (own).
 #[derive(Clone, Copy, Debug, PartialEq, Eq)]
 pub enum RecordFault {
     /// The text has no newline, or its first line isn't `acrun-record` and a number.

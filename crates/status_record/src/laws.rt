@@ -16,25 +16,37 @@ pub fn escapes()
     ensures sound { (text v : List ℕ) → unescaped text ≡ Some v → text ≡ escaped v }
 {}
 
-/// A record has one text, in one version, a text is that of at most one record, and exactly the texts of records are read.
+/// A record has one text, in one version, a text is that of at most one record, and exactly the
+/// texts of records are read.
 pub fn records()
-    ensures one_record { (text : List ℕ) (r s : RecordValue) → IsRecordText text r → IsRecordText text s → r ≡ s }
-    ensures one_text { (a b : List ℕ) (r : RecordValue) → IsRecordText a r → IsRecordText b r → a ≡ b }
-    ensures one_version { (text : List ℕ) (r s : RecordValue) → IsFirstText text r → ¬ (IsSecondText text s) }
-    ensures sound { (text : List ℕ) (r : RecordValue) → record_in text ≡ Ok r → IsRecordText text r }
-    ensures complete { (text : List ℕ) (r : RecordValue) → IsRecordText text r → record_in text ≡ Ok r }
+    ensures one_record { (text : List ℕ) (r s : RecordValue) → IsRecordText text r
+        → IsRecordText text s → r ≡ s }
+    ensures one_text { (a b : List ℕ) (r : RecordValue) → IsRecordText a r → IsRecordText b r
+        → a ≡ b }
+    ensures one_version { (text : List ℕ) (r s : RecordValue) → IsFirstText text r
+        → ¬ (IsSecondText text s) }
+    ensures sound { (text : List ℕ) (r : RecordValue) → record_in text ≡ Ok r
+        → IsRecordText text r }
+    ensures complete { (text : List ℕ) (r : RecordValue) → IsRecordText text r
+        → record_in text ≡ Ok r }
 {}
 
 /// If a text is truncated, its lines are the first of some record that has more.
 pub fn fronts()
-    ensures truncated { (text : List ℕ) → record_in text ≡ Err Truncated → IsTruncated (front_of (parts 10 text)) }
+    ensures truncated { (text : List ℕ) → record_in text ≡ Err Truncated
+        → IsTruncated (front_of (parts 10 text)) }
 {}
 
-/// A text has at most one first fault, the text of a record has none, and exactly these faults are found.
+/// A text has at most one first fault, the text of a record has none, and exactly these faults are
+/// found.
 #[tactic(auto, using(crate::proofs::OneFault::one_fault, crate::proofs::OneFault::faults_found))]
 pub fn faults()
-    ensures has_one_fault { (text : List ℕ) (f g : FaultValue) → IsRecordFault text f → IsRecordFault text g → f ≡ g }
-    ensures has_none { (text : List ℕ) (r : RecordValue) (f : FaultValue) → IsRecordText text r → ¬ (IsRecordFault text f) }
-    ensures sound { (text : List ℕ) (f : FaultValue) → record_in text ≡ Err f → IsRecordFault text f }
-    ensures complete { (text : List ℕ) (f : FaultValue) → IsRecordFault text f → record_in text ≡ Err f }
+    ensures has_one_fault { (text : List ℕ) (f g : FaultValue) → IsRecordFault text f
+        → IsRecordFault text g → f ≡ g }
+    ensures has_none { (text : List ℕ) (r : RecordValue) (f : FaultValue) → IsRecordText text r
+        → ¬ (IsRecordFault text f) }
+    ensures sound { (text : List ℕ) (f : FaultValue) → record_in text ≡ Err f
+        → IsRecordFault text f }
+    ensures complete { (text : List ℕ) (f : FaultValue) → IsRecordFault text f
+        → record_in text ≡ Err f }
 {}

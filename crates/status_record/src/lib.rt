@@ -1,12 +1,14 @@
-//! The record of a run, `config.status`: the text that the outputs of the run can be made from again.
+//! The record of a run, `config.status`: the text that the outputs of the run can be made from
+//! again.
 //!
-//! [`write_record`] returns the text of a [`Record`], and [`read_record`] the record of a text, or the first fault of a text
-//! that is no record's. A record that is written is read back, and a text that is read is written again with the same
-//! bytes. The format has two versions: a record without arguments has the first, and one with arguments the second.
+//! [`write_record`] returns the text of a [`Record`], and [`read_record`] the record of a text, or
+//! the first fault of a text that is no record's. A record that is written is read back, and a text
+//! that is read is written again with the same bytes. The format has two versions: a record without
+//! arguments has the first, and one with arguments the second.
 //!
-//! In a contract, a record is its fields: texts as lists of bytes, tables as lists of entries, and outputs as a list. A call
-//! that returns a `Result` runs out of memory or fails as it says, and no other call allocates. "own" marks a rule that no
-//! manual gives.
+//! In a contract, a record is its fields: texts as lists of bytes, tables as lists of entries, and
+//! outputs as a list. A call that returns a `Result` runs out of memory or fails as it says, and no
+//! other call allocates. "own" marks a rule that no manual gives.
 //!
 //! ```text
 //! let status = read_record(alloc, b"acrun-record 1\nsrcdir .\nvar A x\\ny\nend\n")?;
@@ -14,9 +16,10 @@
 //! let text = write_record(alloc, &status)?; // the same bytes
 //! ```
 //!
-//! In `specs`, read `RecordText` for the text and for what a record may hold, `Line` and `Escape` for its lines and their
-//! values, and `Faults` for the first fault of another text. `Reading` has both as functions. What outputs a record may hold is
-//! `AreOutputs` of `output_list`. In `src`, read `record`, then `write` and `read`. `laws` has no code.
+//! In `specs`, read `RecordText` for the text and for what a record may hold, `Line` and `Escape`
+//! for its lines and their values, and `Faults` for the first fault of another text. `Reading` has
+//! both as functions. What outputs a record may hold is `AreOutputs` of `output_list`. In `src`,
+//! read `record`, then `write` and `read`. `laws` has no code.
 #![tactic(auto)]
 
 mod escape;

@@ -35,7 +35,8 @@ pub enum Version {
 
 /// Appends the argument of line `number`.
 fn add_arg(alloc: Global, args: &mut Texts, number: u64, text: &[u8]) -> Result<(), RecordFault>
-    ensures { specs.Gives (λ _. args.new) result (specs.with_item unescaped specs.is_repeated args.old number text.now) }
+    ensures { specs.Gives (λ _. args.new) result
+        (specs.with_item unescaped specs.is_repeated args.old number text.now) }
 {
     let Some(arg) = unescaped(alloc, text)? else {
         return Err(RecordFault::BadLine(number));
@@ -47,7 +48,8 @@ fn add_arg(alloc: Global, args: &mut Texts, number: u64, text: &[u8]) -> Result<
 /// Appends the name and the value of line `number`.
 #[tactic(auto, using(crate::proofs::Tables::at_end))]
 fn add_entry(alloc: Global, table: &mut Defs, number: u64, fields: &[u8]) -> Result<(), RecordFault>
-    ensures { specs.Gives (λ _. table.new) result (specs.with_item entry_in specs.is_entry table.old number fields.now) }
+    ensures { specs.Gives (λ _. table.new) result
+        (specs.with_item entry_in specs.is_entry table.old number fields.now) }
 {
     let Some((name, value)) = entry_in(alloc, fields)? else {
         return Err(RecordFault::BadLine(number));
@@ -84,8 +86,13 @@ fn add_output(
     number: u64,
     fields: &[u8],
 ) -> Result<(), RecordFault>
-    ensures reads { (before : List (List ℕ)) → names_of names.old ≡ before ++ output_names outputs.old → specs.Gives (λ _. outputs.new) result (specs.with_item output_in (specs.is_output before) outputs.old number fields.now) }
-    ensures named { (before : List (List ℕ)) → names_of names.old ≡ before ++ output_names outputs.old → OnOk result (names_of names.new ≡ before ++ output_names outputs.new) }
+    ensures reads { (before : List (List ℕ))
+        → names_of names.old ≡ before ++ output_names outputs.old
+        → specs.Gives (λ _. outputs.new) result
+        (specs.with_item output_in (specs.is_output before) outputs.old number fields.now) }
+    ensures named { (before : List (List ℕ))
+        → names_of names.old ≡ before ++ output_names outputs.old
+        → OnOk result (names_of names.new ≡ before ++ output_names outputs.new) }
 {
     let Some(output) = output_in(alloc, fields)? else {
         return Err(RecordFault::BadLine(number));
@@ -101,7 +108,8 @@ fn add_output(
 /// Reads the lines of arguments after the first two lines.
 fn read_texts(alloc: Global, lines: &[&[u8]]) -> Result<(Texts, usize), RecordFault>
     requires { 2 ≤ length lines.now }
-    ensures reads { specs.Gives (λ r. (r.0, (r.1, drop r.1 (map (λ t. t.now) lines.now)))) result (specs.texts_in (drop 2 (map (λ t. t.now) lines.now))) }
+    ensures reads { specs.Gives (λ r. (r.0, (r.1, drop r.1 (map (λ t. t.now) lines.now)))) result
+        (specs.texts_in (drop 2 (map (λ t. t.now) lines.now))) }
     ensures within { IfOk result (λ r. r.1 ≤ length lines.now) }
 {
     let mut args = Texts::new(alloc);
@@ -121,7 +129,8 @@ fn read_args(
     lines: &[&[u8]],
 ) -> Result<(Option<Texts>, usize), RecordFault>
     requires { 2 ≤ length lines.now }
-    ensures reads { specs.Gives (λ r. (r.0, (r.1, drop r.1 (map (λ t. t.now) lines.now)))) result (specs.args_in version (drop 2 (map (λ t. t.now) lines.now))) }
+    ensures reads { specs.Gives (λ r. (r.0, (r.1, drop r.1 (map (λ t. t.now) lines.now)))) result
+        (specs.args_in version (drop 2 (map (λ t. t.now) lines.now))) }
     ensures within { IfOk result (λ r. r.1 ≤ length lines.now) }
 {
     match version {
@@ -141,7 +150,8 @@ fn read_entries(
     from: usize,
 ) -> Result<(Defs, usize), RecordFault>
     requires { from ≤ length lines.now }
-    ensures reads { specs.Gives (λ r. (r.0, (r.1, drop r.1 (map (λ t. t.now) lines.now)))) result (specs.entries_in keyword.now from (drop from (map (λ t. t.now) lines.now))) }
+    ensures reads { specs.Gives (λ r. (r.0, (r.1, drop r.1 (map (λ t. t.now) lines.now)))) result
+        (specs.entries_in keyword.now from (drop from (map (λ t. t.now) lines.now))) }
     ensures within { IfOk result (λ r. r.1 ≤ length lines.now) }
 {
     let mut table = Defs::new(alloc);
@@ -154,7 +164,8 @@ fn read_entries(
     Ok((table, lines.len()))
 }
 
-/// Reads the files or the headers from index `from` on, and adds their names to those of the outputs before.
+/// Reads the files or the headers from index `from` on, and adds their names to those of the
+/// outputs before.
 fn read_outputs(
     alloc: Global,
     keyword: &[u8],
@@ -163,7 +174,9 @@ fn read_outputs(
     from: usize,
 ) -> Result<(OutputList, usize), RecordFault>
     requires { from ≤ length lines.now }
-    ensures reads { specs.Gives (λ r. (r.0, (r.1, drop r.1 (map (λ t. t.now) lines.now)))) result (specs.outputs_in keyword.now (names_of names.old) from (drop from (map (λ t. t.now) lines.now))) }
+    ensures reads { specs.Gives (λ r. (r.0, (r.1, drop r.1 (map (λ t. t.now) lines.now)))) result (
+        specs.outputs_in keyword.now (names_of names.old) from
+        (drop from (map (λ t. t.now) lines.now))) }
     ensures within { IfOk result (λ r. r.1 ≤ length lines.now) }
     ensures named { IfOk result (λ r. names_of names.new ≡ names_of names.old ++ output_names r.0) }
 {
@@ -271,7 +284,8 @@ fn read_end(rest: &[u8], line: &[u8], at: usize) -> Result<(), RecordFault>
 /// Reads the last line, at index `at`.
 fn read_rest(rest: &[u8], lines: &[&[u8]], at: usize) -> Result<(), RecordFault>
     requires { at ≤ length lines.now }
-    ensures { specs.Gives (λ u. u) result (specs.ending rest.now at (drop at (map (λ t. t.now) lines.now))) }
+    ensures { specs.Gives (λ u. u) result
+        (specs.ending rest.now at (drop at (map (λ t. t.now) lines.now))) }
 {
     read_ending(rest, &lines[at..], at)
 }
@@ -286,7 +300,8 @@ fn read_body(
     lines: &[&[u8]],
 ) -> Result<Record, RecordFault>
     requires { 2 ≤ length lines.now }
-    ensures { specs.Gives (λ r. r) result (specs.body_in rest.now version srcdir (drop 2 (map (λ t. t.now) lines.now))) }
+    ensures { specs.Gives (λ r. r) result
+        (specs.body_in rest.now version srcdir (drop 2 (map (λ t. t.now) lines.now))) }
 {
     let (args, at) = read_args(alloc, version, lines)?;
     let (vars, at) = read_entries(alloc, b"var ", lines, at)?;
@@ -342,17 +357,21 @@ fn read_text(alloc: Global, text: &[u8]) -> Result<Record, RecordFault>
 ///
 /// - `BadMagic`, if the text has no newline or its first line isn't `acrun-record` and a number;
 /// - `UnknownVersion`, if that number is neither 1 nor 2;
-/// - `BadLine` or `DuplicateName`, for the first line that has none of the forms or gives a name again;
+/// - `BadLine` or `DuplicateName`, for the first line that has none of the forms or gives a name
+///   again;
 /// - `Truncated`, if the text ends before the line `end` and its newline.
 pub fn read_record(alloc: Global, text: &[u8]) -> Result<Record, RecordFault>
     // What is returned is a record, and the text is its text.
     ensures sound { IfOk result (λ r. IsRecordText text.now r) }
     // The text of a record is read as that record, unless memory runs out.
-    ensures complete { (r : RecordValue) → IsRecordText text.now r → specs.Gives (λ r. r) result (Ok r) }
+    ensures complete { (r : RecordValue) → IsRecordText text.now r
+        → specs.Gives (λ r. r) result (Ok r) }
     // An error other than out of memory is the first fault of the text.
-    ensures error_sound { IfErr result (λ fault. fault ≢ OutOfMemory → IsRecordFault text.now fault) }
+    ensures error_sound { IfErr result (λ fault.
+        fault ≢ OutOfMemory → IsRecordFault text.now fault) }
     // If the text has a fault, the first one is returned, unless memory runs out.
-    ensures error_complete { (fault : FaultValue) → IsRecordFault text.now fault → specs.Gives (λ r. r) result (Err fault) }
+    ensures error_complete { (fault : FaultValue) → IsRecordFault text.now fault
+        → specs.Gives (λ r. r) result (Err fault) }
     // The same as a function: any other text has its first fault returned, unless memory runs out.
     ensures exact { specs.Gives (λ r. r) result (specs.record_in text.now) }
 {

@@ -3,8 +3,9 @@
 use deftable::{Bytes, Defs, Texts};
 use output_list::OutputList;
 
-/// What the outputs of a run are made from again, and the run is done again with (own): the source directory, the arguments,
-/// the output variables, the definitions, the files and the headers, each in order.
+/// What the outputs of a run are made from again, and the run is done again with (own): the source
+/// directory, the arguments, the output variables, the definitions, the files and the headers, each
+/// in order.
 #[derive(Drop)]
 pub struct Record {
     pub srcdir: Bytes,

@@ -14,7 +14,8 @@ use std::alloc::{AllocError, Global};
 
 /// Appends a line: a keyword and a value.
 fn put_value(out: &mut Vec<u8>, keyword: &[u8], value: &[u8]) -> Result<(), AllocError>
-    ensures { OnOk result (out.new.items ≡ out.old.items ++ ended ((keyword.now ++ escaped value.now) ∷ [])) }
+    ensures { OnOk result (
+        out.new.items ≡ out.old.items ++ ended ((keyword.now ++ escaped value.now) ∷ [])) }
 {
     out.extend_from_slice(keyword)?;
     put_escaped(out, value)?;
@@ -24,7 +25,10 @@ fn put_value(out: &mut Vec<u8>, keyword: &[u8], value: &[u8]) -> Result<(), Allo
 
 /// Appends a line: a keyword, a name and a value.
 fn put_entry(out: &mut Vec<u8>, keyword: &[u8], name: &[u8], value: &[u8]) -> Result<(), AllocError>
-    ensures { OnOk result (out.new.items ≡ out.old.items ++ ended ((keyword.now ++ two_fields name.now (escaped value.now)) ∷ [])) }
+    ensures { OnOk result (
+        out.new.items
+        ≡ out.old.items
+        ++ ended ((keyword.now ++ two_fields name.now (escaped value.now)) ∷ [])) }
 {
     out.extend_from_slice(keyword)?;
     out.extend_from_slice(name)?;
@@ -33,7 +37,8 @@ fn put_entry(out: &mut Vec<u8>, keyword: &[u8], name: &[u8], value: &[u8]) -> Re
 
 /// Appends a line: a keyword, a name and a template.
 fn put_output(out: &mut Vec<u8>, keyword: &[u8], output: &Output) -> Result<(), AllocError>
-    ensures { OnOk result (out.new.items ≡ out.old.items ++ ended ((keyword.now ++ output_fields output.now) ∷ [])) }
+    ensures { OnOk result (
+        out.new.items ≡ out.old.items ++ ended ((keyword.now ++ output_fields output.now) ∷ [])) }
 {
     out.extend_from_slice(keyword)?;
     put_escaped(out, output.name.as_slice())?;
@@ -42,7 +47,8 @@ fn put_output(out: &mut Vec<u8>, keyword: &[u8], output: &Output) -> Result<(), 
 
 /// Appends a line for each argument.
 fn put_texts(out: &mut Vec<u8>, args: &[Bytes]) -> Result<(), AllocError>
-    ensures { OnOk result (out.new.items ≡ out.old.items ++ ended (lines_of (codes "arg ") escaped args.now)) }
+    ensures { OnOk result (
+        out.new.items ≡ out.old.items ++ ended (lines_of (codes "arg ") escaped args.now)) }
 {
     for arg in args {
         put_value(out, b"arg ", arg.as_slice())?;
@@ -72,7 +78,8 @@ fn put_args(out: &mut Vec<u8>, args: &Option<Texts>) -> Result<(), AllocError>
 
 /// Appends a line for each entry of a table.
 fn put_entries(out: &mut Vec<u8>, keyword: &[u8], table: &Defs) -> Result<(), AllocError>
-    ensures { OnOk result (out.new.items ≡ out.old.items ++ ended (lines_of keyword.now entry_fields table.now)) }
+    ensures { OnOk result (
+        out.new.items ≡ out.old.items ++ ended (lines_of keyword.now entry_fields table.now)) }
 {
     for i in 0..table.len() {
         let (name, value) = table.at(i);
@@ -83,7 +90,8 @@ fn put_entries(out: &mut Vec<u8>, keyword: &[u8], table: &Defs) -> Result<(), Al
 
 /// Appends a line for each output.
 fn put_outputs(out: &mut Vec<u8>, keyword: &[u8], outputs: &[Output]) -> Result<(), AllocError>
-    ensures { OnOk result (out.new.items ≡ out.old.items ++ ended (lines_of keyword.now output_fields outputs.now)) }
+    ensures { OnOk result (
+        out.new.items ≡ out.old.items ++ ended (lines_of keyword.now output_fields outputs.now)) }
 {
     for output in outputs {
         put_output(out, keyword, output)?;
@@ -107,11 +115,12 @@ fn text_of(alloc: Global, status: &Record) -> Result<Bytes, AllocError>
     Ok(Bytes::from_vec(out))
 }
 
-/// Returns the text of a record (own): that of the second version if the record has arguments, and of the first otherwise.
+/// Returns the text of a record (own): that of the second version if the record has arguments, and
+/// of the first otherwise.
 ///
-/// In a record that may be written, the names of the variables and of the definitions are shell names, the names and the
-/// templates of the outputs are paths ([`is_path`](crate::is_path)), and no name occurs twice. Files and headers share
-/// their names.
+/// In a record that may be written, the names of the variables and of the definitions are shell
+/// names, the names and the templates of the outputs are paths ([`is_path`](crate::is_path)), and
+/// no name occurs twice. Files and headers share their names.
 pub fn write_record(alloc: Global, status: &Record) -> Result<Bytes, AllocError>
     requires { IsRecord status.now }
     // What is written is the record's text.

@@ -81,7 +81,8 @@ fn name_after(text: &[u8]) -> Option<&[u8]>
 
 /// Returns whether the keyword was `undef`, and the name after it, if there is one.
 fn with_keyword(is_undef: bool, name: Option<&[u8]>) -> Option<(bool, &[u8])>
-    ensures { option_map (λ k. (k.0, k.1.now)) result ≡ header.with_keyword is_undef (option_map (λ n. n.now) name.entry) }
+    ensures { option_map (λ k. (k.0, k.1.now)) result
+        ≡ header.with_keyword is_undef (option_map (λ n. n.now) name.entry) }
 {
     match name {
         Some(name) => Some((is_undef, name)),
@@ -91,7 +92,8 @@ fn with_keyword(is_undef: bool, name: Option<&[u8]>) -> Option<(bool, &[u8])>
 
 /// Returns the name after `define` and one or more spaces and tabs.
 fn defined_name(text: &[u8]) -> Option<&[u8]>
-    ensures { option_map (λ n. n.now) result ≡ option_and_then header.name_after (header.rest_after (header.keyword false) text.now) }
+    ensures { option_map (λ n. n.now) result
+        ≡ option_and_then header.name_after (header.rest_after (header.keyword false) text.now) }
 {
     match rest_after(b"define", text) {
         Some(rest) => name_after(rest),
@@ -148,7 +150,8 @@ fn put_newline(made: &mut Vec<u8>, line: &[u8]) -> Result<(), AllocError>
 
 /// Appends what is before the keyword.
 fn put_before(made: &mut Vec<u8>, parts: &Parts) -> Result<(), AllocError>
-    ensures { OnOk result (made.new.items ≡ made.old.items ++ header.before (header.directive parts.now)) }
+    ensures { OnOk result (
+        made.new.items ≡ made.old.items ++ header.before (header.directive parts.now)) }
 {
     made.extend_from_slice(parts.indent)?;
     made.extend_from_slice(b"#")?;
@@ -157,7 +160,9 @@ fn put_before(made: &mut Vec<u8>, parts: &Parts) -> Result<(), AllocError>
 
 /// Appends the line that defines the name.
 fn put_defined(made: &mut Vec<u8>, parts: &Parts, value: &[u8]) -> Result<(), AllocError>
-    ensures { OnOk result (made.new.items ≡ made.old.items ++ header.defined_line (header.directive parts.now) value.now) }
+    ensures { OnOk result (
+        made.new.items
+        ≡ made.old.items ++ header.defined_line (header.directive parts.now) value.now) }
 {
     put_before(made, parts)?;
     made.extend_from_slice(b"define ")?;
@@ -168,7 +173,8 @@ fn put_defined(made: &mut Vec<u8>, parts: &Parts, value: &[u8]) -> Result<(), Al
 
 /// Appends the comment that says that the name isn't defined.
 fn put_undefined(made: &mut Vec<u8>, parts: &Parts) -> Result<(), AllocError>
-    ensures { OnOk result (made.new.items ≡ made.old.items ++ header.undefined_line (header.directive parts.now)) }
+    ensures { OnOk result (
+        made.new.items ≡ made.old.items ++ header.undefined_line (header.directive parts.now)) }
 {
     made.extend_from_slice(b"/* ")?;
     put_before(made, parts)?;
@@ -179,7 +185,9 @@ fn put_undefined(made: &mut Vec<u8>, parts: &Parts) -> Result<(), AllocError>
 
 /// Appends the line of a name that isn't defined.
 fn put_without(made: &mut Vec<u8>, parts: &Parts, line: &[u8]) -> Result<(), AllocError>
-    ensures { OnOk result (made.new.items ≡ made.old.items ++ header.without_definition (header.directive parts.now) line.now) }
+    ensures { OnOk result (
+        made.new.items
+        ≡ made.old.items ++ header.without_definition (header.directive parts.now) line.now) }
 {
     if !parts.is_undef {
         return made.extend_from_slice(line);
@@ -195,7 +203,10 @@ fn put_changed(
     line: &[u8],
     parts: &Parts,
 ) -> Result<(), AllocError>
-    ensures { OnOk result (made.new.items ≡ made.old.items ++ header.changed definitions.now line.now (header.directive parts.now)) }
+    ensures { OnOk result (
+        made.new.items
+        ≡ made.old.items
+        ++ header.changed definitions.now line.now (header.directive parts.now)) }
 {
     match definitions.get(parts.name) {
         None => put_without(made, parts, line),
@@ -209,7 +220,8 @@ fn put_changed(
 /// Appends what is made of a line.
 #[tactic(auto, unfolding(crate::specs::Header::headed_line))]
 fn put_line(made: &mut Vec<u8>, definitions: &Defs, line: &[u8]) -> Result<(), AllocError>
-    ensures { OnOk result (made.new.items ≡ made.old.items ++ header.headed_line definitions.now line.now) }
+    ensures { OnOk result (
+        made.new.items ≡ made.old.items ++ header.headed_line definitions.now line.now) }
 {
     match parts_of(line) {
         None => made.extend_from_slice(line),
@@ -219,12 +231,14 @@ fn put_line(made: &mut Vec<u8>, definitions: &Defs, line: &[u8]) -> Result<(), A
 
 /// Returns the header that is made of the template `text` (Autoconf's manual, "Header Templates").
 ///
-/// A line whose `#undef` or `#define` names a defined symbol defines it with that value, and drops what comes after the name. An
-/// `#undef` of another symbol becomes a comment. Each other line stays as it is. So does a line in which a carriage return comes
-/// right after the name. The result reserves as many bytes as the text has, and grows if it becomes longer.
+/// A line whose `#undef` or `#define` names a defined symbol defines it with that value, and drops
+/// what comes after the name. An `#undef` of another symbol becomes a comment. Each other line
+/// stays as it is. So does a line in which a carriage return comes right after the name. The result
+/// reserves as many bytes as the text has, and grows if it becomes longer.
 pub fn fill_header(alloc: Global, text: &[u8], definitions: &Defs) -> Result<Vec<u8>, AllocError>
     // Each line of it is made of the template's line in its place.
-    ensures sound { IfOk result (λ made. header.AreMadeOf definitions.now (lines_of text.now) made.items) }
+    ensures sound { IfOk result (λ made.
+        header.AreMadeOf definitions.now (lines_of text.now) made.items) }
     // The same as a function.
     ensures exact { IfOk result (λ made. made.items ≡ header.headed definitions.now text.now) }
 {
@@ -237,10 +251,13 @@ pub fn fill_header(alloc: Global, text: &[u8], definitions: &Defs) -> Result<Vec
     Ok(made)
 }
 
-/// States that a header template makes exactly one header: the one that the function `headed` gives.
+/// States that a header template makes exactly one header: the one that the function `headed`
+/// gives.
 pub fn has_one_header(text: &[u8], definitions: &Defs)
-    ensures made { header.AreMadeOf definitions.now (lines_of text.now) (header.headed definitions.now text.now) }
-    ensures unique { (made : List ℕ) → header.AreMadeOf definitions.now (lines_of text.now) made → made ≡ header.headed definitions.now text.now }
+    ensures made { header.AreMadeOf definitions.now (lines_of text.now)
+        (header.headed definitions.now text.now) }
+    ensures unique { (made : List ℕ) → header.AreMadeOf definitions.now (lines_of text.now) made
+        → made ≡ header.headed definitions.now text.now }
 {
     // for the proof only
     let _ = text;

@@ -1,4 +1,5 @@
-//! The variables that differ between output files: the names of directories, and the name of the template.
+//! The variables that differ between output files: the names of directories, and the name of the
+//! template.
 
 ghost use Rattle.std.specs.Prelude.{◌≡◌, ◌++◌, ◌<◌, IfOk, codes};
 ghost use Rattle.template.specs.Place as words;
@@ -8,7 +9,8 @@ use deftable::Bytes;
 use memchr::memrchr;
 use std::alloc::{AllocError, Global};
 
-/// The variables of one output file that name directories (Autoconf's manual, "Preset Output Variables").
+/// The variables of one output file that name directories (Autoconf's manual, "Preset Output
+/// Variables").
 ///
 /// A relative name is relative to the directory of the output file.
 #[derive(Drop)]
@@ -23,11 +25,13 @@ pub struct Place {
     pub top_builddir: Bytes,
 }
 
-/// Returns the directory variables of the output file `file` (Autoconf's manual, "Preset Output Variables"). Its name is
-/// relative to the top directory of the build, with one slash after each directory.
+/// Returns the directory variables of the output file `file` (Autoconf's manual, "Preset Output
+/// Variables"). Its name is relative to the top directory of the build, with one slash after each
+/// directory.
 ///
-/// `srcdir` is the top directory of the sources, either absolute or relative to the top directory of the build. No name
-/// is simplified: for `a/f` and `../s`, the top directory of the sources is `../../s`.
+/// `srcdir` is the top directory of the sources, either absolute or relative to the top directory
+/// of the build. No name is simplified: for `a/f` and `../s`, the top directory of the sources is
+/// `../../s`.
 #[tactic(auto, unfolding(crate::specs::Place::place_of))]
 pub fn place_vars(alloc: Global, file: &[u8], srcdir: &[u8]) -> Result<Place, AllocError>
     ensures { IfOk result (λ place. place ≡ place_of file.now srcdir.now) }
@@ -44,8 +48,8 @@ pub fn place_vars(alloc: Global, file: &[u8], srcdir: &[u8]) -> Result<Place, Al
     })
 }
 
-/// Returns the value of `configure_input`: `FILE.  Generated from TEMPLATE by configure.`, with the template's name
-/// without its directories (Autoconf's manual, "Preset Output Variables").
+/// Returns the value of `configure_input`: `FILE.  Generated from TEMPLATE by configure.`, with the
+/// template's name without its directories (Autoconf's manual, "Preset Output Variables").
 #[tactic(auto, unfolding(crate::specs::Place::configure_input_of))]
 pub fn configure_input(alloc: Global, file: &[u8], template: &[u8]) -> Result<Bytes, AllocError>
     ensures { IfOk result (λ text. text ≡ configure_input_of file.now template.now) }
@@ -57,8 +61,9 @@ pub fn configure_input(alloc: Global, file: &[u8], template: &[u8]) -> Result<By
     Ok(Bytes::from_vec(text))
 }
 
-/// Returns the first line of a header, with its newline: `/* FILE.  Generated from TEMPLATE by configure.  */`, with the template's
-/// name without its directories (Autoconf's manual, "Configuration Header Files").
+/// Returns the first line of a header, with its newline:
+/// `/* FILE.  Generated from TEMPLATE by configure.  */`, with the template's name without its
+/// directories (Autoconf's manual, "Configuration Header Files").
 #[tactic(auto, unfolding(crate::specs::Place::header_note_of))]
 pub fn header_note(alloc: Global, file: &[u8], template: &[u8]) -> Result<Bytes, AllocError>
     ensures { IfOk result (λ text. text ≡ header_note_of file.now template.now) }
@@ -111,7 +116,8 @@ fn up(alloc: Global, directories: usize) -> Result<Vec<u8>, AllocError>
     Ok(way)
 }
 
-/// Returns a directory's name, given relative to the top, as it is relative to the file's directory.
+/// Returns a directory's name, given relative to the top, as it is relative to the file's
+/// directory.
 #[tactic(auto, unfolding(crate::specs::Place::seen_from))]
 fn seen_from(alloc: Global, file: &[u8], directory: &[u8]) -> Result<Vec<u8>, AllocError>
     ensures { IfOk result (λ way. way.items ≡ words.seen_from file.now directory.now) }

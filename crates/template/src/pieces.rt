@@ -12,9 +12,9 @@ use std::marker::Model;
 
 /// Fills a template that is given in pieces.
 ///
-/// What all calls return is together what [`fill`](crate::fill) returns for all pieces together, however the template is cut: see
-/// [`pieces_join`]. A filler holds nothing, or an `@` and the front of a key. So it holds at most one byte more than the longest key
-/// has.
+/// What all calls return is together what [`fill`](crate::fill) returns for all pieces together,
+/// however the template is cut: see [`pieces_join`]. A filler holds nothing, or an `@` and the
+/// front of a key. So it holds at most one byte more than the longest key has.
 #[derive(Drop)]
 pub struct Filler {
     alloc: Global,
@@ -46,17 +46,20 @@ impl Filler {
         }
     }
 
-    /// Takes the next piece of the template, and returns what follows in the filled text. If the template so far ends in an `@` and
-    /// the front of a key, these are held, since the next piece may end the key. Nothing else is held.
+    /// Takes the next piece of the template, and returns what follows in the filled text. If the
+    /// template so far ends in an `@` and the front of a key, these are held, since the next piece
+    /// may end the key. Nothing else is held.
     ///
-    /// The time is that of [`fill`](crate::fill) for what was held and the piece together. If an `@` is open at the end, the text
-    /// after it is also compared with each key.
+    /// The time is that of [`fill`](crate::fill) for what was held and the piece together. If an
+    /// `@` is open at the end, the text after it is also compared with each key.
     ///
     /// # Errors
     ///
-    /// Fails only if memory runs out, and then leaves the filler unchanged. The same piece may be fed again.
+    /// Fails only if memory runs out, and then leaves the filler unchanged. The same piece may be
+    /// fed again.
     pub fn feed(&mut self, piece: &[u8]) -> Result<Vec<u8>, AllocError>
-        ensures feeds { IfOk result (λ given. Feeds self.old.entries self.old.held piece.now given.items self.new.held) }
+        ensures feeds { IfOk result (λ given.
+            Feeds self.old.entries self.old.held piece.now given.items self.new.held) }
         ensures entries { self.new.entries ≡ self.old.entries }
         ensures held { MayBeHeld self.new.entries self.new.held }
         ensures bound { length self.new.held ≤ longest_of self.new.entries + 1 }
@@ -84,7 +87,8 @@ impl Filler {
 
     /// Returns what `feed` gives for the piece, and what is held then.
     fn parts_with(&self, piece: &[u8]) -> Result<(Vec<u8>, Vec<u8>), AllocError>
-        ensures feeds { IfOk result (λ p. Feeds self.now.entries self.now.held piece.now p.0.items p.1.items) }
+        ensures feeds { IfOk result (λ p.
+            Feeds self.now.entries self.now.held piece.now p.0.items p.1.items) }
         ensures may { IfOk result (λ p. may_be_held self.now.entries p.1.items ≡ true) }
     {
         // for the proof only
@@ -98,8 +102,8 @@ impl Filler {
     }
 }
 
-/// Returns what is given for a text, and what is held of it: an open `@` and the text after it if a key begins with that text, and
-/// otherwise nothing.
+/// Returns what is given for a text, and what is held of it: an open `@` and the text after it if a
+/// key begins with that text, and otherwise nothing.
 fn parts(alloc: Global, text: &[u8], table: &Table) -> Result<(Vec<u8>, Vec<u8>), AllocError>
     ensures { IfOk result (λ p. IsParted table.now text.now p.0.items p.1.items) }
 {
@@ -111,18 +115,25 @@ fn parts(alloc: Global, text: &[u8], table: &Table) -> Result<(Vec<u8>, Vec<u8>)
     Ok((given, later))
 }
 
-/// States what the calls of a filler return together, of which each says what it does with one piece.
+/// States what the calls of a filler return together, of which each says what it does with one
+/// piece.
 pub fn pieces_join()
     // A new filler was fed the empty text.
     ensures begins { (es : List (List ℕ × List ℕ)) → Fed es [] [] [] }
     // It is fed one piece more.
-    ensures goes_on { (es : List (List ℕ × List ℕ)) (text given held piece more later : List ℕ) → Fed es text given held → Feeds es held piece more later → Fed es (text ++ piece) (given ++ more) later }
+    ensures goes_on { (es : List (List ℕ × List ℕ)) (text given held piece more later : List ℕ)
+        → Fed es text given held → Feeds es held piece more later
+        → Fed es (text ++ piece) (given ++ more) later }
     // It ends. What `finish` returns is what is held, filled.
-    ensures ends { (es : List (List ℕ × List ℕ)) (text given held : List ℕ) → Fed es text given held → given ++ filled es held ≡ filled es text }
+    ensures ends { (es : List (List ℕ × List ℕ)) (text given held : List ℕ) → Fed es text given held
+        → given ++ filled es held ≡ filled es text }
     // The same of any pieces in turn: what they give is their text filled without what is held.
-    ensures so_far { (es : List (List ℕ × List ℕ)) (pieces givens : List (List ℕ)) (held : List ℕ) → FeedsAll es [] pieces givens held
+    ensures so_far { (es : List (List ℕ × List ℕ)) (pieces givens : List (List ℕ)) (held : List ℕ)
+        → FeedsAll es [] pieces givens held
         → Fed es (flat_map (λ piece. piece) pieces) (flat_map (λ given. given) givens) held }
     // What they give and what is given at the end are together their text filled.
-    ensures whole { (es : List (List ℕ × List ℕ)) (pieces givens : List (List ℕ)) (held : List ℕ) → FeedsAll es [] pieces givens held
-        → flat_map (λ given. given) givens ++ filled es held ≡ filled es (flat_map (λ piece. piece) pieces) }
+    ensures whole { (es : List (List ℕ × List ℕ)) (pieces givens : List (List ℕ)) (held : List ℕ)
+        → FeedsAll es [] pieces givens held
+        → flat_map (λ given. given) givens ++ filled es held
+        ≡ filled es (flat_map (λ piece. piece) pieces) }
 {}

@@ -6,8 +6,8 @@ ghost use Rattle.template.specs.Keys as keys;
 
 use std::marker::Model;
 
-/// A set of texts that also accepts a few others. A text has one bit, which its first byte, its last byte and its
-/// length determine.
+/// A set of texts that also accepts a few others. A text has one bit, which its first byte, its
+/// last byte and its length determine.
 #[derive(Drop)]
 pub(crate) struct Sieve {
     rows: [u64; 64],

@@ -11,7 +11,8 @@ use std::simd::prelude::*;
 /// The number of bytes that are compared together.
 const WIDTH: usize = 64;
 
-/// The part of the text from `base` to `end`. Bit k of `marks` is set if an `@` that isn't found yet is at `base + k`.
+/// The part of the text from `base` to `end`. Bit k of `marks` is set if an `@` that isn't found
+/// yet is at `base + k`.
 #[derive(Clone, Copy)]
 pub(crate) struct Window {
     pub(crate) base: usize,
@@ -32,7 +33,8 @@ impl Window {
     }
 }
 
-/// Returns the offset of the first `@` from `from` on, and the window in which the next one is searched for.
+/// Returns the offset of the first `@` from `from` on, and the window in which the next one is
+/// searched for.
 #[inline(always)]
 pub(crate) fn next_sign(text: &[u8], window: Window, from: usize) -> Option<(usize, Window)>
     requires { IsWindow text.now window.base window.end window.marks from }

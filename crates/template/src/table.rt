@@ -58,8 +58,8 @@ impl Table {
         Ok(())
     }
 
-    /// Returns the value of the key, or `None` if it isn't in the table. Most texts that aren't keys are ruled out
-    /// without a look-up.
+    /// Returns the value of the key, or `None` if it isn't in the table. Most texts that aren't
+    /// keys are ruled out without a look-up.
     #[inline]
     pub fn get(&self, key: &[u8]) -> Option<&Bytes>
         ensures value { option_map (λ x. x.now) result ≡ value_of self.now key.now }

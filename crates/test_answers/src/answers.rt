@@ -13,7 +13,8 @@ use test_runs::{
 };
 use test_trees::{put_counts, put_lists, put_statements};
 
-/// Returns the statements of a source, without AC_INIT and AC_OUTPUT if the case gives the lines between them.
+/// Returns the statements of a source, without AC_INIT and AC_OUTPUT if the case gives the lines
+/// between them.
 fn own_statements(source: &Source, is_lines: bool) -> &[Stmt] {
     match source.statements() {
         [_, own @ .., _] if is_lines => own,
@@ -103,8 +104,8 @@ fn put_sources(page: &mut Page, given: &Given) {
     }
 }
 
-/// Puts what a run of the source does and leaves. If the case gives lines between AC_INIT and AC_OUTPUT, it puts no
-/// variable and no definition that these two leave by themselves.
+/// Puts what a run of the source does and leaves. If the case gives lines between AC_INIT and
+/// AC_OUTPUT, it puts no variable and no definition that these two leave by themselves.
 fn put_ran(page: &mut Page, kind: AnswerKind, given: &Given) {
     let mut whole = Page::new(page.alloc());
     put_source(&mut whole, kind, given, given.source());

@@ -1,5 +1,6 @@
-//! The calls that answers make, each in a function without a contract: what is proved of them is not needed here, and
-//! would make each function that calls them slow to check. The crate `test_runs` has those that read and run a source.
+//! The calls that answers make, each in a function without a contract: what is proved of them is
+//! not needed here, and would make each function that calls them slow to check. The crate
+//! `test_runs` has those that read and run a source.
 
 use crate::pieces::Pieces;
 use acparse::{Source, is_resumable};

@@ -10,7 +10,8 @@ use std::process::Processes;
 use std::rt::Files;
 use test_rows::{Page, cut};
 
-/// Returns the job of these words, with commas between them, and of its conftest, if it has one: a name, a blank and a text.
+/// Returns the job of these words, with commas between them, and of its conftest, if it has one: a
+/// name, a blank and a text.
 pub fn job_of(page: &mut Page, words: &[u8], file: &[u8]) -> Job {
     let (name, text) = cut(file, b" ");
     let words = words_of(page, words);
@@ -42,7 +43,8 @@ fn put_end(page: &mut Page, slot: usize, reply: &Reply) {
     put_reply(page, reply);
 }
 
-/// Returns a copy of a job for a slot. If its last word is `slot`, it has the number of the slot as one word more.
+/// Returns a copy of a job for a slot. If its last word is `slot`, it has the number of the slot as
+/// one word more.
 fn job_for(alloc: Global, job: &Job, slot: usize) -> Result<Job, AllocError> {
     let mut one = job.copy(alloc)?;
     match job.words.as_slice().last() {
@@ -55,7 +57,8 @@ fn job_for(alloc: Global, job: &Job, slot: usize) -> Result<Job, AllocError> {
     Ok(one)
 }
 
-/// Starts a job so many times, in the slots from 0 on, and puts the starts that are refused and then the ends.
+/// Starts a job so many times, in the slots from 0 on, and puts the starts that are refused and
+/// then the ends.
 fn put_ends<C: Crew>(page: &mut Page, crew: &mut C, count: usize, job: &Job)
     requires count { count ≤ 16 }
     requires events { (C.account crew.old).events ≡ [] }

@@ -3,8 +3,8 @@
 use std::io::{self, ErrorKind, Read, Write};
 use test_rows::{Page, cut, number_of};
 
-/// Gives so many pieces of one size, each of the same byte. Its reads are counted from 1. One may fail, and some before the
-/// first may be interrupted.
+/// Gives so many pieces of one size, each of the same byte. Its reads are counted from 1. One may
+/// fail, and some before the first may be interrupted.
 #[derive(Clone, Copy)]
 pub struct Pipe {
     byte: u8,
@@ -15,8 +15,9 @@ pub struct Pipe {
     reads: usize,
 }
 
-/// Returns the pipe of a text: its pieces, their size, the read that fails and how often it is interrupted, with blanks
-/// between them. What is left out is 0, and a text that doesn't begin with a number has no pipe.
+/// Returns the pipe of a text: its pieces, their size, the read that fails and how often it is
+/// interrupted, with blanks between them. What is left out is 0, and a text that doesn't begin with
+/// a number has no pipe.
 pub fn pipe_of(text: &[u8], byte: u8) -> Option<Pipe> {
     if text.is_empty() || text[0].wrapping_sub(b'0') > 9 {
         return None;

@@ -1,8 +1,9 @@
 //! The form of a file of cases, which `crates/tests_cases/data/README` describes.
 //!
-//! A line `=== NAME` begins a case, a line `--- NAME` a section of it. The newline before such a line is no part of
-//! the text before it, nor is the file's last one. Sections before the first case hold for each case that has none of
-//! the same name. Lines before the first of both are comments.
+//! A line `=== NAME` begins a case, a line `--- NAME` a section of it. The newline before such a
+//! line is no part of the text before it, nor is the file's last one. Sections before the first
+//! case hold for each case that has none of the same name. Lines before the first of both are
+//! comments.
 
 use crate::page::Page;
 use crate::table::cut;
@@ -110,7 +111,8 @@ impl<'a> Case<'a> {
     }
 }
 
-/// Returns the sections that hold for each case of a file, and its cases. The text has a newline before its first line.
+/// Returns the sections that hold for each case of a file, and its cases. The text has a newline
+/// before its first line.
 pub fn read_file(text: &[u8]) -> (&[u8], &[u8]) {
     let (head, cases) = split_before(text.strip_suffix(b"\n").unwrap_or(text), b"\n=== ");
     let (_, defaults) = split_before(head, b"\n--- ");

@@ -4,7 +4,8 @@ use crate::table::{RowCall, try_rows};
 use std::test::Fail;
 use std::{env, fs};
 
-/// Tries each row of a table in a new directory, and removes the directory if no row has another answer.
+/// Tries each row of a table in a new directory, and removes the directory if no row has another
+/// answer.
 pub fn try_rows_in<C: RowCall>(
     rt: &HostRuntime,
     directory: &str,

@@ -1,4 +1,5 @@
-//! Texts as answers have them: lines of printable ASCII, in which any other byte is written by an escape.
+//! Texts as answers have them: lines of printable ASCII, in which any other byte is written by an
+//! escape.
 
 use crate::page::Page;
 use std::fmt::Display;
@@ -62,7 +63,8 @@ pub fn note_cut(page: &mut Page, other: &Page) {
     }
 }
 
-/// Puts what is wrong. If it is that memory ran out, which each error prints as `memory`, the page is cut.
+/// Puts what is wrong. If it is that memory ran out, which each error prints as `memory`, the page
+/// is cut.
 pub fn put_error(page: &mut Page, error: &[u8]) {
     if error == b"memory".as_slice() {
         page.cut();

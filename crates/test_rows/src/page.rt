@@ -3,7 +3,8 @@
 use std::alloc::{AllocError, Global};
 use std::fmt::Display;
 
-/// A text that is written piece by piece. If memory runs out, what is put is lost, and the page is cut.
+/// A text that is written piece by piece. If memory runs out, what is put is lost, and the page is
+/// cut.
 #[derive(Drop)]
 pub struct Page {
     alloc: Global,

@@ -6,8 +6,8 @@ use crate::texts::number_of;
 /// What a word says of a child.
 #[derive(Clone, Copy)]
 pub enum ReplyWord<'a> {
-    /// It ended with this exit status and these diagnostics: `STATUS`, or `STATUS:TEXT`. The status 256 is that of a
-    /// signal.
+    /// It ended with this exit status and these diagnostics: `STATUS`, or `STATUS:TEXT`. The status
+    /// 256 is that of a signal.
     Answer { status: u32, text: &'a [u8] },
     /// Its start is refused: `S`.
     StartRefused,

@@ -26,7 +26,8 @@ impl<C: RowCall> RowCall for Named<'_, C> {
     }
 }
 
-/// Returns what is before the first mark and what is after it: the whole text and nothing if it has none.
+/// Returns what is before the first mark and what is after it: the whole text and nothing if it has
+/// none.
 pub fn cut<'a>(text: &'a [u8], mark: &[u8]) -> (&'a [u8], &'a [u8]) {
     for at in 0..text.len() {
         if let Some(after) = text[at..].strip_prefix(mark) {
@@ -97,7 +98,8 @@ pub fn try_rows<C: RowCall>(alloc: Global, call: &C, table: &[u8]) -> Result<(),
     try_tables(alloc, call, &[table])
 }
 
-/// Puts from which length on a front of a text has another answer than the shorter ones: each length with the answer.
+/// Puts from which length on a front of a text has another answer than the shorter ones: each
+/// length with the answer.
 pub fn put_fronts<C: RowCall>(page: &mut Page, call: &C, text: &[u8]) {
     let mut last = Page::new(page.alloc());
     for len in 0..=text.len() {

@@ -52,8 +52,8 @@ fn put_next(page: &mut Page, place: Place, byte: u8, number: usize) -> Place {
     Place::Outside
 }
 
-/// Puts a text whose escapes are read: `\n`, `\t`, `\0`, `\\`, `\xHH`, `\#` for the number, and a backslash at the end of a
-/// line, which joins it with the next.
+/// Puts a text whose escapes are read: `\n`, `\t`, `\0`, `\\`, `\xHH`, `\#` for the number, and a
+/// backslash at the end of a line, which joins it with the next.
 pub fn put_unescaped(page: &mut Page, text: &[u8], number: usize) {
     let mut place = Place::Outside;
     for byte in text {
@@ -80,8 +80,8 @@ fn put_line(page: &mut Page, line: &[u8]) {
     }
 }
 
-/// Puts a text of lines `COUNT TEXT`, each so many times without a newline. Escapes are read, and `\#` is the number of the
-/// repetition, from 0000.
+/// Puts a text of lines `COUNT TEXT`, each so many times without a newline. Escapes are read, and
+/// `\#` is the number of the repetition, from 0000.
 pub fn put_repeated(page: &mut Page, text: &[u8]) {
     for line in text.split(|byte| *byte == b'\n') {
         put_line(page, line);

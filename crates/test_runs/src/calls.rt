@@ -1,5 +1,6 @@
-//! The calls that read a source and its arguments, and that run it, each in a function without a contract: what is
-//! proved of them is not needed here, and would make each function that calls them slow to check.
+//! The calls that read a source and its arguments, and that run it, each in a function without a
+//! contract: what is proved of them is not needed here, and would make each function that calls
+//! them slow to check.
 
 use crate::recorder::Recorder;
 use acparse::{ParseFault, Source, parse};
@@ -60,7 +61,8 @@ fn run_plan(
     })
 }
 
-/// Runs a source from these variables over a crew of these replies, whose children end in this order.
+/// Runs a source from these variables over a crew of these replies, whose children end in this
+/// order.
 pub fn run_source(
     alloc: Global,
     source: &Source,

@@ -9,7 +9,8 @@ use crew::{Crew, Event, FuseKind, Fused, MemoryCrew};
 use engine::{Artifact, Kind, MemoryOutputs, Outputs};
 use test_rows::{Page, cut, number_of};
 
-/// Returns replies, of which the one with this number, counted from 1, is another word. Without a word it is left out.
+/// Returns replies, of which the one with this number, counted from 1, is another word. Without a
+/// word it is left out.
 fn with_reply(page: &Page, replies: &[u8], number: usize, word: &[u8]) -> Page {
     let mut made = Page::new(page.alloc());
     let mut count: usize = 0;
@@ -82,7 +83,8 @@ struct Cut {
     k: usize,
 }
 
-/// Puts what a run leaves over a crew that refuses a call, around one that has done nothing. Returns that crew.
+/// Puts what a run leaves over a crew that refuses a call, around one that has done nothing.
+/// Returns that crew.
 fn put_over_fused<C: Crew + Drop, O: Outputs>(
     page: &mut Page,
     source: &[u8],
@@ -101,8 +103,8 @@ fn put_over_fused<C: Crew + Drop, O: Outputs>(
     crew
 }
 
-/// Returns the number of the child that a refused call is about, or 0 if there was no such call. `bound` is more than
-/// the number of starts.
+/// Returns the number of the child that a refused call is about, or 0 if there was no such call.
+/// `bound` is more than the number of starts.
 fn child_of(events: &[Event], refused: Cut, bound: usize) -> usize {
     match refused.kind {
         FuseKind::Start => { if refused.k < bound { refused.k } else { 0 } }
@@ -119,7 +121,8 @@ fn has_output(artifacts: &[Artifact]) -> bool {
     false
 }
 
-/// Puts what is wrong with a cut run: that a child is left, or that a file, a header or a record was handed over.
+/// Puts what is wrong with a cut run: that a child is left, or that a file, a header or a record
+/// was handed over.
 fn put_faults(page: &mut Page, events: &[Event], artifacts: &[Artifact], child: usize) {
     if !all_ended(events) {
         page.put(b"a child is left\n");
@@ -129,8 +132,8 @@ fn put_faults(page: &mut Page, events: &[Event], artifacts: &[Artifact], child: 
     }
 }
 
-/// Puts what a run leaves and hands over if a call is refused, and what is wrong with that. Returns the number of the
-/// child that the call is about, as [`child_of`] has it.
+/// Puts what a run leaves and hands over if a call is refused, and what is wrong with that. Returns
+/// the number of the child that the call is about, as [`child_of`] has it.
 fn put_cut(
     page: &mut Page,
     given: &Given,
@@ -186,8 +189,8 @@ fn replies_inside(page: &Page, replies: &[u8], refused: Cut) -> Page {
     with_reply(page, replies, left_out, b"")
 }
 
-/// Returns what a run leaves and hands over with one child at a time, if the start or the end of this child is
-/// refused. If it isn't cut at this child, that is put, too.
+/// Returns what a run leaves and hands over with one child at a time, if the start or the end of
+/// this child is refused. If it isn't cut at this child, that is put, too.
 fn wanted_of(
     page: &mut Page,
     given: &Given,
@@ -221,8 +224,8 @@ fn put_refused(page: &mut Page, refused: Cut) {
     page.put_number(refused.k);
 }
 
-/// Returns what a run leaves and hands over with one child at a time, first if none is refused, and then with each
-/// child refused.
+/// Returns what a run leaves and hands over with one child at a time, first if none is refused, and
+/// then with each child refused.
 fn wanted_of_each(
     page: &mut Page,
     given: &Given,
@@ -246,7 +249,8 @@ fn is_at(pages: &[Page], at: usize, text: &[u8]) -> bool {
     }
 }
 
-/// Puts the call and the way if, with that call refused, something else is left or handed over than wanted.
+/// Puts the call and the way if, with that call refused, something else is left or handed over than
+/// wanted.
 fn put_if_other(
     page: &mut Page,
     given: &Given,
@@ -299,8 +303,8 @@ fn put_each_of(page: &mut Page, given: &Given, inputs: &Inputs, kind: FuseKind, 
     put_if_other(page, given, inputs, b"16 oldest", Cut { kind, k }, wanted);
 }
 
-/// Puts `as one by one` if each start and each end of a run, refused in turn, leaves the same as with one child at a
-/// time, and else each that leaves something else.
+/// Puts `as one by one` if each start and each end of a run, refused in turn, leaves the same as
+/// with one child at a time, and else each that leaves something else.
 pub fn put_each(page: &mut Page, given: &Given) {
     let inputs = inputs_of(page, &given.case);
     let count = count_of(given.case.words(b"replies"));

@@ -57,7 +57,8 @@ impl Given<'_> {
     }
 }
 
-/// Puts the source of these lines: AC_INIT before them, AC_OUTPUT after them, and with a template its file.
+/// Puts the source of these lines: AC_INIT before them, AC_OUTPUT after them, and with a template
+/// its file.
 pub fn put_source_of(page: &mut Page, case: &Case<'_>, lines: &[u8], has_template: bool) {
     match case.section(b"init") {
         Some(section) => section.put(page),
@@ -89,7 +90,8 @@ fn put_source(page: &mut Page, case: &Case<'_>, has_template: bool) {
     }
 }
 
-/// Puts the source that a case gives, or instead of it the filter's input, and returns whether it is that.
+/// Puts the source that a case gives, or instead of it the filter's input, and returns whether it
+/// is that.
 fn put_written(page: &mut Page, case: &Case<'_>, has_template: bool) -> bool {
     match case.section(b"input") {
         Some(section) => section.put(page),
@@ -98,8 +100,8 @@ fn put_written(page: &mut Page, case: &Case<'_>, has_template: bool) -> bool {
     case.section(b"input").is_some()
 }
 
-/// Puts a text without its first mark, and returns the offset of that. If there is no mark to be taken out, it is the
-/// whole.
+/// Puts a text without its first mark, and returns the offset of that. If there is no mark to be
+/// taken out, it is the whole.
 fn put_unmarked(page: &mut Page, text: &[u8], is_marked: bool) -> Option<usize> {
     let (before, after) = cut(text, &[MARK]);
     if !is_marked || before.len() == text.len() {

@@ -11,7 +11,8 @@ use test_rows::escaped::{put_bracketed, put_count, put_fault, put_text, put_valu
 /// What is put of what a whole run leaves.
 #[derive(Clone, Copy, PartialEq, Eq)]
 pub enum View {
-    /// All but the variables that are not asked for, the definitions of every run, the log, and the text of the record.
+    /// All but the variables that are not asked for, the definitions of every run, the log, and the
+    /// text of the record.
     Told,
     /// The text of the log.
     Log,
@@ -175,7 +176,8 @@ impl Answer for RemakeFault {
     }
 }
 
-/// Puts what is to be seen of an answer. It sees no field of the answer, which makes its proof short.
+/// Puts what is to be seen of an answer. It sees no field of the answer, which makes its proof
+/// short.
 pub fn put_found<T: Answer + Drop, E: Answer + Drop>(
     page: &mut Page,
     answer: Result<T, E>,

@@ -1,10 +1,10 @@
-//! What a case gives, and whole runs of it in words: what a run begins with, what it does, what it leaves
-//! and hands over, and what is made again.
+//! What a case gives, and whole runs of it in words: what a run begins with, what it does, what it
+//! leaves and hands over, and what is made again.
 //!
-//! `given` reads what a case gives. `calls` makes the run, over a crew that writes down what it is asked
-//! (`recorder`), and `runs` puts it on a page. `whole` makes one run with what it hands over, two in turn, or
-//! the same at several windows, and `cuts` those in which a call of the crew is refused. `remakes` makes
-//! outputs again from a record. `left` puts what all of them leave.
+//! `given` reads what a case gives. `calls` makes the run, over a crew that writes down what it is
+//! asked (`recorder`), and `runs` puts it on a page. `whole` makes one run with what it hands over,
+//! two in turn, or the same at several windows, and `cuts` those in which a call of the crew is
+//! refused. `remakes` makes outputs again from a record. `left` puts what all of them leave.
 #![tactic(auto)]
 
 pub mod calls;

@@ -9,8 +9,8 @@ use deftable::Bytes;
 use engine::{Kind, MemoryOutputs, Outputs, recheck_args, remake};
 use test_rows::{Page, number_of};
 
-/// Returns the text of the record that a case gives, or else of the one that its run hands over: nothing if it hands
-/// over none.
+/// Returns the text of the record that a case gives, or else of the one that its run hands over:
+/// nothing if it hands over none.
 fn record_of(page: &mut Page, given: &Given) -> Page {
     if let Some(section) = given.case.section(b"record") {
         return text_of(page, Some(section));
@@ -22,7 +22,8 @@ fn record_of(page: &mut Page, given: &Given) -> Page {
     record
 }
 
-/// Puts the number of outputs that are made again for a receiver that has done nothing, or the fault.
+/// Puts the number of outputs that are made again for a receiver that has done nothing, or the
+/// fault.
 fn put_made_for<O: Outputs>(
     page: &mut Page,
     text: &[u8],
@@ -36,7 +37,8 @@ fn put_made_for<O: Outputs>(
     put_found(page, answer, View::Whole, b"");
 }
 
-/// Puts what is made again of a record: the number of outputs or the fault, and what is handed over.
+/// Puts what is made again of a record: the number of outputs or the fault, and what is handed
+/// over.
 pub fn put_remade(page: &mut Page, given: &Given) {
     let record = record_of(page, given);
     let templates = templates_of(page, &given.case);

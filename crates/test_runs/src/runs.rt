@@ -131,7 +131,8 @@ fn put_all_settings(page: &mut Page, source: &Source, settings: &Settings) {
     put_settings(page, settings);
 }
 
-/// Puts what a run begins with that it doesn't without arguments and environment, or the fault of the arguments.
+/// Puts what a run begins with that it doesn't without arguments and environment, or the fault of
+/// the arguments.
 pub fn put_opening(page: &mut Page, given: &Given, source: &Source) {
     match settings_of(page, given, source) {
         Ok(settings) => put_all_settings(page, source, &settings),
@@ -290,8 +291,8 @@ fn put_run_from(page: &mut Page, view: RunView, given: &Given, source: &Source, 
     }
 }
 
-/// Puts what is to be seen of a run, or the fault of the arguments or of the plan. Of the variables, it puts those that
-/// the run changed, or all if the whole is to be seen.
+/// Puts what is to be seen of a run, or the fault of the arguments or of the plan. Of the
+/// variables, it puts those that the run changed, or all if the whole is to be seen.
 pub fn put_run(page: &mut Page, view: RunView, given: &Given, source: &Source) {
     match settings_of(page, given, source) {
         Ok(settings) => put_run_from(page, view, given, source, settings.vars),

@@ -105,7 +105,8 @@ pub fn how_of<'a>(case: &Case<'a>, view: View) -> How<'a> {
     }
 }
 
-/// Runs a source. It promises nothing of the answer, so that its caller sees no contract of the engine.
+/// Runs a source. It promises nothing of the answer, so that its caller sees no contract of the
+/// engine.
 fn answer_of<C: Crew, O: Outputs>(
     page: &Page,
     source: &[u8],
@@ -217,7 +218,8 @@ pub fn put_second(page: &mut Page, given: &Given) {
 const WAYS: &[u8] =
     b"1 oldest,2 oldest,2 youngest,2 1 0 1,3 oldest,3 youngest,3 1 2 0,3 2 0 1,16 oldest,16 youngest,16 1 0 2";
 
-/// Returns how the run of a case is made with these replies at a window, with ends in an order, if all of it is put.
+/// Returns how the run of a case is made with these replies at a window, with ends in an order, if
+/// all of it is put.
 pub fn how_at<'a>(case: &Case<'_>, way: &'a [u8], replies: &'a [u8]) -> How<'a> {
     let (window, order) = cut(way, b" ");
     How {
@@ -238,8 +240,8 @@ fn at_way(page: &mut Page, given: &Given, inputs: &Inputs, way: &[u8]) -> Page {
     whole
 }
 
-/// Puts `as one by one` if the run of a case leaves and hands over the same at each of [`WAYS`], and else each way with
-/// something else.
+/// Puts `as one by one` if the run of a case leaves and hands over the same at each of [`WAYS`],
+/// and else each way with something else.
 pub fn put_ways(page: &mut Page, given: &Given) {
     let inputs = inputs_of(page, &given.case);
     let first = at_way(page, given, &inputs, b"1 oldest");

@@ -1,7 +1,8 @@
-//! The tree of a source in words, for the crates of tests: a line for each statement, and then the lists of the source.
+//! The tree of a source in words, for the crates of tests: a line for each statement, and then the
+//! lists of the source.
 //!
-//! `shell_words` has the words of shell text, `plain_words` those of a statement without statements in it, and
-//! `tree_words` those of the whole. `crates/tests_cases/data/README` lists them.
+//! `shell_words` has the words of shell text, `plain_words` those of a statement without statements
+//! in it, and `tree_words` those of the whole. `crates/tests_cases/data/README` lists them.
 #![tactic(auto)]
 
 pub mod plain_words;

@@ -251,8 +251,8 @@ fn put_effect(page: &mut Page, declares: &Declares, effect: &Effect) {
     }
 }
 
-/// Puts what a statement declares and what it does on one line, without its newline. What is declared has no words of its
-/// own if those of the effect say it.
+/// Puts what a statement declares and what it does on one line, without its newline. What is
+/// declared has no words of its own if those of the effect say it.
 pub fn put_plain(page: &mut Page, declares: &Declares, effect: &Effect) {
     if let Effect::Nothing = effect {
         return put_declared(page, declares);

@@ -1,7 +1,7 @@
 //! Shell text in words: what a word, a text with variables, a test and patterns were read as.
 //!
-//! What is quoted is in single quotes, a variable is `${name}`, and a byte that could be taken for one of these has a
-//! backslash before it.
+//! What is quoted is in single quotes, a variable is `${name}`, and a byte that could be taken for
+//! one of these has a backslash before it.
 
 use shellword::{Condition, Element, HereText, Joint, Part, Patterns, Piece, Test, Word};
 use test_rows::Page;

@@ -1,4 +1,5 @@
-//! A source in words: a line for each statement, with those in it indented, and then its lists that are not empty.
+//! A source in words: a line for each statement, with those in it indented, and then its lists that
+//! are not empty.
 
 use crate::plain_words::{
     option_word, put_each, put_entries, put_files, put_help, put_includes, put_plain,
@@ -248,7 +249,8 @@ fn put_count_of(page: &mut Page, word: &[u8], count: usize) {
     }
 }
 
-/// Puts how many statements there are, how many cases they have, and how long each list is that is not empty.
+/// Puts how many statements there are, how many cases they have, and how long each list is that is
+/// not empty.
 pub fn put_counts(page: &mut Page, statements: &[Stmt], source: &Source) {
     put_count(page, b"statements ", statements.len());
     put_count_of(page, b"cases ", case_count(statements));

@@ -48,8 +48,8 @@ pub const NOTHING: Around<'static> = Around {
     is_watched: false,
 };
 
-/// Returns the exit status of the program over a crew. It promises nothing, so that its callers don't see the long
-/// contract of the command.
+/// Returns the exit status of the program over a crew. It promises nothing, so that its callers
+/// don't see the long contract of the command.
 pub fn status_over<C: Crew + Causes, R: Read, W: Write, E: Write>(
     rt: &HostRuntime,
     words: &[Bytes],
@@ -119,8 +119,8 @@ fn status_in_memory<W: Write>(
     }
 }
 
-/// Puts the status of the whole program with these words, over a crew in memory, and its progress on a page of its own. What it prints
-/// goes to the streams of the process.
+/// Puts the status of the whole program with these words, over a crew in memory, and its progress
+/// on a page of its own. What it prints goes to the streams of the process.
 pub fn put_command(
     page: &mut Page,
     progress: &mut Page,

@@ -1,11 +1,13 @@
 //! Cases in files: what is to be read of a source, and what a run of it is to give.
 //!
-//! The arguments are names of files. `report` goes through the cases of a file. The crate `test_answers` has what the
-//! engine makes of what a case gives, and `steps` has the cases over files, rows of calls among them (`rows`). A case
-//! differs if that is not what the file says. `data/README` says how to add a case.
+//! The arguments are names of files. `report` goes through the cases of a file. The crate
+//! `test_answers` has what the engine makes of what a case gives, and `steps` has the cases over
+//! files, rows of calls among them (`rows`). A case differs if that is not what the file says.
+//! `data/README` says how to add a case.
 //!
-//! It prints a line for each file, before it what was wanted and found of each case that differs, and exits with status 1
-//! if one does. If the first argument is `standin`, it is the stand-in for a compiler instead, as a child of a case is.
+//! It prints a line for each file, before it what was wanted and found of each case that differs,
+//! and exits with status 1 if one does. If the first argument is `standin`, it is the stand-in for
+//! a compiler instead, as a child of a case is.
 #![tactic(auto)]
 
 mod calling;

@@ -130,7 +130,8 @@ fn has_steps(case: &Case<'_>) -> bool {
     case.own(b"run").is_some() || case.own(b"program").is_some() || case.own(b"calls").is_some()
 }
 
-/// Puts what differs in a case, and the name of its file and its own before that. Returns whether nothing does.
+/// Puts what differs in a case, and the name of its file and its own before that. Returns whether
+/// nothing does.
 fn check_case<'a>(page: &mut Page, rt: &'a HostRuntime, file: &[u8], case: &Case<'a>) -> bool {
     let mut found = Page::new(page.alloc());
     if has_steps(case) {
@@ -163,7 +164,8 @@ fn put_summary(page: &mut Page, file: &[u8], count: usize, wrong: usize) {
     page.put(b" differ\n");
 }
 
-/// Puts what differs in the cases of a file, how many cases there are and how many differ. Returns whether none does.
+/// Puts what differs in the cases of a file, how many cases there are and how many differ. Returns
+/// whether none does.
 fn check_cases<'a>(page: &mut Page, rt: &'a HostRuntime, file: &[u8], text: &'a [u8]) -> bool {
     let (defaults, cases) = read_file(text);
     let mut rest = cases;

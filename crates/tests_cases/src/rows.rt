@@ -1,5 +1,5 @@
-//! Rows of calls: the filter and the commands over streams that fail, the stand-in for a compiler, and the words and the
-//! environment that the program is given.
+//! Rows of calls: the filter and the commands over streams that fail, the stand-in for a compiler,
+//! and the words and the environment that the program is given.
 
 ghost use Rattle.std.specs.Io.{WritesAtMost};
 
@@ -54,7 +54,8 @@ fn put_standin(page: &mut Page, rt: &HostRuntime, words: &[Bytes]) {
 
 // ---- the words of the program
 
-/// A process with these arguments, its name first. The entries of its environment are the same texts without its name.
+/// A process with these arguments, its name first. The entries of its environment are the same
+/// texts without its name.
 #[derive(Drop)]
 struct Process<'a> {
     arguments: &'a [Bytes],
@@ -141,7 +142,8 @@ fn put_stream(page: &mut Page, word: &[u8], text: &[u8]) {
     }
 }
 
-/// Puts what the program does: `STATUS out OUTPUT err ERRORS`, without a stream on which nothing is written.
+/// Puts what the program does: `STATUS out OUTPUT err ERRORS`, without a stream on which nothing is
+/// written.
 fn put_program<R: Read>(
     page: &mut Page,
     rt: &HostRuntime,
@@ -179,7 +181,8 @@ fn put_answer<R: Read>(
     }
 }
 
-/// Puts what the filter or the program does with the input of a row: a pipe, a text, or [`DEMO`] if it is empty.
+/// Puts what the filter or the program does with the input of a row: a pipe, a text, or [`DEMO`] if
+/// it is empty.
 fn put_answer_to(
     page: &mut Page,
     rt: &HostRuntime,
@@ -241,10 +244,11 @@ fn write_files(page: &mut Page, rt: &HostRuntime, files: &[u8]) {
 
 /// The calls of a section.
 ///
-/// A row has the words, with commas between them, the input, which stream fails, and the files that are written first: a
-/// name, a blank and a text. What is left out at the end is empty. The words are those of the program, or the first names
-/// another call: `filter` the filter by itself, `compiler` the stand-in, `words` and `environment` the readers of what
-/// the program is given, `sh` a child of a crew, `header` the child that tests the header, with this program as the
+/// A row has the words, with commas between them, the input, which stream fails, and the files that
+/// are written first: a name, a blank and a text. What is left out at the end is empty. The words
+/// are those of the program, or the first names another call: `filter` the filter by itself,
+/// `compiler` the stand-in, `words` and `environment` the readers of what the program is given,
+/// `sh` a child of a crew, `header` the child that tests the header, with this program as the
 /// compiler, and `refused` a run with that child of which a start or an end is refused.
 #[derive(Drop)]
 pub struct Calls<'a> {

@@ -1,5 +1,5 @@
-//! This program as the stand-in for a compiler: the children of a crew that it is, of which the start or the end may be
-//! refused.
+//! This program as the stand-in for a compiler: the children of a crew that it is, of which the
+//! start or the end may be refused.
 
 ghost use Rattle.std.specs.Prelude.{◌≡◌, []};
 
@@ -19,7 +19,8 @@ use test_rows::{Page, number_of};
 
 // ---- the program that is played
 
-/// Returns the exit status of the program with its own streams, if these are its name and the words of the stand-in.
+/// Returns the exit status of the program with its own streams, if these are its name and the words
+/// of the stand-in.
 fn status_with(rt: &HostRuntime, words: &[Bytes]) -> Option<u8> {
     match words {
         [first, ..] if first.as_slice() == b"standin".as_slice() => Some(status_of_children(
@@ -42,8 +43,8 @@ pub fn played(rt: &HostRuntime) -> Option<u8> {
     }
 }
 
-/// Puts the command of the compiler that is this program as the stand-in. It is run in a directory below the one that
-/// the program was started in.
+/// Puts the command of the compiler that is this program as the stand-in. It is run in a directory
+/// below the one that the program was started in.
 fn put_compiler(page: &mut Page, rt: &HostRuntime) {
     let mut name = [0; 4096];
     match rt.arg(0, &mut name) {
@@ -127,7 +128,8 @@ fn put_over_children(page: &mut Page, rt: &HostRuntime, words: &[Bytes], refused
     }
 }
 
-/// Puts a run with that compiler, of which these words say whether a start or an end is refused, and its number.
+/// Puts a run with that compiler, of which these words say whether a start or an end is refused,
+/// and its number.
 pub fn put_refused(page: &mut Page, rt: &HostRuntime, words: &[Bytes]) {
     let mut command = Page::new(page.alloc());
     command.put(b"configure,-C,CC=");

@@ -1,8 +1,9 @@
 //! Cases of the program over files: each section is a step, in a new directory.
 //!
-//! `lines`, `write`, `link`, `directory`, `remove`, `sized` and `in` change the directory, `environment`, `input`, `replies`,
-//! `children`, `full` and `watched` say what the commands after them are given, `run` and `program` are commands, `calls` has
-//! rows of calls, and `file` and `list` are what is there.
+//! `lines`, `write`, `link`, `directory`, `remove`, `sized` and `in` change the directory,
+//! `environment`, `input`, `replies`, `children`, `full` and `watched` say what the commands after
+//! them are given, `run` and `program` are commands, `calls` has rows of calls, and `file` and
+//! `list` are what is there.
 
 use crate::calling::{Around, put_command, put_status};
 use crate::rows::Calls;
@@ -64,8 +65,8 @@ fn put_change(page: &mut Page, scene: &Scene<'_>, change: Change, section: &Sect
 
 // ---- commands
 
-/// Puts what differs if the first of sections is this answer and wants something else, or if it is another section and
-/// the answer is not empty. Returns the sections after it.
+/// Puts what differs if the first of sections is this answer and wants something else, or if it is
+/// another section and the answer is not empty. Returns the sections after it.
 fn put_checked<'a>(page: &mut Page, rest: &'a [u8], name: &[u8], found: &[u8]) -> &'a [u8] {
     if let Some((section, later)) = next_section(rest) {
         if section.name == name {
@@ -78,7 +79,8 @@ fn put_checked<'a>(page: &mut Page, rest: &'a [u8], name: &[u8], found: &[u8]) -
     rest
 }
 
-/// Returns the words of a command. If a number of children at once is given, it comes before `configure`.
+/// Returns the words of a command. If a number of children at once is given, it comes before
+/// `configure`.
 fn words_of(page: &mut Page, around: &Around<'_>, section: &Section<'_>) -> Vec<Bytes> {
     let mut text = Page::new(page.alloc());
     if !around.window.is_empty() && section.words().starts_with(b"configure") {
@@ -90,7 +92,8 @@ fn words_of(page: &mut Page, around: &Around<'_>, section: &Section<'_>) -> Vec<
     texts_of(page, text.text())
 }
 
-/// Runs a command, and puts what differs in its status and its streams. Returns the sections after its answers.
+/// Runs a command, and puts what differs in its status and its streams. Returns the sections after
+/// its answers.
 fn put_run<'a>(
     page: &mut Page,
     scene: &Scene<'_>,
@@ -115,7 +118,8 @@ fn put_run<'a>(
     put_checked(page, rest, b"errors", errors.as_slice())
 }
 
-/// Runs a command as `main` does, and puts what differs in its status and its progress. Returns the sections after its answers.
+/// Runs a command as `main` does, and puts what differs in its status and its progress. Returns the
+/// sections after its answers.
 fn put_program<'a>(
     page: &mut Page,
     scene: &Scene<'_>,
@@ -341,8 +345,9 @@ fn put_at<'a>(page: &mut Page, rt: &'a HostRuntime, case: &Case<'a>, around: Aro
     }
 }
 
-/// Does the steps of a case, and puts what differs. If it has a section `at each window`, so many children may run at
-/// once as each of [`WINDOWS`] says, and either the oldest or the youngest ends first.
+/// Does the steps of a case, and puts what differs. If it has a section `at each window`, so many
+/// children may run at once as each of [`WINDOWS`] says, and either the oldest or the youngest ends
+/// first.
 pub fn put_file_case<'a>(
     page: &mut Page,
     rt: &'a HostRuntime,

@@ -1,8 +1,9 @@
 //! Conftests for a real compiler, as the crate `conftest` makes them.
 //!
-//! Without an argument it lists samples: a name, whether its conftest is compiled, linked, or linked and run, and whether
-//! that succeeds. With a compiler and the name of a sample it writes the sample's job: a line with the words of the
-//! command, and then the text of the conftest. `examples/conftest_samples/run.sh` does what all these jobs say.
+//! Without an argument it lists samples: a name, whether its conftest is compiled, linked, or
+//! linked and run, and whether that succeeds. With a compiler and the name of a sample it writes
+//! the sample's job: a line with the words of the command, and then the text of the conftest.
+//! `examples/conftest_samples/run.sh` does what all these jobs say.
 #![tactic(auto)]
 
 use conftest::{Job, JobFault, compile_job, link_job};
@@ -30,8 +31,8 @@ enum Test {
     Program,
 }
 
-/// A sample: the name, what is done with the conftest, whether that succeeds, the test, its includes if they are not the
-/// default ones, and what is tested.
+/// A sample: the name, what is done with the conftest, whether that succeeds, the test, its
+/// includes if they are not the default ones, and what is tested.
 type Sample<'a> = (&'a str, &'a str, &'a str, Test, Option<&'a [u8]>, &'a [u8]);
 
 #[rattlefmt::skip]

@@ -6,9 +6,10 @@ use std::io::{self, Error, ErrorKind, Read, Seek, SeekFrom, Write};
 use std::os::unix::fs::PermissionsExt;
 use std::path::PathBuf;
 
-/// The files of the system, of which one operation fails: `open`, `look`, `stat`, `link`, `directory`, `rename`, `remove`,
-/// `read`, `write`, `permit`, `memory` or `place`. The last two are an open and a look at a directory that find no memory. With
-/// `early` a file can't be written before it has the permissions 600. If it is empty, none fails.
+/// The files of the system, of which one operation fails: `open`, `look`, `stat`, `link`,
+/// `directory`, `rename`, `remove`, `read`, `write`, `permit`, `memory` or `place`. The last two
+/// are an open and a look at a directory that find no memory. With `early` a file can't be written
+/// before it has the permissions 600. If it is empty, none fails.
 #[derive(Clone, Copy)]
 pub struct Disk<'a> {
     pub rt: &'a HostRuntime,
@@ -31,7 +32,8 @@ impl Disk<'_> {
     }
 }
 
-/// A file of which one operation fails. If that is to write, it writes each byte by itself, and fails at the last one.
+/// A file of which one operation fails. If that is to write, it writes each byte by itself, and
+/// fails at the last one.
 #[derive(Drop)]
 pub struct Torn {
     file: File,

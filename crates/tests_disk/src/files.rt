@@ -100,8 +100,8 @@ fn add_artifact(page: &mut Page, artifacts: &mut Artifacts, words: &[u8]) {
     }
 }
 
-/// Puts whether the artifacts were taken, or which was refused, and the lines. A put to the file that is kept is refused. If it
-/// can't be kept, nothing is put.
+/// Puts whether the artifacts were taken, or which was refused, and the lines. A put to the file
+/// that is kept is refused. If it can't be kept, nothing is put.
 fn put_put(page: &mut Page, disk: &Disk<'_>, kept: &[u8], artifacts: &[Artifact]) {
     let mut outputs = FileOutputs::new(page.alloc(), Host::new(disk));
     if outputs.keep(kept).is_err() {
@@ -298,8 +298,8 @@ sized e less|read e => 67108863
 sized e|read e => 67108864
 sized e more|read e|front e => none67108865
 remove e =>
-// A new file is another one, which keeps the permissions but for the special bits. Neither is opened for writing if it may not
-// be written.
+// A new file is another one, which keeps the permissions but for the special bits. Neither is
+// opened for writing if it may not be written.
 write f x|mark f|write f y|same f|read f => yesyesno[y]
 write g x|permit g private|write g y|mode g|read g => yesyes384[y]
 permit g program|write g z|mode g => yes493
@@ -316,7 +316,8 @@ link m /dev/zero|read m|front m => nonenone
 directory o|write o x|look o|look acrun-1.tmp => nodirectorynone
 write p/q x|look p|look acrun-1.tmp => nononenone
 write a/b x|read a => no[two]
-// A file that is under the name of a new file stays, and so does a link or a directory. The next name is taken.
+// A file that is under the name of a new file stays, and so does a link or a directory. The next
+// name is taken.
 write r x|write acrun-1.tmp left|write r y|read r|read acrun-1.tmp|look acrun-2.tmp => yesyesyes[y][left]none
 remove acrun-1.tmp|link acrun-1.tmp h|write t x|look t|read t|read h|look acrun-1.tmp => yesfile[x][x]link
 remove acrun-1.tmp|directory u|directory u/acrun-1.tmp|write u/v y|read u/v|look u/acrun-1.tmp|look u/acrun-2.tmp => yes[y]directorynone
@@ -351,7 +352,8 @@ all[]all[]420[y]all[config.status: creating ff^J]all[config.status: creating ff^
 hand cache config.cache c;record config.status r;file out f;header config.h h => \
 all[config.status: creating out^Jconfig.status: creating config.h^J]
 read config.cache|read config.status|read out|read config.h => [c][r][f][h]
-// A header or a cache whose file has its text isn't touched, and any other artifact is written anew.
+// A header or a cache whose file has its text isn't touched, and any other artifact is written
+// anew.
 mark config.h|hand header config.h h|same config.h => all[config.status: config.h is unchanged^J]yes
 mark out|hand file out f|same out => all[config.status: creating out^J]no
 mark config.cache|hand cache config.cache c|same config.cache => all[]yes
@@ -360,10 +362,12 @@ mark config.status|hand record config.status r|same config.status => all[]no
 mark config.h|hand header config.h hh|same config.h|read config.h => all[config.status: creating config.h^J]no[hh]
 hand header empty.h |hand header empty.h |read empty.h => all[config.status: creating empty.h^J]all[config.status: empty.h is unchanged^J][]
 write config.h hx|hand header config.h h|read config.h => yesall[config.status: creating config.h^J][h]
-// A header that is a link stays if the file that it leads to has its text, and is replaced otherwise.
+// A header that is a link stays if the file that it leads to has its text, and is replaced
+// otherwise.
 link link.h config.h|hand header link.h h|look link.h => all[config.status: link.h is unchanged^J]link
 hand header link.h new|look link.h|read link.h|read config.h => all[config.status: creating link.h^J]file[new][h]
-// Of a cache that is a link, the file that it leads to is written, over any links between. It may not be there yet.
+// Of a cache that is a link, the file that it leads to is written, over any links between. It may
+// not be there yet.
 write real c|link cache.1 real|hand cache cache.1 d|look cache.1|look real|read real => yesall[]linkfile[d]
 link cache.2 later|hand cache cache.2 d|look cache.2|read later => all[]link[d]
 directory cd|link cd/3 ../cache.1|hand cache cd/3 e|look cd/3|look cache.1|read real => all[]linklink[e]
@@ -379,8 +383,8 @@ directory one.d|link two.d one.d|hand file one.d/x 1;file two.d/x 2|read one.d/x
 hand file one.d/y 1;file one.d/z 2;file y 3 => all[config.status: creating one.d/y^Jconfig.status: creating one.d/z^Jconfig.status: creating y^J]
 hand cache cache.1 1;file real 2|read real => not 2[][1]
 hand cache cache.1 2;file cache.1 2|look cache.1|read real => not 2[]link[2]
-// So is a put to a file that is kept for the run itself, under any of its names. If its directory isn't there, only this
-// name is kept.
+// So is a put to a file that is kept for the run itself, under any of its names. If its directory
+// isn't there, only this name is kept.
 write in T|keep in|hand file in x|read in => yesnot 1[][T]
 keep ./in|hand file a.out 1;header in x|read in => not 2[config.status: creating a.out^J][T]
 keep none/in|hand file in x|read in => all[config.status: creating in^J][x]
@@ -405,7 +409,8 @@ hand file four/ 1|look four => not 1[]directory
 hand file one 1;cache  2 => not 2[config.status: creating one^J]
 fails rename|hand file one new;file two 2|read one|look acrun-1.tmp => not 1[][1]none
 fails write|hand header config.h other|look acrun-1.tmp => not 1[]none
-// A header that is there and can't be read is written. If there is no memory to read it, the put is refused.
+// A header that is there and can't be read is written. If there is no memory to read it, the put is
+// refused.
 fails read|hand header config.h new|fails |read config.h => all[config.status: creating config.h^J][new]
 fails memory|hand header config.h new => not 1[]
 // Any other failure of the system refuses the put too, and the file is as it was.
@@ -417,7 +422,8 @@ fails open|hand record two new|fails |look two => not 1[]none
 fails link|hand cache cache.1 new|fails |look cache.1|read real => not 1[]link[2]
 fails look|hand cache cache.1 new|fails |look cache.1|read real => not 1[]link[2]
 fails remove|hand file two new|read two|fails |look acrun-1.tmp => all[config.status: creating two^J][new]none
-// Links with absolute names, and links in directories. An absolute link to a device is not followed to a file.
+// Links with absolute names, and links in directories. An absolute link to a device is not followed
+// to a file.
 link cache.5 /nowhere/at/all|hand cache cache.5 x|look cache.5 => not 1[]link
 link cd/6 7|hand cache cd/6 f|look cd/6|read cd/7|look 7 => all[]link[f]none
 link links.d cd|hand cache links.d/6 g|look cd/6|read cd/7|look 7 => all[]link[g]none

@@ -48,7 +48,8 @@ impl<'a, R: Abort> MemoryDisk<'a, R> {
 
     /// Returns whether this is the name of the file, and the file was not removed.
     fn is_there(&self, name: &str) -> bool
-        ensures { result ≡ meant.is_there self.now.name (map meant.deed_of self.now.steps.items) name.now }
+        ensures { result
+            ≡ meant.is_there self.now.name (map meant.deed_of self.now.steps.items) name.now }
     {
         is_named(&self.name, name) && !is_removed(&self.name, self.steps.as_slice())
     }

@@ -1,5 +1,6 @@
-//! The runs and the records, with what is right for each. All of it is found by hand from the rules. A text is a list
-//! of its parts, none of which is empty, so that what several texts have is written once.
+//! The runs and the records, with what is right for each. All of it is found by hand from the
+//! rules. A text is a list of its parts, none of which is empty, so that what several texts have is
+//! written once.
 
 use crate::answers::{Right, RightThing};
 use crate::given::Pair;
@@ -205,7 +206,8 @@ pub const WIDE_RUN: Run = Run {
     ..LIST_RUN
 };
 
-// ---- a file and a header, whose run is refused its third put, and which are made again of its record
+// ---- a file and a header, whose run is refused its third put, and which are made again of its
+// record
 
 const OUTPUTS: &[u8] = b"AC_INIT([demo],[1.0])
 AC_CONFIG_FILES([f])

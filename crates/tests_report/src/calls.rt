@@ -15,7 +15,8 @@ fn put_args(page: &mut Page, text: &[u8], args: &[Extent]) {
     }
 }
 
-/// Puts the offset of a call, `!` if its macro isn't known, its name, its arguments, and the offset after it.
+/// Puts the offset of a call, `!` if its macro isn't known, its name, its arguments, and the offset
+/// after it.
 fn put_call(page: &mut Page, text: &[u8], call: &CallAt) {
     page.put(b" ");
     page.put_number(call.start);

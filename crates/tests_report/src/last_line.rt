@@ -4,7 +4,8 @@ use crew_tally::{Counted, put_summary};
 use std::io::Write;
 use std::test::Fail;
 
-/// Texts that are written one after the other. Checks are cut between two texts, at their front and in the mark.
+/// Texts that are written one after the other. Checks are cut between two texts, at their front and
+/// in the mark.
 const TEXTS: [&[u8]; 5] = [
     b"configure: checking nothing\nchecking for a.h... yes\nchec",
     b"king for b.h... (cac",

@@ -4,8 +4,8 @@ use cfglog::{LineKind, read_log};
 use std::test::Fail;
 use test_rows::{Page, RowCall, try_rows};
 
-/// A letter for each line: M message, C command, D diagnostics, S status, R refused, H heading, G program. If the text is
-/// no log, it is `none`.
+/// A letter for each line: M message, C command, D diagnostics, S status, R refused, H heading, G
+/// program. If the text is no log, it is `none`.
 const LINES: &[u8] = b"
  => 
 checking for a... ^J => M

@@ -1,4 +1,5 @@
-//! Parts in the places of words. The words may change, so a row of them is looked for, and no whole message.
+//! Parts in the places of words. The words may change, so a row of them is looked for, and no whole
+//! message.
 
 use bstr::ByteSlice;
 use lint_table::{Page, WordPart, keys};

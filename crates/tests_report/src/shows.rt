@@ -6,7 +6,8 @@ use lint_findings::Finding;
 use std::test::Fail;
 use test_rows::{Page, RowCall, try_rows};
 
-/// Puts the first lines, with a bar after each, and with `~` for the marks, since `^` is no byte of a row.
+/// Puts the first lines, with a bar after each, and with `~` for the marks, since `^` is no byte of
+/// a row.
 fn put_lines(page: &mut Page, text: &[u8]) {
     for line in text.split(|byte| *byte == b'\n').take(3) {
         page.put(b" ");

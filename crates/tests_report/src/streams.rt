@@ -1,4 +1,5 @@
-//! What is written to streams that take a part of a text, are interrupted or fail, and in which order if two share a sink.
+//! What is written to streams that take a part of a text, are interrupted or fail, and in which
+//! order if two share a sink.
 
 ghost use Rattle.std.specs.Prelude.{◌≤◌, length};
 
@@ -13,11 +14,11 @@ use text_controls::Shown;
 
 // ---- streams
 
-/// A stream that keeps what it takes on a sink, which it may share: its name, and the text in brackets, a pair for each write. Its
-/// writes are counted from 1. A write of no text is none.
+/// A stream that keeps what it takes on a sink, which it may share: its name, and the text in
+/// brackets, a pair for each write. Its writes are counted from 1. A write of no text is none.
 ///
-/// `part N` takes at most N bytes of each text. The other words are about the write with this number: `interrupted N` is interrupted,
-/// `fails N` fails, and `stops N` takes nothing.
+/// `part N` takes at most N bytes of each text. The other words are about the write with this
+/// number: `interrupted N` is interrupted, `fails N` fails, and `stops N` takes nothing.
 struct Side<'a> {
     sink: &'a RefCell<Page>,
     name: u8,
@@ -38,7 +39,8 @@ impl Drop for Side<'_> {
     }
 }
 
-/// Returns a stream of a sink, with its name and what goes wrong: a word, a blank and a number, or nothing.
+/// Returns a stream of a sink, with its name and what goes wrong: a word, a blank and a number, or
+/// nothing.
 fn side_of<'a>(sink: &'a RefCell<Page>, name: u8, how: &'a [u8]) -> Side<'a> {
     let (word, number) = cut(how, b" ");
     Side {
@@ -96,7 +98,8 @@ impl Write for Side<'_> {
 
 // ---- calls
 
-/// Returns the pieces of a text, with semicolons between them: `o` or `e` for the stream, and the text of the piece.
+/// Returns the pieces of a text, with semicolons between them: `o` or `e` for the stream, and the
+/// text of the piece.
 fn notes_of(page: &mut Page, text: &[u8]) -> Notes {
     let mut notes = Notes::new(page.alloc());
     for piece in text.split(|byte| *byte == b';') {
@@ -123,7 +126,8 @@ fn put_printed(page: &mut Page, output: &mut Side<'_>, errors: &mut Side<'_>, wo
     page.put_yes(done.is_ok());
 }
 
-/// Writes a text, by one write or by as many as it takes, and puts how many bytes were taken, or `yes`. For an error it puts `no`.
+/// Writes a text, by one write or by as many as it takes, and puts how many bytes were taken, or
+/// `yes`. For an error it puts `no`.
 fn put_written<W: Write>(page: &mut Page, stream: &mut W, is_once: bool, text: &[u8]) {
     if !is_once {
         return page.put_yes(stream.write_all(text).is_ok());
@@ -142,7 +146,8 @@ fn put_texts<W: Write>(page: &mut Page, stream: &mut W, is_once: bool, texts: &[
     page.put_yes(stream.flush().is_ok());
 }
 
-/// Writes texts to a stream that counts checks, and puts how many there are, and how many the cache answered.
+/// Writes texts to a stream that counts checks, and puts how many there are, and how many the cache
+/// answered.
 fn put_counted(page: &mut Page, stream: Side<'_>, is_once: bool, texts: &[u8]) {
     let mut counted = Counted::new(stream);
     put_texts(page, &mut counted, is_once, texts);
@@ -170,8 +175,9 @@ fn put_call<'a>(
     }
 }
 
-/// A row has what is called, what goes wrong on standard output and on standard error, and the words of the call, with bars between
-/// them. The answer is what the call says, and what is on the sink.
+/// A row has what is called, what goes wrong on standard output and on standard error, and the
+/// words of the call, with bars between them. The answer is what the call says, and what is on the
+/// sink.
 struct Streams;
 
 impl RowCall for Streams {
@@ -201,7 +207,8 @@ print|||eE;oa|L => yese[E]o[aL]
 print|||oa;eE|L => yeso[a]e[E]o[L]
 print|||oa;eE => yeso[a]e[E]
 print|||eE;oa;eF;ob|L|quiet => yese[E]e[F]
-// Standard output takes a part, is interrupted, fails or stops. Then nothing more is written there, and the rest on standard error.
+// Standard output takes a part, is interrupted, fails or stops. Then nothing more is written there,
+// and the rest on standard error.
 print|part 2||oabcde;eE;of|L => yeso[ab]o[cd]o[e]e[E]o[fL]
 print|interrupted 1||oa;eE;ob => yeso[a]e[E]o[b]
 print|interrupted 2||oa;eE;ob => yeso[a]e[E]o[b]

@@ -4,8 +4,9 @@ use std::io::Write;
 use std::test::Fail;
 use text_controls::Shown;
 
-/// Texts that are written one after the other: characters of one to four bytes, one of which is cut between two texts, control bytes,
-/// newline and tab, a control character of two bytes, and bytes that continue no character.
+/// Texts that are written one after the other: characters of one to four bytes, one of which is cut
+/// between two texts, control bytes, newline and tab, a control character of two bytes, and bytes
+/// that continue no character.
 const TEXTS: [&[u8]; 4] = [
     b"a\tb\n\x00\x1b[2J\x7f",
     b"\xc3\xa9 \xe2\x80\x94 \xe2\x9c",

@@ -55,7 +55,8 @@ impl RowCall for Warnings {
 
 const ROWS: &[u8] = br##"
 AC_INIT([a], [1])^JAC_OUTPUT =>
-// variables that a configure script sets: each once, and none that is set, declared or only named in a comment
+// variables that a configure script sets: each once, and none that is set, declared or only named
+// in a comment
 AC_INIT([a], [1])^JAS_IF([test "$GCC" = yes], [x="${GCC}$host_os"])^JAC_OUTPUT =>  script-variable [GCC] script-variable [host_os]
 AC_INIT([a], [1])^JGCC=1^JAC_ARG_VAR([host], [b])^J# $build^Jx="$GCC$host$PACKAGE_NAME$other"^JAC_OUTPUT =>
 AC_INIT([a], [1])^JAC_SUBST([PACKAGE])^JAC_SUBST([VERSION], [2])^JAC_SUBST([EXEEXT])^JAC_OUTPUT =>  script-variable [AC_SUBST]

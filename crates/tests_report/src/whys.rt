@@ -7,8 +7,8 @@ use std::fs;
 use std::test::Fail;
 use test_rows::{Page, RowCall, cut, try_rows_in};
 
-/// The words with commas between them, a bar, and the log, which is `config.status` too: the exit status, standard output and standard
-/// error.
+/// The words with commas between them, a bar, and the log, which is `config.status` too: the exit
+/// status, standard output and standard error.
 const WHYS: &[u8] = b"
 // a header that is missing: by its message, the symbol, and the name of the cached value
 sys/stat.h|checking for sys/stat.h... ^J$ cc -c conftest1.c^Ja.c:6:10: none^Jstatus 1^Jfailed program was:^J| #include <sys/stat.h>^Jno^J => 0[checking for sys/stat.h... no^Jchild 1:^J$ cc -c conftest1.c^Ja.c:6:10: none^Jstatus 1^Jfailed program was:^J| #include <sys/stat.h>^J][]
@@ -62,8 +62,9 @@ a,config.log,b| => 2[][acrun: usage^J]
 stat,config.log|checking for sys/stat.h... ^J$ cc -c conftest1.c^Ja.c:6:10: none^Jstatus 1^Jfailed program was:^J| #include <sys/stat.h>^Jno^J => 0[checking for sys/stat.h... no^Jchild 1:^J$ cc -c conftest1.c^Ja.c:6:10: none^Jstatus 1^Jfailed program was:^J| #include <sys/stat.h>^J][]
 ";
 
-/// The words with commas between them, the text of `config.status`, that of `config.cache`, and the log, with semicolons between them:
-/// the exit status, standard output and standard error. The log is `other.log` too.
+/// The words with commas between them, the text of `config.status`, that of `config.cache`, and the
+/// log, with semicolons between them: the exit status, standard output and standard error. The log
+/// is `other.log` too.
 const CACHED: &[u8] = b"
 // a cache that the arguments name
 a.h;acrun-record 2^Jsrcdir .^Jarg -C^Jend^J;ac_cv_header_a_h=${ac_cv_header_a_h=no}^J;checking for a.h... ^J(cached) no^J => 0[checking for a.h... (cached) no^JThis answer was there before the check was made, as the value of ac_cv_header_a_h.^JThe cache config.cache has it now. To ask again, remove there:^J  ac_cv_header_a_h=${ac_cv_header_a_h=no}^JAnswers in the log that were there before: 1 of 1.^J][]

@@ -13,8 +13,8 @@ use test_crews::children::{Work, job_of, put_children};
 use test_crews::streams::{Pipe, pipe_of};
 use test_rows::{Page, RowCall, cut, number_of, try_rows};
 
-/// Ends with a status as `waitpid` gives it, or fails if the text of the status is empty; its waits are counted. If it is looked
-/// at, it has ended (`y`), it has not (`n`), or the look fails.
+/// Ends with a status as `waitpid` gives it, or fails if the text of the status is empty; its waits
+/// are counted. If it is looked at, it has ended (`y`), it has not (`n`), or the look fails.
 #[derive(Drop)]
 struct Process<'a> {
     status: &'a [u8],
@@ -56,7 +56,8 @@ impl<'a> OpenProcess for Process<'a> {
     }
 }
 
-/// The system, but each child that is started has this pipe and this status, and the next of these looks.
+/// The system, but each child that is started has this pipe and this status, and the next of these
+/// looks.
 #[derive(Drop)]
 struct System<'a> {
     rt: &'a HostRuntime,
@@ -134,8 +135,9 @@ impl<'a> Files for System<'a> {
     }
 }
 
-/// A child: its pipe, if it has one, and its status as `waitpid` gives it, if a wait doesn't fail. The answer says also how
-/// often it was waited for. If there are looks, so many children are started, and one that has ended is taken first.
+/// A child: its pipe, if it has one, and its status as `waitpid` gives it, if a wait doesn't fail.
+/// The answer says also how often it was waited for. If there are looks, so many children are
+/// started, and one that has ended is taken first.
 #[derive(Drop)]
 struct Ends<'a> {
     rt: &'a HostRuntime,
@@ -181,7 +183,8 @@ const ENDS: &[u8] = b"\
 2000 1 1025|1792 =>  0:7:1024 bytes aaaaaaaaaaaaaaaa .. aaaaaaaaaaaaaaaa, waits 1
 3 5 0 1|1792 =>  0:7:aaaaaaaaaaaaaaa, waits 1
 3 5 0 1023|1792 =>  0:7:aaaaaaaaaaaaaaa, waits 1
-// a read that fails past what is kept, at the last read, in place of the end, and where there is no pipe
+// a read that fails past what is kept, at the last read, in place of the end, and where there is no
+// pipe
 5 9 1|1792 =>  0:E, waits 1
 5 9 3|1792 =>  0:E, waits 1
 30 4096 20|1792 =>  0:E, waits 1
@@ -197,7 +200,8 @@ const ENDS: &[u8] = b"\
 1 4|9 =>  0:256:aaaa, waits 1
 1 4|139 =>  0:256:aaaa, waits 1
 1 4| =>  0:E, waits 1
-// The first that has ended is taken first, and a look that fails is none at one that has. If none has, the oldest is taken.
+// The first that has ended is taken first, and a look that fails is none at one that has. If none
+// has, the oldest is taken.
 0 1|0|nyy =>  1:0: 2:0: 0:0:, waits 1
 0 1|0|ney =>  2:0: 0:0: 1:0:, waits 2
 0 1|0|een =>  0:0: 1:0: 2:0:, waits 3

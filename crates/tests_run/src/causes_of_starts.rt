@@ -16,7 +16,8 @@ fn put_cause<C: Causes>(page: &mut Page, crew: &C, child: usize) {
     }
 }
 
-/// Starts one child with a crew that has done nothing, and puts why the child of this number was refused.
+/// Starts one child with a crew that has done nothing, and puts why the child of this number was
+/// refused.
 fn put_start<C: Crew + Causes>(page: &mut Page, crew: &mut C, job: Job, child: usize)
     requires fresh { C.account crew.old ≡ record { events = []; attempts = 0; failures = 0 } }
 {
@@ -26,7 +27,8 @@ fn put_start<C: Crew + Causes>(page: &mut Page, crew: &mut C, job: Job, child: u
     }
 }
 
-/// A real child: the number of which the cause is asked, and the conftest and the words of the child.
+/// A real child: the number of which the cause is asked, and the conftest and the words of the
+/// child.
 #[derive(Drop)]
 struct Starts<'a> {
     rt: &'a HostRuntime,

@@ -41,9 +41,10 @@ impl RowCall for Ready<'_> {
     }
 }
 
-// No order rests on times. The first child is taken first, since the last waits for the file `go`: the first makes it when more was
-// read of its text than a pipe holds, so the crew has looked at all children, and waits for the first. The first ends once the last has
-// ended, and the second once the last was waited for.
+// No order rests on times. The first child is taken first, since the last waits for the file `go`:
+// the first makes it when more was read of its text than a pipe holds, so the crew has looked at
+// all children, and waits for the first. The first ends once the last has ended, and the second
+// once the last was waited for.
 const READY: &[u8] = b"\
 1|sh,-c,echo a >&2; exit 7 =>  0:7:a^J
 3|sh,-c,until_() { i=0; until [ -s last ] && eval \"$1\"; do i=$((i+1)); [ $i -lt 400 ] || exit 9; sleep 0.05; done; }; \

@@ -1,10 +1,12 @@
-//! Tests of the crates that run a source: crews, real children, and an ordinary answer of each call.
+//! Tests of the crates that run a source: crews, real children, and an ordinary answer of each
+//! call.
 //!
-//! No clause can say that memory is left, or what the system answers. `crews` has crews in memory and real children,
-//! `ended_children` real children of which one that has ended is taken first, `causes_of_starts` why starts are
-//! refused, `broken_children` those whose pipe or end fails, `progress` crews that show how far they are, `plans` what a
-//! source weighs and its steps, and `machines` a machine that a test answers. Whole runs of sources are cases of the
-//! crate `tests_cases`.
+//! No clause can say that memory is left, or what the system answers. `crews` has crews in memory
+//! and real children, `ended_children` real children of which one that has ended is taken first,
+//! `causes_of_starts` why starts are refused, `broken_children` those whose pipe or end fails,
+//! `progress` crews that show how far they are, `plans` what a source weighs and its steps, and
+//! `machines` a machine that a test answers. Whole runs of sources are cases of the crate
+//! `tests_cases`.
 #![tactic(auto)]
 
 #[cfg(test)]

@@ -1,4 +1,5 @@
-//! A machine whose first job a test answers or cuts. The crate `tests_cases` has runs of sources over crews.
+//! A machine whose first job a test answers or cuts. The crate `tests_cases` has runs of sources
+//! over crews.
 
 ghost use Rattle.std.specs.Prelude.{◌≡◌, None, Some, length, slice_get, IsSome};
 ghost use Rattle.std.specs.Bool.{OnTrue};
@@ -74,8 +75,8 @@ fn put_run_end(page: &mut Page, end: &RunEnd) {
     }
 }
 
-/// Puts how many jobs a plan asks for first, and what it leaves after the only one is answered by this exit status, or
-/// cut if the text is empty.
+/// Puts how many jobs a plan asks for first, and what it leaves after the only one is answered by
+/// this exit status, or cut if the text is empty.
 fn put_walked(page: &mut Page, plan: &Plan, status: &[u8]) {
     let vars = vars_of(page, b"cc");
     let mut machine = Machine::new(page.alloc(), plan, vars);

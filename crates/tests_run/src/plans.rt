@@ -150,8 +150,8 @@ impl RowCall for Plans {
 }
 
 const STEPS: &[u8] = b"\
-// A source weighs 65,535 at most. A choice and its case weigh 2, a default 1 more, and what is in it counts. A list of two
-// programs weighs 3.
+// A source weighs 65,535 at most. A choice and its case weigh 2, a default 1 more, and what is in
+// it counts. A list of two programs weighs 3.
 65535 => 65535
 65535|accepted => fault 1
 65533|choice => 65536

@@ -42,8 +42,8 @@ fn put_watched<C: Crew + Drop>(
     page.put(watched.stream().kept.text());
 }
 
-/// Puts the work of a crew in memory with these replies in this order, and what it shows on a sheet. If `shown` begins with `fails `,
-/// each write fails.
+/// Puts the work of a crew in memory with these replies in this order, and what it shows on a
+/// sheet. If `shown` begins with `fails `, each write fails.
 fn put_in_sight(page: &mut Page, shown: &[u8], replies: &[u8], order: &[u8], work: &Work) {
     let (first, second) = cut(shown, b" ");
     let sheet = Sheet {
@@ -59,7 +59,8 @@ fn put_in_sight(page: &mut Page, shown: &[u8], replies: &[u8], order: &[u8], wor
     }
 }
 
-/// Returns the source of a test: its kind, a blank, and what is tested. `program` has the body of `main`.
+/// Returns the source of a test: its kind, a blank, and what is tested. `program` has the body of
+/// `main`.
 fn source_of(page: &Page, test: &[u8]) -> Result<Bytes, AllocError> {
     let alloc = page.alloc();
     let (kind, name) = cut(test, b" ");
@@ -94,8 +95,8 @@ fn test_job(page: &mut Page, words: &[u8], test: &[u8]) -> Job {
     Job { words, file }
 }
 
-/// A crew in memory: what is shown of it, how many children it starts, the words of each, its replies, its order, and the
-/// test of each.
+/// A crew in memory: what is shown of it, how many children it starts, the words of each, its
+/// replies, its order, and the test of each.
 struct Progress;
 
 impl RowCall for Progress {
@@ -123,7 +124,8 @@ on|3|true|0: 1:x 256:|youngest =>  2:256: 1:1:x 0:0:;\
 on|3|true|0: S E|oldest =>  1:S 0:0: 2:E;\
 ^M^[[K^[[?7l1 started, 0 ended: true^[[?7h^M^[[K^[[?7l2 started, 0 ended: true^[[?7h^M^[[K^[[?7l2 started, 1 ended: true^[[?7h^M^[[K
 on|1|true|S|oldest =>  0:S;
-// Bytes that could drive a terminal, and what is no ASCII, are shown by their numbers. 79 columns are, and no number is cut.
+// Bytes that could drive a terminal, and what is no ASCII, are shown by their numbers. 79 columns
+// are, and no number is cut.
 on|1|sh,^[[2J,,a^Jb,\x7f \xc3\xa4~|0:|oldest =>  0:0:;^M^[[K^[[?7l1 started, 0 ended: sh \\x1b[2J  a\\x0ab \\x7f \\xc3\\xa4aaaaaaaaaaaaaaaaaaaaaaaaaaa^[[?7h^M^[[K
 on|1|0123456789012345678901234567890123456789012345678901234^[b|0:|oldest =>  0:0:;^M^[[K^[[?7l1 started, 0 ended: 0123456789012345678901234567890123456789012345678901234\\x1b^[[?7h^M^[[K
 on|1|01234567890123456789012345678901234567890123456789012345^[b|0:|oldest =>  0:0:;^M^[[K^[[?7l1 started, 0 ended: 01234567890123456789012345678901234567890123456789012345^[[?7h^M^[[K
@@ -140,7 +142,8 @@ on|1|cc|0:|oldest|header ^[[2J =>  0:0:;^M^[[K^[[?7l1 started, 0 ended: header \
 off|2|true|0: 1:|oldest =>  0:0: 1:1:;
 fails line|2|true|0: 1:|oldest =>  0:0: 1:1:;
 fails lines|2|true|0: 1:|oldest =>  0:0: 1:1:;
-// A line for each child, with its number, what it is for if the conftest shows that, and its words. Nothing follows an end.
+// A line for each child, with its number, what it is for if the conftest shows that, and its words.
+// Nothing follows an end.
 lines|1|cc,-c,conftest.c|0:|oldest|header sys/stat.h =>  0:0:;acrun: child 1, header sys/stat.h: cc -c conftest.c^J
 lines|3|true|0: 1:x 256:|youngest =>  2:256: 1:1:x 0:0:;acrun: child 1: true^Jacrun: child 2: true^Jacrun: child 3: true^J
 lines|1|cc|0:|oldest|declaration strlcpy =>  0:0:;acrun: child 1, declaration strlcpy: cc^J

@@ -232,7 +232,8 @@ fn put_given(page: &mut Page, arg: Arg<'_>) {
     }
 }
 
-/// Puts whether a text can name a feature, and the variables of a feature and a package of that name.
+/// Puts whether a text can name a feature, and the variables of a feature and a package of that
+/// name.
 fn put_option(page: &mut Page, given: &[u8]) {
     page.put_yes(is_feature(given));
     put_made(
@@ -245,8 +246,8 @@ fn put_option(page: &mut Page, given: &[u8]) {
     );
 }
 
-/// How many items are looked through for a call in an argument, and if AC_X is called alone among them, with how many
-/// arguments and where.
+/// How many items are looked through for a call in an argument, and if AC_X is called alone among
+/// them, with how many arguments and where.
 fn put_calls(page: &mut Page, items: &[Item<'_>]) {
     page.put_number(items.len());
     if let Some((args, at)) = sole_call(b"AC_X", items) {

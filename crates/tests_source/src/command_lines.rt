@@ -195,7 +195,8 @@ impl RowCall for Reader {
     }
 }
 
-/// The directories' values are those of a configure script that Autoconf 2.71 makes; their order is own.
+/// The directories' values are those of a configure script that Autoconf 2.71 makes; their order is
+/// own.
 const ROWS: &[u8] = br#"
 lists --prefix|/usr/|--disable-a-b|CC=cc|--srcdir=s/ => [/usr][no]-[-g][set][cc] in [s] notes 0
 lists --with-x=y|LDFLAGS=-s => [NONE]-[y][-s][][] in [.] notes 0

@@ -1,5 +1,6 @@
-//! The table of macros, their readers, and what statements and questions use. What `declare` makes of declarations shows in
-//! the lists of a source (`sources`): its contract would make each function that calls it slow to prove.
+//! The table of macros, their readers, and what statements and questions use. What `declare` makes
+//! of declarations shows in the lists of a source (`sources`): its contract would make each
+//! function that calls it slow to prove.
 
 use crate::told::{Next, Told, add, put_each, put_if, put_made, put_next, put_of, put_parts};
 use ac_args::ParseFault;
@@ -70,7 +71,8 @@ fn put_meaning(page: &mut Page, named: Named) {
     }
 }
 
-/// Puts what a name names, how many arguments it takes, and whether it is the file's own list's alone.
+/// Puts what a name names, how many arguments it takes, and whether it is the file's own list's
+/// alone.
 fn put_row_named(page: &mut Page, name: &[u8]) {
     let Some(row) = row_named(name) else {
         return;
@@ -261,7 +263,8 @@ enum Reader {
     Reads,
     /// What it uses.
     Uses,
-    /// Whether a call may stand in the file's own list, in another, before AC_INIT, or after AC_OUTPUT.
+    /// Whether a call may stand in the file's own list, in another, before AC_INIT, or after
+    /// AC_OUTPUT.
     Top,
     Inside,
     /// Whether it may stand in the commands of AC_CACHE_CHECK.

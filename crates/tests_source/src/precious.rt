@@ -185,7 +185,8 @@ impl Reader {
     }
 }
 
-/// The arguments are before the first comma, with a bar between each two, and the text of the cache is after it.
+/// The arguments are before the first comma, with a bar between each two, and the text of the cache
+/// is after it.
 impl RowCall for Reader {
     fn put(&self, page: &mut Page, line: &[u8]) {
         if let Reader::Memory = self {

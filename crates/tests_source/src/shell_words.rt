@@ -148,7 +148,8 @@ impl RowCall for Reader {
     }
 }
 
-/// What dash makes of the words that it and the crate both read, and what is refused (POSIX shell, 2.2 and 2.6).
+/// What dash makes of the words that it and the crate both read, and what is refused (POSIX shell,
+/// 2.2 and 2.6).
 const ROWS: &[u8] = br#"
 // words
 // a run of parts

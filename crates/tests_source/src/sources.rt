@@ -60,8 +60,9 @@ fn put_entries(page: &mut Page, statement: &Stmt) {
     }
 }
 
-/// How many statements there are, the output variables, the precious ones, the features, the packages, the help and the
-/// files, each AC_CACHE_CHECK, and each statement that looks for entries or libraries.
+/// How many statements there are, the output variables, the precious ones, the features, the
+/// packages, the help and the files, each AC_CACHE_CHECK, and each statement that looks for entries
+/// or libraries.
 impl Told for Source {
     fn tell(&self, page: &mut Page) {
         page.put_number(self.statements().len());
@@ -164,7 +165,8 @@ AC_INIT([x],[1])^JAC_CHECK_DECLS([a, b])^JAC_OUTPUT^J => 3;;;;;;0;declarations [
 AC_INIT([x],[1])^JAC_CHECK_DECLS([a],[:],[:])^JAC_OUTPUT^J => 3;;;;;;0;each declaration [a] 2
 AC_INIT([x],[1])^JAC_CHECK_TYPES([t])^JAC_OUTPUT^J => 3;;;;;;0;each type [t] 0
 AC_INIT([x],[1])^JAS_IF([:],[AC_CHECK_TYPES([t],[AC_CHECK_HEADERS([a.h])])])^JAC_OUTPUT^J => 3;;;;;;0
-// the first argument that has an error: the entry, the statements for yes, those for no, the includes
+// the first argument that has an error: the entry, the statements for yes, those for no, the
+// includes
 AC_INIT([x],[1])^JAC_CHECK_HEADER([a b],[AC_NOPE],[AC_NOPE],[-])^JAC_OUTPUT^J => 5 at 33
 AC_INIT([x],[1])^JAC_CHECK_HEADER([a.h],[AC_NOPE],[AC_NOPE],[-])^JAC_OUTPUT^J => 2 at 40
 AC_INIT([x],[1])^JAC_CHECK_HEADER([a.h],[],[AC_NOPE],[-])^JAC_OUTPUT^J => 2 at 43
@@ -194,7 +196,8 @@ AC_INIT([x],[1])^JAC_CHECK_LIB([m],[sin],[AC_SUBST([v])],[w=1])^JAC_OUTPUT^J => 
 AC_INIT([x],[1])^JAC_SEARCH_LIBS([sin],[m^Jc])^JAC_OUTPUT^J => 3;;;;;;0;libraries [m] [c] function [sin] 0
 AC_INIT([x],[1])^JAC_SEARCH_LIBS([sin],[m],[v=1],[AC_SUBST([v])],[$L])^JAC_OUTPUT^J => 3;[v];;;;;0;libraries [m] function [sin] others [${L}] 2
 AC_INIT([x],[1])^JAS_IF([:],[AC_CHECK_LIB([m],[sin],[AC_SEARCH_LIBS([cos],[m],[AC_SUBST([v])])])])^JAC_OUTPUT^J => 3;[v];;;;;0
-// the first argument that has an error: the library, the function, the statements for yes, those for no, the others
+// the first argument that has an error: the library, the function, the statements for yes, those
+// for no, the others
 AC_INIT([x],[1])^JAC_CHECK_LIB([a/b],[9],[AC_NOPE],[AC_NOPE],[`])^JAC_OUTPUT^J => 5 at 30
 AC_INIT([x],[1])^JAC_CHECK_LIB([m],[9],[AC_NOPE],[AC_NOPE],[`])^JAC_OUTPUT^J => 5 at 34
 AC_INIT([x],[1])^JAC_CHECK_LIB([m],[f],[AC_NOPE],[AC_NOPE],[`])^JAC_OUTPUT^J => 2 at 39

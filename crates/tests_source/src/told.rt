@@ -33,7 +33,8 @@ pub trait Next<T> {
     fn put_of(&self, page: &mut Page, made: &T);
 }
 
-/// Puts what the next call tells of a value. The caller doesn't hold it, so that its proof has none of the value's parts.
+/// Puts what the next call tells of a value. The caller doesn't hold it, so that its proof has none
+/// of the value's parts.
 pub fn put_of<T: Drop, N: Next<T>>(page: &mut Page, made: T, next: &N) {
     next.put_of(page, &made);
 }
@@ -89,7 +90,8 @@ impl Told for Arg<'_> {
     }
 }
 
-/// Puts each part: a byte, a quoted byte after a backslash, or the name of a variable in brackets after a dollar sign.
+/// Puts each part: a byte, a quoted byte after a backslash, or the name of a variable in brackets
+/// after a dollar sign.
 pub fn put_parts(page: &mut Page, parts: &[Part]) {
     for part in parts {
         match part {

@@ -8,8 +8,9 @@ use std::test::Fail;
 use test_rows::escaped::value_or_fault;
 use test_rows::{Page, RowCall, cut, put_fronts, try_tables};
 
-/// `read` and a text: the variables after it is poured where none is set, or its error. `over`, steps as in `tables` and a text
-/// with a comma between them: the same where the steps are taken first.
+/// `read` and a text: the variables after it is poured where none is set, or its error. `over`,
+/// steps as in `tables` and a text with a comma between them: the same where the steps are taken
+/// first.
 const READ: &[u8] = b"
 read  =>
 read ^J^J =>
@@ -83,7 +84,8 @@ read ^J#^Jx=1^Jx=$ => 2 at 3
 read v_cv_a=1^Jx=1^J => 2 at 2
 ";
 
-/// The lines that configure of Autoconf 2.71 writes into config.cache, in bash and in dash, and those of earlier versions.
+/// The lines that configure of Autoconf 2.71 writes into config.cache, in bash and in dash, and
+/// those of earlier versions.
 const AUTOCONF: &[u8] = b"
 read # This file is a shell script that caches the results of configure^J# tests run on this system^J# `ac_cv_env_foo' variables (set or unset) will be overridden when^J^Jac_cv_build=${ac_cv_build=x86_64-pc-linux-gnu}^Jac_cv_c_compiler_gnu=${ac_cv_c_compiler_gnu=yes}^J => ac_cv_build[x86_64-pc-linux-gnu];ac_cv_c_compiler_gnu[yes];
 read ac_cv_env_CC_set=^Jac_cv_env_CC_value=^Jac_cv_env_CFLAGS_set=set^Jac_cv_env_CFLAGS_value='-O2 -g'^J => ac_cv_env_CC_set[];ac_cv_env_CC_value[];ac_cv_env_CFLAGS_set[set];ac_cv_env_CFLAGS_value[-O2 -g];
@@ -93,8 +95,9 @@ read ac_cv_a=${ac_cv_a='it'\\''s'}^Jac_cv_b=${ac_cv_b='it'\"'\"'s'}^Jac_cv_c=${a
 read test \"${ac_cv_a+set}\" = set || ac_cv_a='{}'^Jtest \"${ac_cv_b+set}\" = set || ac_cv_b=\\{^J => ac_cv_a[{}];ac_cv_b[{];
 ";
 
-/// `write` and steps: the cache text of what they leave. `back` and steps: the variables after that text is poured where none
-/// is set. `word` and a value: its word. `name` and a text: whether it is a cache name.
+/// `write` and steps: the cache text of what they leave. `back` and steps: the variables after that
+/// text is poured where none is set. `word` and a value: its word. `name` and a text: whether it is
+/// a cache name.
 const WRITTEN: &[u8] = b"
 write CC=cc => # config.cache of configure^J
 write v_cv_a=a b;v_cv_c=x^Jy => # config.cache of configure^Jv_cv_a=${v_cv_a='a b'}^J
@@ -135,8 +138,8 @@ name  => no
 back v_cv_b=a}b => v_cv_b[a}b];
 ";
 
-/// `fronts` alone: from which length on a front of the text of one header is read, or has an error. `newlines` alone: what a
-/// text of 4,194,304 newlines sets and that of one more.
+/// `fronts` alone: from which length on a front of the text of one header is read, or has an error.
+/// `newlines` alone: what a text of 4,194,304 newlines sets and that of one more.
 const SIZES: &[u8] = b"
 fronts => 0 read;29 1 at 2;52 read;53 1 at 2;82 read;
 read # config.cache of configure^Jac_cv_header_sys_stat_h= => ac_cv_header_sys_stat_h[];
@@ -163,7 +166,8 @@ fn vars_of(page: &mut Page, steps: &[u8]) -> Tables {
     tables
 }
 
-/// Puts a variable that pouring left, and what the cache says of it beforehand if that is something else.
+/// Puts a variable that pouring left, and what the cache says of it beforehand if that is something
+/// else.
 fn put_var(page: &mut Page, cache: &OldCache, before: &Vars, name: &[u8], value: &[u8]) {
     page.put(name);
     page.put_text(value);

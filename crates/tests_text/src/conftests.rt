@@ -12,9 +12,10 @@ use std::alloc::AllocError;
 use std::test::Fail;
 use test_rows::{Page, RowCall, cut, try_rows};
 
-/// `words` and variables: the commands that compile, link and preprocess, or the number of what is wrong. `twelfth` and
-/// variables: those of job 12. `other`, a value of LIBS and variables: the command that links with that value. `run` and one digit: the command of that job. `path` and a file: the command that looks for it.
-/// `list` and two words.
+/// `words` and variables: the commands that compile, link and preprocess, or the number of what is
+/// wrong. `twelfth` and variables: those of job 12. `other`, a value of LIBS and variables: the
+/// command that links with that value. `run` and one digit: the command of that job. `path` and a
+/// file: the command that looks for it. `list` and two words.
 const COMMANDS: &[u8] = b"
 words CC=cc;CFLAGS=-O;LIBS=-lm => cc|-c|-O|conftest.c|^Jcc|-o|conftest|-O|conftest.c|-lm|^Jcc|-E|conftest.c|
 words CC=cc;CPP=cpp => cc|-c|conftest.c|^Jcc|-o|conftest|conftest.c|^Jcpp|conftest.c|
@@ -103,7 +104,8 @@ fn put_compiled(page: &mut Page, tables: &Tables, source: &[u8], number: u64) {
     }
 }
 
-/// Puts under these variables and definitions the job that compiles the source, or without one the three commands.
+/// Puts under these variables and definitions the job that compiles the source, or without one the
+/// three commands.
 fn put_under(
     page: &mut Page,
     variables: &[u8],
@@ -175,8 +177,9 @@ fn commands_of_jobs(rt: HostRuntime) -> Result<(), Fail> {
     try_rows(rt.alloc(), &Commands, COMMANDS)
 }
 
-/// `compile` and a source: the job that compiles it with `cc`. `definitions` and some: the job of a test of a header under
-/// them. `source` and the kind of a source, its front, and a name or a body: that source.
+/// `compile` and a source: the job that compiles it with `cc`. `definitions` and some: the job of a
+/// test of a header under them. `source` and the kind of a source, its front, and a name or a body:
+/// that source.
 const SOURCES: &[u8] = b"
 // A source is ended by a newline.
 compile int x;^J => cc|-c|conftest1.c|^Jconftest1.c^J/* confdefs.h */^Jint x;^J

@@ -4,8 +4,8 @@ use std::test::Fail;
 use test_rows::{Page, RowCall, cut, try_rows};
 use text_cut::{fields, is_blank, parts, trim};
 
-/// `trim`, `fields` or `parts` and a text, for `parts` with the separator before it; or `blanks` alone, for every byte that is
-/// one.
+/// `trim`, `fields` or `parts` and a text, for `parts` with the separator before it; or `blanks`
+/// alone, for every byte that is one.
 const TEXTS: &[u8] = b"
 blanks => [^I^J ]
 

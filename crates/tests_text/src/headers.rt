@@ -5,8 +5,8 @@ use std::test::Fail;
 use template::{fill_header, header_note};
 use test_rows::{Page, RowCall, cut, try_rows};
 
-/// `made` and a template: the header if HAVE_X is defined as `1`, E as nothing, and Y as `#undef E`. `note`, a header and its
-/// template: the header's first line.
+/// `made` and a template: the header if HAVE_X is defined as `1`, E as nothing, and Y as
+/// `#undef E`. `note`, a header and its template: the header's first line.
 const HEADERS: &[u8] = b"
 made   # undef HAVE_X => [  # define HAVE_X 1]
 made   # undef HAVE_Z => [/*   # undef HAVE_Z */]

@@ -8,9 +8,9 @@ use std::alloc::{AllocError, Global};
 use std::test::Fail;
 use test_rows::{Page, ReplyWord, RowCall, cut, reply_word, try_rows};
 
-/// `log` and entries with `;` between them: the text of their log. `o TEXT` and `e TEXT` are pieces for standard output and for
-/// standard error. A child is a reply, as `test_rows` reads it, a blank, the words, and after bars the diagnostics and the
-/// program.
+/// `log` and entries with `;` between them: the text of their log. `o TEXT` and `e TEXT` are pieces
+/// for standard output and for standard error. A child is a reply, as `test_rows` reads it, a
+/// blank, the words, and after bars the diagnostics and the program.
 const LOGS: &[u8] = b"
 log o checking for sys/stat.h... ;0 cc -c conftest1.c||int x^J;o yes^J => checking for sys/stat.h... ^J$ cc -c conftest1.c^Jstatus 0^Jyes^J
 log 1 cc -c conftest.c|a.h: none|int x^J  y => $ cc -c conftest.c^Ja.h: none^Jstatus 1^Jfailed program was:^J| int x^J|   y^J
@@ -24,8 +24,8 @@ log o a;e b^J;o c => a^Jb^Jc^J
 log o  => 
 ";
 
-/// `out`, `err` and `quiet` and the pieces: what is printed to standard output, to standard error, and to each of them if the
-/// run is quiet.
+/// `out`, `err` and `quiet` and the pieces: what is printed to standard output, to standard error,
+/// and to each of them if the run is quiet.
 const MESSAGES: &[u8] = b"
 out o checking... ;o yes^J;e configure: WARNING: w^J;o a^J => checking... yes^Ja^J
 err o checking... ;o yes^J;e configure: WARNING: w^J;o a^J => configure: WARNING: w^J

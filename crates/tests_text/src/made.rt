@@ -8,13 +8,15 @@ use std::alloc::{AllocError, Global};
 use std::test::Fail;
 use test_rows::{Page, RowCall, cut, try_rows};
 
-/// After the call, with bars between them: variables with their values, files and headers with their templates, templates with
-/// their texts, and tags. The source's own output variables are V, CC and srcdir, X is defined as `1`, the
-/// arguments are `-C` and `x y`, and the source is in `../s`.
+/// After the call, with bars between them: variables with their values, files and headers with
+/// their templates, templates with their texts, and tags. The source's own output variables are V,
+/// CC and srcdir, X is defined as `1`, the arguments are `-C` and `x y`, and the source is in
+/// `../s`.
 ///
-/// `record`: the record. `make`: what is made of it. `append`: the same twice, in one list. `file`: what is made of the first
-/// file. `missing`: the output whose template is missing. `unknown`: the index of the tag that is no output. `many` alone: how
-/// many variables and definitions the record has of a source with 10,000 of each.
+/// `record`: the record. `make`: what is made of it. `append`: the same twice, in one list. `file`:
+/// what is made of the first file. `missing`: the output whose template is missing. `unknown`: the
+/// index of the tag that is no output. `many` alone: how many variables and definitions the record
+/// has of a source with 10,000 of each.
 const MADE: &[u8] = b"
 record V=x;W=y;LIBS=-lm;DEFS=-DX;prefix=/usr|file b t;header h k||h => PACKAGE_NAME[]PACKAGE_TARNAME[]PACKAGE_VERSION[]PACKAGE_STRING[]PACKAGE_BUGREPORT[]PACKAGE_URL[]prefix[/usr]exec_prefix[]bindir[]sbindir[]libexecdir[]libdir[]datarootdir[]datadir[]sysconfdir[]sharedstatedir[]localstatedir[]runstatedir[]includedir[]oldincludedir[]docdir[]infodir[]htmldir[]dvidir[]pdfdir[]psdir[]localedir[]mandir[]LIBS[-lm]DEFS[-DHAVE_CONFIG_H]V[x]CC[]srcdir[];../s[-C][x y];X[1];b[t];h[k]
 record DEFS=-DX;CC=;PACKAGE_URL=u||| => PACKAGE_NAME[]PACKAGE_TARNAME[]PACKAGE_VERSION[]PACKAGE_STRING[]PACKAGE_BUGREPORT[]PACKAGE_URL[u]prefix[]exec_prefix[]bindir[]sbindir[]libexecdir[]libdir[]datarootdir[]datadir[]sysconfdir[]sharedstatedir[]localstatedir[]runstatedir[]includedir[]oldincludedir[]docdir[]infodir[]htmldir[]dvidir[]pdfdir[]psdir[]localedir[]mandir[]LIBS[]V[]CC[]srcdir[];../s[-C][x y];X[1];;

@@ -5,7 +5,8 @@ use std::alloc::{AllocError, Global};
 use std::test::Fail;
 use test_rows::{Page, RowCall, cut, try_rows};
 
-/// `said` and a name; `fill`, a text, and after a `%` each an argument; or `made`, a name, and the same, for the text of its entry.
+/// `said` and a name; `fill`, a text, and after a `%` each an argument; or `made`, a name, and the
+/// same, for the text of its entry.
 const ENTRIES: &[u8] = b"
 said AC_CHECK_HEADERS_ONCE => idiom AC_CHECK_HEADERS_ONCE [AC_CHECK_HEADERS([$1{HEADERS}])]
 said AC_FUNC_VPRINTF => idiom AC_FUNC_VPRINTF [AC_CHECK_FUNCS([vprintf])]

@@ -5,8 +5,9 @@ use std::test::Fail;
 use template::{Filler, Table, fill};
 use test_rows::{Page, RowCall, cut, try_rows};
 
-/// `fed`, the value of VAR and pieces with `|` between them: what each gives, and then what the end gives. `cuts`, the value of VAR and
-/// a template: the filled template, if the same comes of the template cut in two at each place, and of its single bytes.
+/// `fed`, the value of VAR and pieces with `|` between them: what each gives, and then what the end
+/// gives. `cuts`, the value of VAR and a template: the filled template, if the same comes of the
+/// template cut in two at each place, and of its single bytes.
 const PIECES: &[u8] = b"
 fed v  => [][]
 fed v ||| => [][][][][]
@@ -69,7 +70,8 @@ fn put_each(page: &mut Page, value: &[u8], pieces: &[u8]) {
     page.put_text(filler.finish().as_slice());
 }
 
-/// Returns whether the template in pieces of this length, with a first piece of another length, makes the text.
+/// Returns whether the template in pieces of this length, with a first piece of another length,
+/// makes the text.
 fn makes(
     page: &mut Page,
     value: &[u8],

@@ -7,8 +7,8 @@ use std::alloc::AllocError;
 use std::test::Fail;
 use test_rows::{Page, RowCall, cut, try_rows, try_tables};
 
-/// `items` and a text: a call by its name with each argument in parentheses after it, and bare text in brackets; or the fault.
-/// `at` and a text: the same of the text at offset 100 of a file.
+/// `items` and a text: a call by its name with each argument in parentheses after it, and bare text
+/// in brackets; or the fault. `at` and a text: the same of the text at offset 100 of a file.
 const ITEMS: &[u8] = b"
 items AC_X([a], [b] # it, (^J) => AC_X at 0 ([[a]] at 5) ([[b] # it, (^J] at 10);
 // Commas in quotes, inner parentheses and `dnl` lines are ordinary, and an empty argument is one.
@@ -44,7 +44,8 @@ at AC_X([a => 1 at 105
 at a\0 => 4 at 101
 ";
 
-/// `count` and each front of a call with two arguments and one without a parenthesis: its fault, or how many items it has.
+/// `count` and each front of a call with two arguments and one without a parenthesis: its fault, or
+/// how many items it has.
 const FRONTS: &[u8] = b"
 count  => 0 items
 count A => 1 items
@@ -144,8 +145,9 @@ fn items_and_faults(rt: HostRuntime) -> Result<(), Fail> {
     try_tables(rt.alloc(), &Items, &[ITEMS, FRONTS])
 }
 
-/// `used` and an argument, `value` and bare text: what it means. `names` and a text: it as a part of a shell variable's name,
-/// and as one of a preprocessor symbol. `faults` alone: each fault, with an offset of its own.
+/// `used` and an argument, `value` and bare text: what it means. `names` and a text: it as a part
+/// of a shell variable's name, and as one of a preprocessor symbol. `faults` alone: each fault,
+/// with an offset of its own.
 const MEANINGS: &[u8] = b"
 used [@<:@@S|@x@:>@] => [[$x]]
 used [@%:@@{:@@:}@@&t@.] => [#().]

@@ -5,9 +5,10 @@ use std::alloc::{AllocError, Global};
 use std::test::Fail;
 use test_rows::{Page, RowCall, cut, try_rows};
 
-/// `all`, the number of the put that is refused, a bar, and artifacts with `;` between them, each a kind, a name and a text:
-/// `done` or the number that is returned, and what was handed over. `twice`: the same of two calls with the same artifacts. `one`:
-/// the same of a single put, with its error in place of a number.
+/// `all`, the number of the put that is refused, a bar, and artifacts with `;` between them, each a
+/// kind, a name and a text: `done` or the number that is returned, and what was handed over.
+/// `twice`: the same of two calls with the same artifacts. `one`: the same of a single put, with
+/// its error in place of a number.
 const PUTS: &[u8] = b"
 all 0|cache config.cache a=b^J;record config.status r;file src/Makefile x^J y^J;header config.h  => done;cache config.cache[a=b^J]record config.status[r]file src/Makefile[x^J y^J]header config.h[]
 all 4|cache config.cache a=b^J;record config.status r;file src/Makefile x^J y^J;header config.h  => 4;cache config.cache[a=b^J]record config.status[r]file src/Makefile[x^J y^J]

@@ -7,9 +7,9 @@ use std::test::Fail;
 use test_rows::escaped::value_or_fault;
 use test_rows::{Page, RowCall, cut, put_fronts, try_tables};
 
-/// `read` and a text: what the record holds, or its fault; `args` begins the arguments of version 2. `v1` or `v2` and lines: the
-/// same of a record of that version whose source directory is `.`, with these lines before `end`. What isn't written again with
-/// the same bytes is marked.
+/// `read` and a text: what the record holds, or its fault; `args` begins the arguments of version
+/// 2. `v1` or `v2` and lines: the same of a record of that version whose source directory is `.`,
+/// with these lines before `end`. What isn't written again with the same bytes is marked.
 const READ: &[u8] = b"
 read acrun-record 1^Jsrcdir .^Jvar A x\\ny^Jend^J => .;A[x^Jy];
 read acrun-record 1^Jsrcdir .^Jvar A x\\ny^J => 3
@@ -112,8 +112,9 @@ fronts acrun-record 2^Jsrcdir .^Jarg -C^Jvar A x^Jend^J => 0 1;15 3;43 read;
 fronts acrun-record 1^Jsrcdir .^Jdef A x^Jfile a b^Jheader c d^Jend^J => 0 1;15 3;56 read;
 ";
 
-/// `value` alone: the bytes that aren't written as themselves in a value, or can't be at its end. `arg` and `path` alone: the same
-/// of an argument and of the name of a file. `many` alone: how a record with 1,024 variables is read.
+/// `value` alone: the bytes that aren't written as themselves in a value, or can't be at its end.
+/// `arg` and `path` alone: the same of an argument and of the name of a file. `many` alone: how a
+/// record with 1,024 variables is read.
 const BYTES: &[u8] = b"
 many => read
 value => 10 92

@@ -7,8 +7,9 @@ use std::hash::{DefaultHasher, Hash, Hasher};
 use std::test::Fail;
 use test_rows::{Page, RowCall, cut, try_rows};
 
-/// `text` and two texts with a comma between them: the length of the first and whether it is empty, a copy of it, and how the
-/// copy compares with the second. `name` and a text: whether it has the form of a name, and a copy of the name that it becomes.
+/// `text` and two texts with a comma between them: the length of the first and whether it is empty,
+/// a copy of it, and how the copy compares with the second. `name` and a text: whether it has the
+/// form of a name, and a copy of the name that it becomes.
 const TEXTS: &[u8] = b"
 text a\0\xff,a\0\xff => 3 no [a\0\xff] same
 text a,a\0\xff => 1 no [a] before
@@ -34,7 +35,8 @@ fn hash_of(text: &Bytes) -> u64 {
     state.finish()
 }
 
-/// Puts `same` or `before` if every comparison of two texts says so. Equal texts have the same hash.
+/// Puts `same` or `before` if every comparison of two texts says so. Equal texts have the same
+/// hash.
 fn put_order(page: &mut Page, first: &Bytes, second: &Bytes) {
     page.put(match first.cmp(second) {
         Ordering::Equal if first == second && hash_of(first) == hash_of(second) => b"same",
@@ -107,9 +109,9 @@ fn texts_and_names(rt: HostRuntime) -> Result<(), Fail> {
     try_rows(rt.alloc(), &Texts, TEXTS)
 }
 
-/// A table and steps with semicolons between them, and at its end what the table holds, in order. A step `NAME=VALUE` sets
-/// an entry, `!NAME` takes one away, and `?NAME` puts what the table holds at that point under the name. `~NAME` puts a
-/// variable's value, which is empty if it is unset.
+/// A table and steps with semicolons between them, and at its end what the table holds, in order. A
+/// step `NAME=VALUE` sets an entry, `!NAME` takes one away, and `?NAME` puts what the table holds
+/// at that point under the name. `~NAME` puts a variable's value, which is empty if it is unset.
 const TABLES: &[u8] = b"
 vars !CC =>
 vars CC=cc => CC=cc;

@@ -5,9 +5,10 @@ use std::test::Fail;
 use template::{Place, Table, configure_input, fill, has_one_filled_text, place_vars};
 use test_rows::{Page, RowCall, cut, try_rows};
 
-/// `fill`, the value of VAR and a template: what it makes if also A is `1` and B is empty. `repeat` and two texts with a comma
-/// between them: whether the first makes the second, each repeated over many windows. `key` and a name: its value where VAR is
-/// `v`. `names` alone: the length of the longest name. `many` alone: the same of a table with 10,000 names, and the value of the last.
+/// `fill`, the value of VAR and a template: what it makes if also A is `1` and B is empty. `repeat`
+/// and two texts with a comma between them: whether the first makes the second, each repeated over
+/// many windows. `key` and a name: its value where VAR is `v`. `names` alone: the length of the
+/// longest name. `many` alone: the same of a table with 10,000 names, and the value of the last.
 const FILLED: &[u8] = b"
 fill v @a@VAR@ => [@av]
 fill v  => []
@@ -29,7 +30,8 @@ fill v @VARIABLE@\0@VA@ => [@VARIABLE@\0@VA@]
 fill @VAR@ @VAR@ => [@VAR@]
 fill @A @VAR@@ => [@A@]
 
-// Longer than the windows that are looked at and than the runs that are held, with an `@` at each place of a window.
+// Longer than the windows that are looked at and than the runs that are held, with an `@` at each
+// place of a window.
 repeat some text @A@ and @nope@@@ ,some text 1 and @nope@@@  => yes
 
 key VAR => [v]
@@ -145,8 +147,8 @@ fn templates_are_filled(rt: HostRuntime) -> Result<(), Fail> {
     try_rows(rt.alloc(), &Filling, FILLED)
 }
 
-/// `place`, a file and the top of the sources: srcdir, top_srcdir, builddir and top_builddir. `made`, a file and its template:
-/// the line that says so.
+/// `place`, a file and the top of the sources: srcdir, top_srcdir, builddir and top_builddir.
+/// `made`, a file and its template: the line that says so.
 const PLACES: &[u8] = b"
 place a/b/Makefile ../s => ../../../s/a/b ../../../s . ../..
 place a/b/Makefile . => . ../.. . ../..

@@ -3,7 +3,8 @@
 ghost use Rattle.std.specs.Prelude.{◌≡◌, ℕ, ◌<◌, ◌≤◌, false, length, take, slice_index, if◌then◌else◌};
 ghost use Rattle.text_controls.specs.Form as form;
 
-/// What is lacking of a character: its next byte is one from `low` to `high`, and then come `more` bytes from 0x80 to 0xbf.
+/// What is lacking of a character: its next byte is one from `low` to `high`, and then come `more`
+/// bytes from 0x80 to 0xbf.
 #[derive(Clone, Copy)]
 pub(crate) struct Awaited {
     low: u8,
@@ -104,7 +105,8 @@ pub(crate) fn is_escaped(awaited: Awaited, byte: u8) -> bool
 /// Returns the number of bytes at the front of a text that are shown as they are.
 pub(crate) fn plain_len(awaited: Awaited, text: &[u8]) -> usize
     ensures within { result ≤ length text.now }
-    ensures not_empty { 0 < length text.now → form.is_escaped awaited (slice_index text.now 0) ≡ false → 0 < result }
+    ensures not_empty { 0 < length text.now
+        → form.is_escaped awaited (slice_index text.now 0) ≡ false → 0 < result }
     ensures plain { (n : ℕ) → n ≤ result → form.shown awaited (take n text.now) ≡ take n text.now }
 {
     let mut lacking = awaited;

@@ -1,17 +1,19 @@
-//! Text as a terminal may be given it: control bytes are written as `\xNN`, so that no text drives the terminal.
+//! Text as a terminal may be given it: control bytes are written as `\xNN`, so that no text drives
+//! the terminal.
 //!
 //! ```text
 //! let mut output = Shown::new(rt.stdout(), rt.stdout().is_terminal());
 //! output.write_all(b"a\x1b[2Jb\n")?;         // a\x1b[2Jb
 //! ```
 //!
-//! A newline and a tab stay as they are, and so do the characters of UTF-8, also if a character's bytes are handed over by two calls.
-//! A control byte is one below 0x20, 0x7f, or one from 0x80 to 0x9f that continues no character of UTF-8.
+//! A newline and a tab stay as they are, and so do the characters of UTF-8, also if a character's
+//! bytes are handed over by two calls. A control byte is one below 0x20, 0x7f, or one from 0x80 to
+//! 0x9f that continues no character of UTF-8.
 //!
 //! "own" marks a rule that no manual gives.
 //!
-//! `specs/Form.antt` defines the form of a text that is shown. In the code, read `escaping`, `awaited` and then `stream`, which has
-//! [`Shown`].
+//! `specs/Form.antt` defines the form of a text that is shown. In the code, read `escaping`,
+//! `awaited` and then `stream`, which has [`Shown`].
 #![tactic(auto)]
 
 mod awaited;

@@ -50,18 +50,23 @@ impl<W: Write + Drop> Shown<W> {
 impl<W: Write + Drop> Write for Shown<W> {
     ghost contents = { λ s. contents_of W.contents s };
 
-    /// Writes a front of the text: the bytes before the first that isn't shown as it is, or that byte alone.
+    /// Writes a front of the text: the bytes before the first that isn't shown as it is, or that
+    /// byte alone.
     ///
     /// # Errors
     ///
-    /// Returns the stream's error. If it comes while `\xNN` is written, a part of that may have been written.
+    /// Returns the stream's error. If it comes while `\xNN` is written, a part of that may have
+    /// been written.
     fn write(&mut self, buf: &[u8]) -> io::Result<usize>
         ensures bound { WritesAtMost result buf.now }
-        ensures bytes { WriteAppends (contents_of W.contents self.old) (contents_of W.contents self.new) result buf.now }
+        ensures bytes { WriteAppends (contents_of W.contents self.old)
+            (contents_of W.contents self.new) result buf.now }
         ensures kept { self.new.is_on ≡ self.old.is_on }
         // If texts are shown, what was taken of this one is written in its shown form.
-        ensures shown { IsTrue self.old.is_on → IfOk result (λ n.
-            Appends (W.contents self.old.stream) (W.contents self.new.stream) (shown self.old.awaited (take n buf.now))) }
+        ensures shown { IsTrue self.old.is_on
+            → IfOk result (λ n.
+            Appends (W.contents self.old.stream) (W.contents self.new.stream)
+            (shown self.old.awaited (take n buf.now))) }
         ensures awaited { IsTrue self.old.is_on → IfOk result (λ n.
             self.new.awaited ≡ awaited_after self.old.awaited (take n buf.now)) }
     {
@@ -79,11 +84,15 @@ impl<W: Write + Drop> Write for Shown<W> {
     ///
     /// Returns the stream's error. A part of the text may have been written.
     fn write_all(&mut self, buf: &[u8]) -> io::Result<()>
-        ensures bytes { OnOk result (Appends (contents_of W.contents self.old) (contents_of W.contents self.new) buf.now) }
+        ensures bytes { OnOk result (
+            Appends (contents_of W.contents self.old) (contents_of W.contents self.new) buf.now) }
         ensures kept { self.new.is_on ≡ self.old.is_on }
-        ensures shown { IsTrue self.old.is_on → OnOk result (
-            Appends (W.contents self.old.stream) (W.contents self.new.stream) (shown self.old.awaited buf.now)) }
-        ensures awaited { IsTrue self.old.is_on → OnOk result (self.new.awaited ≡ awaited_after self.old.awaited buf.now) }
+        ensures shown { IsTrue self.old.is_on
+            → OnOk result (
+            Appends (W.contents self.old.stream) (W.contents self.new.stream)
+            (shown self.old.awaited buf.now)) }
+        ensures awaited { IsTrue self.old.is_on
+            → OnOk result (self.new.awaited ≡ awaited_after self.old.awaited buf.now) }
     {
         if !self.is_on {
             return self.stream.write_all(buf);
@@ -103,10 +112,12 @@ impl<W: Write + Drop> Write for Shown<W> {
     }
 }
 
-/// Writes the bytes at the front of a text that are shown as they are, or the first byte as `\xNN`. Returns how many it took.
+/// Writes the bytes at the front of a text that are shown as they are, or the first byte as `\xNN`.
+/// Returns how many it took.
 fn write_front<W: Write>(stream: &mut W, awaited: Awaited, text: &[u8]) -> io::Result<usize>
     ensures bound { WritesAtMost result text.now }
-    ensures shown { IfOk result (λ n. Appends (W.contents stream.old) (W.contents stream.new) (shown awaited (take n text.now))) }
+    ensures shown { IfOk result (λ n.
+        Appends (W.contents stream.old) (W.contents stream.new) (shown awaited (take n text.now))) }
 {
     match text.first() {
         Some(first) if is_escaped(awaited, *first) => {
@@ -122,7 +133,8 @@ fn put_front<W: Write>(stream: &mut W, awaited: Awaited, text: &[u8]) -> io::Res
     requires { 0 < length text.now }
     ensures not_empty { IfOk result (λ n. 0 < n) }
     ensures within { IfOk result (λ n. n ≤ length text.now) }
-    ensures shown { IfOk result (λ n. Appends (W.contents stream.old) (W.contents stream.new) (shown awaited (take n text.now))) }
+    ensures shown { IfOk result (λ n.
+        Appends (W.contents stream.old) (W.contents stream.new) (shown awaited (take n text.now))) }
 {
     if is_escaped(awaited, text[0]) {
         stream.write_all(&escape(text[0]))?;
@@ -135,7 +147,8 @@ fn put_front<W: Write>(stream: &mut W, awaited: Awaited, text: &[u8]) -> io::Res
 
 /// Writes a whole text in its shown form.
 fn put_all<W: Write>(stream: &mut W, awaited: Awaited, text: &[u8]) -> io::Result<()>
-    ensures { OnOk result (Appends (W.contents stream.old) (W.contents stream.new) (shown awaited text.now)) }
+    ensures { OnOk result (
+        Appends (W.contents stream.old) (W.contents stream.new) (shown awaited text.now)) }
 {
     let mut lacking = awaited;
     let mut done = 0;

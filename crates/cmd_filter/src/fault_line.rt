@@ -7,7 +7,8 @@ use cmd_call::tell_named;
 use engine::Fault;
 use std::io::Write;
 
-/// Reports an error of the filter, with the name of a template that it is about, and returns the exit status.
+/// Reports an error of the filter, with the name of a template that it is about, and returns the
+/// exit status.
 pub fn tell<E: Write>(errors: &mut E, fault: &FilterFault) -> u8
     ensures { result ≡ 2 }
 {

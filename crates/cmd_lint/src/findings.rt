@@ -38,7 +38,8 @@ fn parsed(alloc: Global, text: &[u8]) -> Result<Option<Source>, AllocError>
     }
 }
 
-/// Reads the templates of a source that has statements, and appends an error for each output whose template can't be read.
+/// Reads the templates of a source that has statements, and appends an error for each output whose
+/// template can't be read.
 fn templates_of<D: Disk>(
     alloc: Global,
     disk: &D,
@@ -46,13 +47,16 @@ fn templates_of<D: Disk>(
     source: &Source,
     found: &mut Vec<Finding>,
 ) -> Result<Sheets, AllocError>
-    ensures { IfOk result (λ _. specs.AreCheckedOf (D.known disk.now) linted.now.directory (Some (script_of source.now)) found.old.items found.new.items) }
+    ensures { IfOk result (λ _.
+        specs.AreCheckedOf (D.known disk.now) linted.now.directory (Some (script_of source.now))
+        found.old.items found.new.items) }
 {
     let templates = read_all(alloc, disk, linted, source, found)?;
     sheets_of(alloc, linted.directory.as_slice(), source, templates)
 }
 
-/// Reads the templates of a source, if it has statements, and appends an error for each output whose template can't be read.
+/// Reads the templates of a source, if it has statements, and appends an error for each output
+/// whose template can't be read.
 fn sheets_for<D: Disk>(
     alloc: Global,
     disk: &D,
@@ -60,7 +64,9 @@ fn sheets_for<D: Disk>(
     source: &Option<Source>,
     found: &mut Vec<Finding>,
 ) -> Result<Sheets, AllocError>
-    ensures { IfOk result (λ _. specs.AreCheckedOf (D.known disk.now) linted.now.directory (option_map script_of source.now) found.old.items found.new.items) }
+    ensures { IfOk result (λ _.
+        specs.AreCheckedOf (D.known disk.now) linted.now.directory (option_map script_of source.now)
+        found.old.items found.new.items) }
 {
     match source {
         Some(source) => templates_of(alloc, disk, linted, source, found),
@@ -76,7 +82,8 @@ fn has_some(errors: &[Finding]) -> bool
     !errors.is_empty()
 }
 
-/// Appends the warnings about a source and its templates: if it is refused, those about its calls alone.
+/// Appends the warnings about a source and its templates: if it is refused, those about its calls
+/// alone.
 fn add_all_warnings(
     alloc: Global,
     text: &[u8],
@@ -92,7 +99,8 @@ fn add_all_warnings(
     }
 }
 
-/// Appends the warnings about a source and its templates, and puts what was found in order of place.
+/// Appends the warnings about a source and its templates, and puts what was found in order of
+/// place.
 fn finish(
     alloc: Global,
     text: &[u8],
@@ -105,14 +113,15 @@ fn finish(
     put_in_order(found)
 }
 
-/// Returns what is found in a source, in order of place: its errors, the templates that are not there, and the warnings. If the source
-/// is refused, the warnings are those about its calls alone.
+/// Returns what is found in a source, in order of place: its errors, the templates that are not
+/// there, and the warnings. If the source is refused, the warnings are those about its calls alone.
 pub(crate) fn found_in<D: Disk>(
     alloc: Global,
     disk: &D,
     linted: &Linted,
 ) -> Result<Found, AllocError>
-    ensures { IfOk result (λ f. HasError (D.known disk.now) linted.now.directory linted.now.text f.has_error) }
+    ensures { IfOk result (λ f.
+        HasError (D.known disk.now) linted.now.directory linted.now.text f.has_error) }
 {
     let text = linted.text.as_slice();
     let mut findings = all_errors(alloc, text)?;

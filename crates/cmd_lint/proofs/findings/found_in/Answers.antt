@@ -1,7 +1,7 @@
 use Rattle.std.proofs.Common.{option_map}
 use Rattle.ac_tree.specs.Script.{script_of}
 use Rattle.cmd_lint.proofs.Lost.{lent_error}
-use Rattle.cmd_lint.proofs.errors.found_in.Goals as goal
+use Rattle.cmd_lint.proofs.findings.found_in.Goals as goal
 
 pub returns : goal.returns
 returns g c =

@@ -1,4 +1,5 @@
-//! The lines of the faults of a run, of outputs that are not made again, and of files that can't be read or written.
+//! The lines of the faults of a run, of outputs that are not made again, and of files that can't be
+//! read or written.
 
 ghost use Rattle.std.specs.Prelude.{◌≡◌, Ok, IsTrue};
 
@@ -10,7 +11,8 @@ use status_record::Record;
 use std::alloc::Global;
 use std::io::{self, Write};
 
-/// Reports a fault of a run, and returns the exit status. Of a precious variable, the line has the number and not the name.
+/// Reports a fault of a run, and returns the exit status. Of a precious variable, the line has the
+/// number and not the name.
 fn tell_fault<E: Write>(errors: &mut E, fault: &Fault) -> u8
     ensures { result ≡ 2 }
 {
@@ -30,8 +32,9 @@ fn tell_line<E: Write>(given: Option<&Given<'_>>, errors: &mut E, fault: &Fault)
     }
 }
 
-/// Reports what is wrong with what a run is given, and says more of it if it is asked. Returns the exit status. If the source was judged
-/// before the fault was found, `given` is what the run was given then.
+/// Reports what is wrong with what a run is given, and says more of it if it is asked. Returns the
+/// exit status. If the source was judged before the fault was found, `given` is what the run was
+/// given then.
 pub fn tell_run<D: Disk, E: Write>(
     alloc: Global,
     disk: &D,
@@ -47,8 +50,9 @@ pub fn tell_run<D: Disk, E: Write>(
     FAULT
 }
 
-/// Reports why outputs are not made again, or a run is not done again, and returns the exit status. Says more of it if it is asked.
-/// `recorded` is the record, if it was read. If a put was refused, `cause` says why, and it is empty if that is not known.
+/// Reports why outputs are not made again, or a run is not done again, and returns the exit status.
+/// Says more of it if it is asked. `recorded` is the record, if it was read. If a put was refused,
+/// `cause` says why, and it is empty if that is not known.
 pub fn tell_remake<D: Disk, E: Write>(
     alloc: Global,
     disk: &D,
@@ -68,7 +72,8 @@ pub fn tell_remake<D: Disk, E: Write>(
     FAULT
 }
 
-/// Reports that the file at this path can't be read, and says why if it is asked. Returns the exit status.
+/// Reports that the file at this path can't be read, and says why if it is asked. Returns the exit
+/// status.
 pub fn tell_unread<D: Disk, E: Write>(
     alloc: Global,
     disk: &D,
@@ -83,7 +88,8 @@ pub fn tell_unread<D: Disk, E: Write>(
     FAULT
 }
 
-/// Reports that the file of this name can't be written, if it can't be, and says why if it is asked. Returns whether it was.
+/// Reports that the file of this name can't be written, if it can't be, and says why if it is
+/// asked. Returns whether it was.
 pub(crate) fn tell_written<E: Write>(
     alloc: Global,
     is_asked: bool,

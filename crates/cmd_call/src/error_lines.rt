@@ -20,8 +20,8 @@ fn put_line<E: Write, D: fmt::Display>(errors: &mut E, fault: &D, name: &[u8]) -
     errors.write_all(b"\n")
 }
 
-/// Reports an error on standard error, with a name unless it is empty, and returns the exit status. If the line can't be written,
-/// only the exit status reports the error.
+/// Reports an error on standard error, with a name unless it is empty, and returns the exit status.
+/// If the line can't be written, only the exit status reports the error.
 pub fn tell_named<E: Write, D: fmt::Display>(errors: &mut E, fault: &D, name: &[u8]) -> u8
     ensures { result ≡ 2 }
 {
@@ -58,7 +58,8 @@ pub fn tell_put<E: Write>(errors: &mut E, number: u64) -> u8
     FAULT
 }
 
-/// Returns the precious variable of this number, counted from 1, or an empty text if the source declares fewer.
+/// Returns the precious variable of this number, counted from 1, or an empty text if the source
+/// declares fewer.
 fn precious_name(source: &Source, number: u64) -> &[u8] {
     match source
         .precious()
@@ -70,7 +71,8 @@ fn precious_name(source: &Source, number: u64) -> &[u8] {
     }
 }
 
-/// Reports what is wrong with a precious variable of this source: its kind from 1 to 3, and its name.
+/// Reports what is wrong with a precious variable of this source: its kind from 1 to 3, and its
+/// name.
 pub fn tell_precious<E: Write>(errors: &mut E, source: &Source, fault: PreciousFault) -> u8
     ensures { result ≡ 2 }
 {
