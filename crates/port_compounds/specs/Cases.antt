@@ -1,17 +1,18 @@
 -- The `case` of a shell between two offsets of a text, and its parts: its word, the patterns and the body of each branch, and the body of
 -- a last branch whose pattern is `*`. (POSIX shell, 2.9.4.3 "Case Conditional Construct")
-use Rattle.std.specs.Prelude.{◌≡◌, ◌⊎◌, ℕ, ◌-◌, ◌+◌, ◌<◌, ◌≤◌, true, List, [], ◌∷◌, ◌++◌, slice_range, slice_index, codes}
-use Rattle.port_compounds.specs.Parts.{HasNoHash, HasDnl, IsAtLineStart, IsBeforeSemicolon, IsPlainLine, IsStatement}
+use Rattle.std.specs.Prelude.{◌≡◌, ◌⊎◌, ℕ, ◌+◌, ◌<◌, ◌≤◌, true, List, [], ◌∷◌, ◌++◌, slice_range, slice_index, codes}
+use Rattle.port_compounds.specs.Parts.{HasNoHash, HasDnl, IsAtLineStart, IsBeforeSemicolon, IsNotEscaped, IsPlainLine, IsStatement}
 use Rattle.port_compounds.specs.Places.{is_blank, AreBlank, AreSpaces, IsWord}
 
 -- ---- the word
 
--- Between two offsets is this word, with at least one blank before it and after it.
+-- Between two offsets is this word, with at least one blank before it and after it. It doesn't end in a backslash.
 pub record IsSubject (text : List ℕ) (start end : ℕ) (word : List ℕ) : Type 0 where
   pub from : ℕ
   pub to : ℕ
   pub order : (start < from) × (from ≤ to) × (to < end)
   pub before : AreBlank text start from
+  pub not_escaped : IsNotEscaped text to
   pub after : AreBlank text to end
   pub is : word ≡ slice_range text from to
   pub plain : IsPlainLine word
@@ -26,12 +27,14 @@ pub record IsParenthesis (text : List ℕ) (start end : ℕ) : Type 0 where
   pub is : slice_index text at ≡ 40
   pub after : AreSpaces text (at + 1) end
 
--- Between two offsets are these patterns, with spaces and a parenthesis after them. A parenthesis may be before them.
+-- Between two offsets are these patterns, with spaces and a parenthesis after them. A parenthesis may be before them. They don't end in a
+-- backslash.
 pub record ArePatterns (text : List ℕ) (start end : ℕ) (patterns : List ℕ) : Type 0 where
   pub from : ℕ
   pub to : ℕ
   pub order : (start ≤ from) × (from ≤ to) × (to ≤ end)
   pub before : AreBlank text start from ⊎ IsParenthesis text start from
+  pub not_escaped : IsNotEscaped text to
   pub after : AreSpaces text to end
   pub closed : slice_index text end ≡ 41
   pub is : patterns ≡ slice_range text from to
@@ -44,7 +47,7 @@ pub record IsBeforeSpaces (text : List ℕ) (from to end : ℕ) : Type 0 where
   pub after : AreSpaces text to end
   pub no_comment : HasNoHash (slice_range text from to)
   pub no_dnl : HasDnl (slice_range text from to) → ⊥
-  pub not_escaped : slice_index text (to - 1) ≡ 92 → ⊥
+  pub not_escaped : IsNotEscaped text to
 
 -- A body before `;;` ends in the newline of its last line, or before spaces.
 abbrev pub EndsBefore : List ℕ → ℕ → ℕ → ℕ → Type 0

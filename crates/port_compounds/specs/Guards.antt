@@ -4,7 +4,7 @@ use Rattle.std.specs.Prelude.{◌≡◌, ◌⊎◌, ℕ, ◌+◌, ◌≤◌, ◌
 use Rattle.std.specs.List.{list_any}
 use Rattle.m4quote.specs.Entry.{Span, Entry, call}
 use Rattle.m4quote.specs.Spelling.{IsSpelling}
-use Rattle.port_compounds.specs.Parts.{IsPlainLine}
+use Rattle.port_compounds.specs.Parts.{IsNotEscaped, IsPlainLine}
 use Rattle.port_compounds.specs.Places.{is_blank, AreBlank, AreSpaces, IsWord, BeginsStatement, EndsStatement}
 
 -- ---- the status of a command
@@ -64,10 +64,11 @@ pub data IsOneCommand (statement : List ℕ) : Type 0 where
 
 -- ---- the whole
 
--- Spaces are between the last two of these offsets. (own)
+-- Spaces are between the last two of these offsets, and no backslash is before them. (own)
 pub record IsPlaceBefore (text : List ℕ) (start to end : ℕ) : Type 0 where
   pub order : (start ≤ to) × (to ≤ end)
   pub within : end ≤ length text
+  pub not_escaped : IsNotEscaped text to
   pub after : AreSpaces text to end
 
 -- Blanks are between the first two of these offsets. (own)

@@ -21,18 +21,25 @@ is_newline b = b == 10
 abbrev pub HasDnl : List ℕ → Type 0
 HasDnl text = (at : ℕ) × (slice_range text at (at + 3) ≡ codes "dnl")
 
--- Between these offsets are spaces, a `;` or a newline, and blanks: the end of a list of commands. (POSIX shell, 2.9.3)
+-- No backslash is right before this offset. After one, what follows would be a part of the word. (POSIX shell, 2.2.1)
+abbrev pub IsNotEscaped : List ℕ → ℕ → Type 0
+IsNotEscaped text at = slice_index text (at - 1) ≡ 92 → ⊥
+
+-- Between these offsets are spaces, a `;` or a newline, and blanks: the end of a list of commands. No backslash is before it. (POSIX shell,
+-- 2.9.3)
 pub record IsListEnd (text : List ℕ) (start end : ℕ) : Type 0 where
   pub at : ℕ
   pub order : (start ≤ at) × (at < end)
+  pub not_escaped : IsNotEscaped text start
   pub spaces : AreSpaces text start at
   pub is : (slice_index text at ≡ 59) ⊎ (slice_index text at ≡ 10)
   pub blanks : AreBlank text (at + 1) end
 
--- Between these offsets are spaces, a `;`, and spaces. (POSIX shell, 2.9.3)
+-- Between these offsets are spaces, a `;`, and spaces. No backslash is before them. (POSIX shell, 2.9.3)
 pub record IsSemicolon (text : List ℕ) (start end : ℕ) : Type 0 where
   pub at : ℕ
   pub order : (start ≤ at) × (at < end)
+  pub not_escaped : IsNotEscaped text start
   pub before : AreSpaces text start at
   pub is : slice_index text at ≡ 59
   pub after : AreSpaces text (at + 1) end

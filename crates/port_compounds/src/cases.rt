@@ -1,13 +1,14 @@
 //! The parts of a `case`.
 
-ghost use Rattle.std.specs.Prelude.{◌≡◌, ◌≤◌, ◌<◌, ◌-◌, ◌+◌, ◌++◌, ◌∷◌, [], ◌⊎◌, map, length, true, false, slice_index, slice_range, codes, IfOk, IfSome, IsTrue, OnOk};
+ghost use Rattle.std.specs.Prelude.{◌≡◌, ◌≤◌, ◌<◌, ◌+◌, ◌++◌, ◌∷◌, [], ◌⊎◌, map, length, true, false, slice_index, slice_range, codes, IfOk, IfSome, IsTrue, OnOk};
+ghost use Rattle.port_compounds.specs.Parts.{IsNotEscaped};
 ghost use Rattle.port_compounds.specs.Places.{AreBlank, AreSpaces, is_blank};
 ghost use Rattle.port_compounds.specs.Cases as specs;
 
 use crate::cut::{CaseBranch, CaseCut};
 use crate::parts::{
-    after_blanks, before_blanks, ends_in_line, ends_in_semicolon, has_dnl, has_hash, is_plain_line,
-    semicolon_start,
+    after_blanks, before_blanks, ends_in_line, ends_in_semicolon, has_dnl, has_hash,
+    is_after_backslash, is_plain_line, semicolon_start,
 };
 use crate::places::{
     after_spaces, are_blank, are_spaces, before_spaces, is_blank, is_statement, is_word,
@@ -17,18 +18,20 @@ use std::alloc::{AllocError, Global};
 // ---- the word
 
 /// Returns whether there are blanks between the first two offsets and between the last two, in
-/// order.
+/// order, and no backslash before the latter.
 fn is_between_blanks(text: &[u8], start: usize, from: usize, to: usize, end: usize) -> bool
     ensures { IsTrue result
         → ((start < from) × (from ≤ to) × (to < end))
         × ((end ≤ length text.now)
-        × (AreBlank text.now start from × AreBlank text.now to end)) }
+        × (AreBlank text.now start from
+        × (IsNotEscaped text.now to × AreBlank text.now to end))) }
 {
     start < from
         && from <= to
         && to < end
         && end <= text.len()
         && are_blank(&text[start..from])
+        && !is_after_backslash(text, to)
         && are_blank(&text[to..end])
 }
 
@@ -123,13 +126,15 @@ fn is_place_of_patterns(text: &[u8], start: usize, from: usize, to: usize, end: 
         → ((start ≤ from) × (from ≤ to) × (to ≤ end))
         × ((end < length text.now)
         × ((AreBlank text.now start from ⊎ specs.IsParenthesis text.now start from)
-        × (AreSpaces text.now to end × (slice_index text.now end ≡ 41)))) }
+        × (IsNotEscaped text.now to
+        × (AreSpaces text.now to end × (slice_index text.now end ≡ 41))))) }
 {
     start <= from
         && from <= to
         && to <= end
         && end < text.len()
         && is_before_patterns(text, start, from)
+        && !is_after_backslash(text, to)
         && are_spaces(&text[to..end])
         && text[end] == b')'
 }
@@ -157,14 +162,6 @@ fn patterns<'a>(
 }
 
 // ---- the body of a branch
-
-/// Returns whether a backslash is right before an offset.
-fn is_after_backslash(text: &[u8], at: usize) -> bool
-    ensures { result ≡ false → slice_index text.now (at - 1) ≡ 92 → ⊥ }
-{
-    let before = at.saturating_sub(1);
-    before < text.len() && text[before] == b'\\'
-}
 
 /// Returns whether spaces are after a body between two offsets, before a third one. The body has
 /// neither a `#` nor `dnl`, and doesn't end in a backslash.

@@ -7,7 +7,7 @@ ghost use Rattle.port_compounds.specs.Places.{BeginsStatement, EndsStatement};
 ghost use Rattle.port_compounds.specs.Guards as specs;
 
 use crate::cut::GuardCut;
-use crate::parts::{after_blanks, is_plain_line};
+use crate::parts::{after_blanks, is_after_backslash, is_plain_line};
 use crate::places::{
     are_blank, are_spaces, before_spaces, begins_statement, ends_statement, is_word,
 };
@@ -101,11 +101,16 @@ fn is_one_command(alloc: Global, text: &[u8]) -> Result<bool, AllocError>
     is_call(alloc, text)
 }
 
-/// Returns whether spaces alone are between two offsets that are after another one.
+/// Returns whether spaces alone are between two offsets that are after another one, and no
+/// backslash is before them.
 fn is_before_joint(text: &[u8], start: usize, to: usize, end: usize) -> bool
     ensures { IsTrue result → specs.IsPlaceBefore text.now start to end }
 {
-    start <= to && to <= end && end <= text.len() && are_spaces(&text[to..end])
+    start <= to
+        && to <= end
+        && end <= text.len()
+        && !is_after_backslash(text, to)
+        && are_spaces(&text[to..end])
 }
 
 /// Returns the condition between two offsets, if there is one.

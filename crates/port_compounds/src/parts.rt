@@ -25,6 +25,14 @@ fn has_newline(text: &[u8]) -> bool
     text.iter().any(|byte| *byte == b'\n')
 }
 
+/// Returns whether a backslash is right before an offset.
+pub(crate) fn is_after_backslash(text: &[u8], at: usize) -> bool
+    ensures { result ≡ false → specs.IsNotEscaped text.now at }
+{
+    let before = at.saturating_sub(1);
+    before < text.len() && text[before] == b'\\'
+}
+
 /// Returns whether an offset between two others is that of a `;` or a newline, with spaces before
 /// it and blanks after it.
 fn is_list_end_at(text: &[u8], start: usize, at: usize, end: usize) -> bool
@@ -33,6 +41,7 @@ fn is_list_end_at(text: &[u8], start: usize, at: usize, end: usize) -> bool
     start <= at
         && at < end
         && end <= text.len()
+        && !is_after_backslash(text, start)
         && are_spaces(&text[start..at])
         && (text[at] == b';' || text[at] == b'\n')
         && are_blank(&text[at + 1..end])
@@ -52,6 +61,7 @@ fn is_semicolon_at(text: &[u8], start: usize, at: usize, end: usize) -> bool
     start <= at
         && at < end
         && end <= text.len()
+        && !is_after_backslash(text, start)
         && are_spaces(&text[start..at])
         && text[at] == b';'
         && are_spaces(&text[at + 1..end])
