@@ -16,7 +16,7 @@ The lines of macros.txt, by how they begin:
   `! `      two numbers and names: for a call of these macros with so many arguments, from the first number to the second, the idiom is
             exact. It leaves the same definitions and output variables, and `acrun port` writes it
   `& `      two numbers, names, a colon and words: for a call of these macros with so many arguments `acrun port --idioms` writes the
-            idiom, below a comment with these words, which say in what it differs from the macro
+            idiom, or nothing for a `drop`, below a comment with these words, which say in what it differs from the macro
   `@ `      what stands around the idiom in the guide, with an `@` in its place; alone: the idiom is not run
   `+ `      a line before the call and before the idiom, where tools/try_macros.py compares both; the guide does not show it
   `$ `      arguments of a run in which that script compares both, in place of one without arguments
@@ -253,7 +253,7 @@ def wrong():
             if any(place[2] not in ("", "!") for place in PLACE.finditer(text)):
                 yield f"{name}: an exact idiom has its arguments as they are"
         for name, least, most, said in entry.other:
-            if name not in entry.names or entry.kind != "idiom" or "$@" in text or entry.words:
+            if name not in entry.names or entry.kind not in ("idiom", "drop") or "$@" in text or entry.words:
                 yield f"{name} has no idiom that can be written with the arguments of a call"
             if any(name == it[0] and it[1] <= most and least <= it[2] for it in entry.exact):
                 yield f"{name}: its idiom is exact, and differs"

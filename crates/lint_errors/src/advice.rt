@@ -6,7 +6,7 @@ ghost use Rattle.lint_errors.specs.Errors as specs;
 use ac_calls::{CallAt, Extent};
 use deftable::Bytes;
 use lint_findings::Finding;
-use lint_macros::{Index, MacroEntry, MacroKind, fill};
+use lint_macros::{Index, MacroEntry, MacroKind, entry_name, fill, takes_list};
 use lint_table::{Page, WordPart, keys};
 use lint_text::part;
 use std::alloc::{AllocError, Global};
@@ -43,10 +43,6 @@ fn with_first<'a>(
     Ok(out)
 }
 
-/// The macros whose idiom is written once for each entry of the first argument. Commas are between
-/// the entries.
-const EACH: [&[u8]; 1] = [b"AC_CHECK_MEMBERS"];
-
 /// For how many entries an idiom is written at most.
 const MOST: usize = 64;
 
@@ -77,7 +73,7 @@ fn filled_each(alloc: Global, idiom: &[u8], args: &[&[u8]]) -> Result<Vec<u8>, A
 
 /// Returns the idiom of an entry with the arguments of a call put in.
 fn filled(alloc: Global, entry: MacroEntry, args: &[&[u8]]) -> Result<Vec<u8>, AllocError> {
-    if EACH.iter().any(|name| *name == entry.name) {
+    if takes_list(entry.name) {
         return filled_each(alloc, entry.text, args);
     }
     let mut out = Vec::new(alloc);
@@ -124,7 +120,8 @@ fn help_of(
     text: &[u8],
     call: &CallAt,
 ) -> Result<Option<Bytes>, AllocError> {
-    match index.entry_of(alloc, part(text, call.start, call.name_end))? {
+    let name = part(text, call.start, call.name_end);
+    match index.entry_of(alloc, entry_name(name, call.args.len()))? {
         None => Ok(None),
         Some(entry) => said(alloc, text, call, entry).map(|help| Some(help)),
     }

@@ -15,7 +15,7 @@
 //!
 //! The texts are in `macros.txt` of this crate, and `tools/macro_table.py` writes `text` from that
 //! file. Read `specs/Entries` and `entry`, then `specs/Index` and `index`, and then `specs/Places`,
-//! `specs/Values` and `filling`. A call that takes an allocator fails only if memory runs out, and
+//! `specs/Values` and `filling`. `members` says which entry is about a check of members. A call that takes an allocator fails only if memory runs out, and
 //! no other call allocates. "own" marks a rule that no manual gives.
 #![tactic(auto)]
 
@@ -23,6 +23,7 @@ mod cut;
 mod entry;
 mod filling;
 mod index;
+mod members;
 mod place;
 mod plain;
 mod text;
@@ -30,5 +31,6 @@ mod text;
 pub use entry::{MacroEntry, MacroKind};
 pub use filling::fill;
 pub use index::Index;
+pub use members::{entry_name, takes_list};
 pub use place::{Form, Hole, HoleSource, hole_of};
 pub use text::TABLE;

@@ -228,6 +228,28 @@ AC_CACHE_CHECK([for $1{TYPE.MEMBER}], [ac_cv_member_$1_{TYPE_MEMBER}],
 #include <unistd.h>],
       [[return sizeof ((($1<{TYPE} *) 0)->$1>{MEMBER}) == 0;]])],
     [ac_cv_member_$1_{TYPE_MEMBER}=yes], [ac_cv_member_$1_{TYPE_MEMBER}=no])])
+AS_IF([test \"$ac_cv_member_$1_{TYPE_MEMBER}\" = yes], [$2{FOUND}], [$3{NOT-FOUND}])~idiom AC_CHECK_MEMBERS(actions)
+dnl includes of the call replace those of AC_LANG_PROGRAM
+AC_CACHE_CHECK([for $1{TYPE.MEMBER}], [ac_cv_member_$1_{TYPE_MEMBER}],
+  [AC_COMPILE_IFELSE([AC_LANG_PROGRAM([AC_INCLUDES_DEFAULT
+#include <sys/stat.h>
+#include <unistd.h>],
+      [[return sizeof ((($1<{TYPE} *) 0)->$1>{MEMBER}) == 0;]])],
+    [ac_cv_member_$1_{TYPE_MEMBER}=yes], [ac_cv_member_$1_{TYPE_MEMBER}=no])])
+AS_IF([test \"$ac_cv_member_$1_{TYPE_MEMBER}\" = yes],
+  [AC_DEFINE([HAVE_$1^{TYPE_MEMBER}], [1], [Define to 1 if there is $1{TYPE.MEMBER}.])
+  $2{FOUND}], [$3{NOT-FOUND}])~idiom AC_CHECK_MEMBERS(includes)
+AC_CACHE_CHECK([for $1{TYPE.MEMBER}], [ac_cv_member_$1_{TYPE_MEMBER}],
+  [AC_COMPILE_IFELSE([AC_LANG_PROGRAM([$4{INCLUDES}],
+      [[return sizeof ((($1<{TYPE} *) 0)->$1>{MEMBER}) == 0;]])],
+    [ac_cv_member_$1_{TYPE_MEMBER}=yes], [ac_cv_member_$1_{TYPE_MEMBER}=no])])
+AS_IF([test \"$ac_cv_member_$1_{TYPE_MEMBER}\" = yes],
+  [AC_DEFINE([HAVE_$1^{TYPE_MEMBER}], [1], [Define to 1 if there is $1{TYPE.MEMBER}.])
+  $2{FOUND}], [$3{NOT-FOUND}])~idiom AC_CHECK_MEMBER(includes)
+AC_CACHE_CHECK([for $1{TYPE.MEMBER}], [ac_cv_member_$1_{TYPE_MEMBER}],
+  [AC_COMPILE_IFELSE([AC_LANG_PROGRAM([$4{INCLUDES}],
+      [[return sizeof ((($1<{TYPE} *) 0)->$1>{MEMBER}) == 0;]])],
+    [ac_cv_member_$1_{TYPE_MEMBER}=yes], [ac_cv_member_$1_{TYPE_MEMBER}=no])])
 AS_IF([test \"$ac_cv_member_$1_{TYPE_MEMBER}\" = yes], [$2{FOUND}], [$3{NOT-FOUND}])~idiom AC_STRUCT_TIMEZONE AC_TIMEZONE
 AC_CACHE_CHECK([for struct tm.tm_zone], [ac_cv_member_struct_tm_tm_zone],
   [AC_COMPILE_IFELSE([AC_LANG_PROGRAM([[#include <time.h>]], [[return sizeof (((struct tm *) 0)->tm_zone) == 0;]])],

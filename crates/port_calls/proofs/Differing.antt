@@ -6,8 +6,9 @@ use Rattle.text_cut.specs.Cuts.{parts, trimmed}
 use Rattle.lint_macros.specs.Values.{unquoted}
 use Rattle.port_idioms.specs.Rows.{Differs}
 use Rattle.ac_calls.specs.Calls.{MacroCall}
-use Rattle.port_calls.specs.Put.{IsNoted, arg_text, below, difference, each_of, is_space, noted, put_for, row_name, takes_list, written_with}
+use Rattle.port_calls.specs.Put.{IsNoted, arg_text, below, difference, each_of, is_space, noted, put_for, row_name, written_with}
 use Rattle.port_calls.specs.Put as specs
+use Rattle.lint_macros.specs.Members.{takes_list}
 
 pub noted_is : (text : List ℕ) (c : MacroCall) (it indent said name front out : List ℕ) (is_list : Bool) (args : List (List ℕ))
     → put_for text c ≡ Some it → list_all is_space indent ≡ true → Differs (row_name text c) (length c.args) said

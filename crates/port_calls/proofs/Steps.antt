@@ -1,13 +1,15 @@
 -- What one step of a pass makes.
-use Rattle.std.proofs.Common.{◌≡◌, ℕ, ◌≤◌, List, ◌++◌, length, Result, Ok, Err, is_ok, OnOk, if◌then◌else◌, slice_range, sym, subst, ap, ◌∙◌, map, get_or, ◌<◌, ◌+◌, [], append-nil, Option, Some, None, arith}
-use Rattle.std.specs.Prelude.{Contains, IfSome, codes}
+use Rattle.std.proofs.Common.{◌≡◌, ℕ, ◌≤◌, List, ◌++◌, length, Result, Ok, Err, is_ok, OnOk, if◌then◌else◌, slice_range, true, ◌∷◌, sym, subst, ap, ◌∙◌, map, get_or, ◌<◌, ◌+◌, [], append-nil, Option, Some, None, arith}
+use Rattle.std.specs.Prelude.{Contains, IfSome, codes, slice_get}
+use Rattle.std.specs.List.{list_all}
 use Rattle.std.proofs.lemmas.List.{get_or-map, length-map}
 use Rattle.std.proofs.lemmas.List.Elements.{Contains-get_or}
 use Rattle.ac_calls.specs.declared.call.CallAt.{CallAt}
+use Rattle.ac_calls.specs.declared.call.Extent.{Extent}
 use Rattle.ac_calls.specs.Calls.{MacroCall, calls_in, macro_call_of}
-use Rattle.port_calls.specs.Rewritten.{IsPass, IsRewritten, HasToGo, IsAround, DeclaresOption, IsOldHelp, JoinsWords}
+use Rattle.port_calls.specs.Rewritten.{IsPass, IsRewritten, HasToGo, IsAround, DeclaresOption, IsOldHelp, JoinsWords, EndsItsLine, AreSpaces, IsBare, in_brackets}
 use Rattle.port_calls.specs.Rewritten as specs
-use Rattle.port_calls.specs.Put.{MayPut}
+use Rattle.port_calls.specs.Put.{MayPut, is_space}
 use Rattle.port_calls.specs.declared.idioms.Idioms.{Idioms}
 
 pub pass_bound : (idioms : Idioms) (text : List ℕ) (at : ℕ) (out : List ℕ) → IsPass idioms text at out → at ≤ length text
@@ -16,6 +18,8 @@ pass_bound idioms text at out (specs.IsPass.copied next before from to) = to
 pass_bound idioms text at out (specs.IsPass.replaced c put end before is goes puts around to) = to
 pass_bound idioms text at out (specs.IsPass.renamed c end before is declares help to) = to
 pass_bound idioms text at out (specs.IsPass.parted c before is joins) = omega (arith, joins.joint.within)
+pass_bound idioms text at out (specs.IsPass.lined c end indent before is ends (from, to, spaces) blank) = to
+pass_bound idioms text at out (specs.IsPass.bracketed c i arg end before is read has bare) = omega (arith, bare.place.1, bare.place.2)
 
 -- What follows from what an `Ok` says holds of the `Ok`.
 pub on_ok : {T E P Q : Type 0} → (P → Q) → (r : Result T E) → OnOk r P → OnOk r Q
@@ -41,6 +45,22 @@ part_step idioms text at out c start new_at new before is joins from (at_is, new
     let copied = specs.IsPass.copied start before from (omega (arith, joins.joint.within)) in
     subst (λ a. IsPass idioms text a new) (sym at_is)
     (subst (IsPass idioms text (start + 1)) (sym (new_is ∙ append-nil (out ++ slice_range text at start))) (specs.IsPass.parted c copied is joins))
+
+pub line_step : (idioms : Idioms) (text : List ℕ) (at : ℕ) (out : List ℕ) (c : MacroCall) (end : ℕ) (indent put : List ℕ) (new_at : ℕ) (new : List ℕ)
+    → IsPass idioms text at out → Contains (calls_in text) c → EndsItsLine text c → at ≤ c.end → AreSpaces text c end → list_all is_space indent ≡ true → put ≡ 10 ∷ indent
+    → (new_at ≡ end) × (new ≡ (out ++ slice_range text at c.end) ++ put) → IsPass idioms text new_at new
+line_step idioms text at out c end indent put new_at new before is ends from (after, to, spaces) blank put_is (at_is, new_is) =
+    let copied = specs.IsPass.copied c.end before from (omega (arith, after, to)) in
+    subst (λ a. IsPass idioms text a new) (sym at_is)
+    (subst (IsPass idioms text end) (sym (new_is ∙ ap (λ p. (out ++ slice_range text at c.end) ++ p) put_is)) (specs.IsPass.lined c end indent copied is ends (after, to, spaces) blank))
+
+pub bracket_step : (idioms : Idioms) (text : List ℕ) (at : ℕ) (out : List ℕ) (c : MacroCall) (i : ℕ) (arg : Extent) (end : ℕ) (put : List ℕ) (new_at : ℕ) (new : List ℕ)
+    → IsPass idioms text at out → Contains (calls_in text) c → c.is_of_profile ≡ true → slice_get c.args i ≡ Some arg → at ≤ arg.start → IsBare text arg end × (arg.start ≤ end) × (end ≤ length text)
+    → put ≡ in_brackets (slice_range text arg.start end) → (new_at ≡ end) × (new ≡ (out ++ slice_range text at arg.start) ++ put) → IsPass idioms text new_at new
+bracket_step idioms text at out c i arg end put new_at new before is read has from (bare, after, to) put_is (at_is, new_is) =
+    let copied = specs.IsPass.copied arg.start before from (omega (arith, after, to)) in
+    subst (λ a. IsPass idioms text a new) (sym at_is)
+    (subst (IsPass idioms text end) (sym (new_is ∙ ap (λ p. (out ++ slice_range text at arg.start) ++ p) put_is)) (specs.IsPass.bracketed c i arg end copied is read has bare))
 
 pub pass_end : {T E : Type 0} (idioms : Idioms) (r : Result T E) (text : List ℕ) (at : ℕ) (out new : List ℕ) → IsPass idioms text at out
     → new ≡ (if is_ok r then out ++ slice_range text at (length text) else out) → OnOk r (IsPass idioms text (length text) new)

@@ -1,8 +1,9 @@
 -- What is put in the place of a call.
-use Rattle.std.specs.Prelude.{◌≡◌, ◌⊎◌, ℕ, ◌==◌, ◌||◌, Bool, true, false, List, [], ◌∷◌, ◌++◌, length, map, slice_get, Option, Some, bytes_eq, codes, if◌then◌else◌}
+use Rattle.std.specs.Prelude.{◌≡◌, ◌⊎◌, ℕ, ◌==◌, ◌||◌, Bool, true, false, List, [], ◌∷◌, ◌++◌, length, map, slice_get, Option, Some, codes, if◌then◌else◌}
 use Rattle.std.specs.List.{flat_map, list_all}
 use Rattle.text_cut.specs.Cuts.{parts}
 use Rattle.lint_macros.specs.Entries.{entry_of}
+use Rattle.lint_macros.specs.Members.{entry_name, takes_list}
 use Rattle.lint_macros.specs.declared.text.TheConstants.{TABLE}
 use Rattle.port_idioms.specs.Filled.{filled, text_of}
 use Rattle.port_idioms.specs.Rows.{put_by, IsExact, Differs}
@@ -16,9 +17,10 @@ use Rattle.lint_text.specs.Parts.{part}
 abbrev pub arg_text : List ℕ → Extent → List ℕ
 arg_text text arg = part text arg.start arg.end
 
--- The name that the table of macros has for a call: that of AC_OUTPUT with arguments says so. (own)
+-- The name that the table of macros has for a call: that of AC_OUTPUT with arguments says so. For another macro it depends on the number of
+-- arguments. (own)
 abbrev pub row_name : List ℕ → MacroCall → List ℕ
-row_name text c = if c.is_of_profile then codes "AC_OUTPUT(files)" else part text c.start c.name_end
+row_name text c = if c.is_of_profile then codes "AC_OUTPUT(files)" else entry_name (part text c.start c.name_end) (length c.args)
 
 -- What the table of macros puts in the place of a call: the text of an idiom, or nothing if the call has no meaning. (own)
 unfoldable pub put_for : List ℕ → MacroCall → Option (List ℕ)
@@ -44,10 +46,6 @@ IsExactFor text c = IsExact (row_name text c) (length c.args)
 
 -- ---- idioms that differ
 
--- The macro takes a list of names with commas between them as its first argument. (own)
-abbrev pub takes_list : List ℕ → Bool
-takes_list name = bytes_eq name (codes "AC_CHECK_MEMBERS")
-
 -- The arguments of the calls with one name each that do together what the call with a list does. (own)
 abbrev pub each_of : List (List ℕ) → List (List (List ℕ))
 each_of [] = []
@@ -71,7 +69,8 @@ unfoldable pub noted : List ℕ → List ℕ → List ℕ → List (List (List �
 noted comment indent it calls = comment ++ flat_map (below indent it) calls
 
 -- What may be put in the place of a call below a comment: the idiom that the table has for it, though it differs from the macro, with
--- the call's own arguments and some blanks as the indent. The comment says in what it differs. (own)
+-- the call's own arguments and some blanks as the indent; it is empty if the table puts nothing there. The comment says in what it
+-- differs. (own)
 pub data IsNoted (text : List ℕ) (c : MacroCall) : List ℕ → Type 0 where
   idiom : (it indent said : List ℕ) → put_for text c ≡ Some it → list_all is_space indent ≡ true → Differs (row_name text c) (length c.args) said
       → IsNoted text c (noted (difference (row_name text c) said) indent it (written_with (takes_list (row_name text c)) (map (arg_text text) c.args)))

@@ -1,9 +1,9 @@
 -- What the calls of a text become. The offsets are those of the text that is read. All of this is own.
-use Rattle.std.specs.Prelude.{◌≡◌, ◌⊎◌, ℕ, ◌+◌, ◌-◌, ◌<◌, ◌≤◌, ◌==◌, ◌||◌, Bool, true, false, List, [], ◌++◌, length, slice_range, slice_index, slice_get, Some, Contains, bytes_eq, codes}
+use Rattle.std.specs.Prelude.{◌≡◌, ◌⊎◌, ℕ, ◌+◌, ◌-◌, ◌<◌, ◌≤◌, ◌==◌, ◌||◌, Bool, true, false, List, [], ◌∷◌, ◌++◌, length, slice_range, slice_index, slice_get, Some, Contains, bytes_eq, codes}
 use Rattle.std.specs.List.{list_all}
 use Rattle.ac_calls.specs.Calls.{MacroCall, calls_in}
 use Rattle.ac_calls.specs.declared.call.Extent.{Extent}
-use Rattle.port_calls.specs.Put.{MayPut}
+use Rattle.port_calls.specs.Put.{MayPut, is_space}
 use Rattle.port_calls.specs.declared.idioms.Idioms.{Idioms}
 
 -- A space, a tab, a carriage return or a newline.
@@ -55,9 +55,44 @@ pub record JoinsWords (text : List ℕ) (c : MacroCall) (at : ℕ) : Type 0 wher
   pub first : slice_get c.args 0 ≡ Some list
   pub joint : IsLineJoint text list at
 
--- One pass over the calls of a text has read so much of it, and written this. Everything is copied, with three exceptions: a call that has
+-- What Autoconf puts in the place of a call of this macro ends in a newline. So a statement that follows the call on its line is on a
+-- line of its own.
+abbrev pub ends_its_line : List ℕ → Bool
+ends_its_line name = bytes_eq name (codes "AC_DEFINE") || bytes_eq name (codes "AC_DEFINE_UNQUOTED")
+
+-- The call is one of such a macro.
+abbrev pub EndsItsLine : List ℕ → MacroCall → Type 0
+EndsItsLine text c = ends_its_line (slice_range text c.start c.name_end) ≡ true
+
+-- From the end of the call up to this offset there are only spaces, tabs and carriage returns.
+abbrev pub AreSpaces : List ℕ → MacroCall → ℕ → Type 0
+AreSpaces text c end = (c.end ≤ end) × (end ≤ length text) × (list_all is_space (slice_range text c.end end) ≡ true)
+
+-- The byte is a bracket.
+abbrev pub is_bracket : ℕ → Bool
+is_bracket b = b == 91 || b == 93
+
+-- The offset is in a call that begins in the argument.
+pub record IsInCall (text : List ℕ) (arg : Extent) (at : ℕ) : Type 0 where
+  pub call : MacroCall
+  pub is_there : Contains (calls_in text) call
+  pub order : (arg.start ≤ call.start) × (call.start ≤ at) × (at < call.end)
+
+-- Up to this offset each bracket of the argument is in a call, and nothing but blanks is after it.
+pub record IsBare (text : List ℕ) (arg : Extent) (end : ℕ) : Type 0 where
+  pub place : (arg.start ≤ end) × (end ≤ arg.end) × (arg.end ≤ length text)
+  pub plain : (at : ℕ) → arg.start ≤ at → at < end → is_bracket (slice_index text at) ≡ true → IsInCall text arg at
+  pub blank : list_all is_blank (slice_range text end arg.end) ≡ true
+
+-- A text in brackets.
+abbrev pub in_brackets : List ℕ → List ℕ
+in_brackets text = 91 ∷ (text ++ 93 ∷ [])
+
+-- One pass over the calls of a text has read so much of it, and written this. Everything is copied, with five exceptions: a call that has
 -- to go, with blanks around it, may be replaced by what may be put in its place; in a call that declares an option the old name of
--- AS_HELP_STRING may become the name; and a backslash that joins two lines of a list of words may go.
+-- AS_HELP_STRING may become the name; a backslash that joins two lines of a list of words may go; after a call that ends its line a newline
+-- and an indent may be put in place of the spaces; and an argument of a macro that
+-- acrun reads, which has no brackets outside the calls in it, may get a pair.
 pub data IsPass (idioms : Idioms) (text : List ℕ) : ℕ → List ℕ → Type 0 where
   begun : IsPass idioms text 0 []
   copied : {at : ℕ} {out : List ℕ} (next : ℕ) → IsPass idioms text at out → at ≤ next → next ≤ length text → IsPass idioms text next (out ++ slice_range text at next)
@@ -66,6 +101,10 @@ pub data IsPass (idioms : Idioms) (text : List ℕ) : ℕ → List ℕ → Type 
   renamed : {at : ℕ} {out : List ℕ} (c : MacroCall) (end : ℕ) → IsPass idioms text at out → Contains (calls_in text) c → DeclaresOption text c → IsOldHelp text c at end → end ≤ length text
       → IsPass idioms text end (out ++ codes "AS_HELP_STRING")
   parted : {at : ℕ} {out : List ℕ} (c : MacroCall) → IsPass idioms text at out → Contains (calls_in text) c → JoinsWords text c at → IsPass idioms text (at + 1) out
+  lined : {out : List ℕ} (c : MacroCall) (end : ℕ) (indent : List ℕ) → IsPass idioms text c.end out → Contains (calls_in text) c → EndsItsLine text c → AreSpaces text c end → list_all is_space indent ≡ true
+      → IsPass idioms text end (out ++ 10 ∷ indent)
+  bracketed : {out : List ℕ} (c : MacroCall) (i : ℕ) (arg : Extent) (end : ℕ) → IsPass idioms text arg.start out → Contains (calls_in text) c → c.is_of_profile ≡ true → slice_get c.args i ≡ Some arg
+      → IsBare text arg end → IsPass idioms text end (out ++ in_brackets (slice_range text arg.start end))
 
 -- The one text becomes the other by passes over its calls, each of which reads what the one before it wrote.
 pub data IsRewritten (idioms : Idioms) : List ℕ → List ℕ → Type 0 where

@@ -38,7 +38,8 @@ pub(crate) fn without_end_blanks(text: &[u8]) -> &[u8] {
     before(text, text.len().saturating_sub(blanks))
 }
 
-fn are_spaces(text: &[u8]) -> bool
+/// Returns whether a text has nothing but spaces, tabs and carriage returns.
+pub(crate) fn are_spaces(text: &[u8]) -> bool
     ensures { result ≡ list_all specs.is_space text.now }
 {
     text.iter().all(|byte| is_space(*byte))
@@ -80,6 +81,36 @@ pub(crate) fn ends_statement(rest: &[u8]) -> bool {
             matches!(*byte, b'\n' | b';' | b'#' | b']' | b')' | b',') || rest.starts_with(b"dnl")
         }
     }
+}
+
+/// Returns whether a `;` is before a place on its line.
+pub(crate) fn is_after_separator(text: &[u8], spot: Spot, at: usize) -> bool {
+    without_end_blanks(part(text, spot.line, at)).ends_with(b";")
+}
+
+/// Returns whether the statement before this text goes on in it: with an operator after spaces.
+pub(crate) fn goes_on(rest: &[u8]) -> bool {
+    let rest = from(rest, space_len(rest));
+    rest.first()
+        .is_some_and(|byte| matches!(*byte, b'&' | b'|' | b'<' | b'>'))
+}
+
+/// Returns whether a line begins with a word and a blank.
+fn begins_with(line: &[u8], word: &[u8]) -> bool {
+    line.starts_with(word) && line.get(word.len()).is_some_and(|byte| is_space(*byte))
+}
+
+/// Returns whether a line of a text begins an `if` or a `case` of a shell, and a line ends one. If
+/// a comment is in the text, nothing is found.
+pub(crate) fn has_compound(text: &[u8]) -> bool {
+    let mut begins = false;
+    let mut ends = false;
+    for line in text.split(|byte| *byte == b'\n') {
+        let line = without_end_blanks(from(line, space_len(line)));
+        begins = begins || begins_with(line, b"if") || begins_with(line, b"case");
+        ends = ends || line.ends_with(b"fi") || line.ends_with(b"esac");
+    }
+    begins && ends && !text.contains(&b'#')
 }
 
 /// Returns the offset of the first byte of the last line.

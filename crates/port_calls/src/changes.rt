@@ -1,6 +1,7 @@
 //! What the calls of a text become.
 
-ghost use Rattle.std.specs.Prelude.{◌≡◌, Some, [], length, map, IfOk, IfSome};
+ghost use Rattle.std.specs.Prelude.{◌≡◌, Some, [], true, length, map, IfOk, IfSome};
+ghost use Rattle.std.specs.List.{list_all};
 ghost use Rattle.ac_calls.specs.Calls.{macro_call_of};
 ghost use Rattle.port_idioms.specs.Exact.{text_of};
 ghost use Rattle.port_idioms.specs.Rows.{Differs};
@@ -14,7 +15,7 @@ use crate::idioms::Idioms;
 use crate::noting::noted_text;
 use crate::spots::Spot;
 use ac_calls::{CallAt, Extent};
-use lint_macros::Index;
+use lint_macros::{Index, entry_name};
 use lint_text::{from, part};
 use port_idioms::{Exact, Other, exact_of, filled, other_of};
 use std::alloc::{AllocError, Global};
@@ -95,7 +96,7 @@ pub(crate) fn name_of<'a>(text: &'a [u8], call: &CallAt) -> &'a [u8]
     if call.is_of_profile {
         b"AC_OUTPUT(files)"
     } else {
-        part(text, call.start, call.name_end)
+        entry_name(part(text, call.start, call.name_end), call.args.len())
     }
 }
 
@@ -313,7 +314,46 @@ fn can_be_noted(known: &Known, call: &CallAt) -> bool {
     known.bare.get(call.start) == Some(&false)
 }
 
-/// Returns the change of a call to a text below a comment.
+/// Returns the change of a call, and of what is after it up to an offset, to an idiom below a
+/// comment, unless an argument can't be put into it.
+fn noted_until(
+    alloc: Global,
+    text: &[u8],
+    indent: &[u8],
+    call: &CallAt,
+    other: &Other,
+    end: usize,
+) -> Result<Option<Change>, AllocError>
+    requires idiom { specs.put_for text.now (macro_call_of call.now) ≡ Some other.now.idiom.now }
+    requires said { Differs (specs.row_name text.now (macro_call_of call.now))
+        (length (macro_call_of call.now).args) other.now.said.now }
+    requires indent { list_all specs.is_space indent.now ≡ true }
+    ensures { IfOk result (λ o.
+        IfSome o (λ change. specs.IsNoted text.now (macro_call_of call.now) change.put.items)) }
+{
+    match noted_text(alloc, text, indent, call, other)? {
+        Some(put) => Ok(Some(Change {
+            start: call.start,
+            end,
+            put,
+        })),
+        None => Ok(None),
+    }
+}
+
+/// Returns the offset of the next line, if nothing is written in place of the call and nothing
+/// follows it on its line.
+fn next_line(text: &[u8], call: &CallAt, other: &Other) -> Option<usize> {
+    let after = call.end.saturating_add(space_len(from(text, call.end)));
+    if other.idiom.is_empty() && text.get(after) == Some(&b'\n') {
+        Some(after.saturating_add(1))
+    } else {
+        None
+    }
+}
+
+/// Returns the change of a call to an idiom below a comment. If the idiom is nothing, the comment
+/// gets the line of the call.
 fn to_noted(
     alloc: Global,
     text: &[u8],
@@ -327,9 +367,9 @@ fn to_noted(
     ensures { IfOk result (λ o.
         IfSome o (λ change. specs.IsNoted text.now (macro_call_of call.now) change.put.items)) }
 {
-    match noted_text(alloc, text, line_indent(text, spot), call, other)? {
-        Some(put) => Ok(Some(change_to(call, put))),
-        None => Ok(None),
+    match next_line(text, call, other) {
+        Some(end) => noted_until(alloc, text, b"", call, other, end),
+        None => noted_until(alloc, text, line_indent(text, spot), call, other, call.end),
     }
 }
 

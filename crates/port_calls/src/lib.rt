@@ -2,8 +2,9 @@
 //!
 //! A call is replaced if its idiom is exact, which means that it leaves the same definitions and
 //! output variables. If all idioms are wanted, it is also replaced by one that differs, below a
-//! comment that says in what. The old name of AS_HELP_STRING is replaced too, and a backslash that
-//! joins two lines of a list of words goes. All else is copied to the byte.
+//! comment that says in what. The old name of AS_HELP_STRING is replaced too, a backslash that joins
+//! two lines of a list of words goes, a statement after AC_DEFINE gets a line of its own, and an
+//! argument with a compound statement of a shell gets brackets. All else is copied to the byte.
 //!
 //! ```text
 //! AC_HAVE_FUNCS(getcwd)        // becomes AC_CHECK_FUNCS([getcwd])

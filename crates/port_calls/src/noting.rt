@@ -1,6 +1,6 @@
 //! Idioms that differ from their macros, each below a comment that says in what.
 
-ghost use Rattle.std.specs.Prelude.{◌≡◌, ◌∷◌, ◌++◌, Some, true, length, map, bytes_eq, codes, IfOk, IfSome, IsTrue, OnOk};
+ghost use Rattle.std.specs.Prelude.{◌≡◌, ◌∷◌, ◌++◌, Some, true, length, map, codes, IfOk, IfSome, IsTrue, OnOk};
 ghost use Rattle.std.specs.List.{flat_map, list_all};
 ghost use Rattle.ac_calls.specs.Calls.{macro_call_of};
 ghost use Rattle.port_idioms.specs.Rows.{Differs};
@@ -8,19 +8,13 @@ ghost use Rattle.port_calls.specs.Put as specs;
 
 use crate::changes::{name_of, texts};
 use ac_calls::CallAt;
+use lint_macros::takes_list;
 use port_idioms::{Other, filled, text_of};
 use std::alloc::{AllocError, Global};
 use text_cut::parts;
 
 /// What the comment above an idiom begins with.
 const FRONT: &[u8] = b"dnl acrun: in place of ";
-
-/// Returns whether the macro takes a list of names as its first argument.
-fn takes_list(name: &[u8]) -> bool
-    ensures { result ≡ specs.takes_list name.now }
-{
-    name == b"AC_CHECK_MEMBERS".as_slice()
-}
 
 /// Returns the comment above the idiom of a macro of this name.
 #[tactic(auto, unfolding(crate::specs::Put::difference))]

@@ -1,12 +1,15 @@
 //! One pass over the calls of a text, each of which is replaced if it has an idiom that is wanted.
 
-ghost use Rattle.std.specs.Prelude.{◌≡◌, ◌⊎◌, ◌≤◌, ◌<◌, ◌+◌, ◌++◌, true, Some, map, length, slice_get, slice_range, codes, Contains, IfOk, IfSome, OnOk, IsTrue};
+ghost use Rattle.std.specs.Prelude.{◌≡◌, ◌⊎◌, ◌≤◌, ◌<◌, ◌+◌, ◌∷◌, ◌++◌, true, Some, map, length, slice_get, slice_index, slice_range, ℕ, codes, Contains, IfOk, IfSome, OnOk, IsTrue};
 ghost use Rattle.std.specs.List.{list_all};
 ghost use Rattle.ac_calls.specs.Calls.{calls_in, macro_call_of};
-ghost use Rattle.port_calls.specs.Put.{MayPut};
+ghost use Rattle.port_calls.specs.Put.{MayPut, is_space};
 ghost use Rattle.port_calls.specs.Rewritten as specs;
 
-use crate::around::blank_len;
+use crate::around::{
+    are_spaces, begins_statement, blank_len, ends_statement, goes_on, has_compound,
+    is_after_separator, line_indent, space_len, without_end_blanks,
+};
 use crate::changes::{Change, Known, change_of, known_of};
 use crate::idioms::Idioms;
 use crate::spots::{Spot, Walk};
@@ -291,6 +294,101 @@ fn put_found(
     }
 }
 
+/// Returns whether what a macro of this name expands to ends in a newline.
+fn is_of_line(name: &[u8]) -> bool
+    ensures { result ≡ specs.ends_its_line name.now }
+{
+    name == b"AC_DEFINE".as_slice() || name == b"AC_DEFINE_UNQUOTED".as_slice()
+}
+
+/// Returns whether what the call expands to ends in a newline.
+fn ends_its_line(text: &[u8], call: &CallAt) -> bool
+    ensures { IsTrue result → specs.EndsItsLine text.now (macro_call_of call.now) }
+{
+    let has_name = call.start <= call.name_end && call.name_end <= text.len();
+    has_name && is_of_line(&text[call.start..call.name_end])
+}
+
+/// Returns whether there are only spaces from the end of the call up to an offset.
+fn are_spaces_after(text: &[u8], call: &CallAt, end: usize) -> bool
+    ensures { IsTrue result → specs.AreSpaces text.now (macro_call_of call.now) end }
+{
+    call.end <= end && end <= text.len() && are_spaces(&text[call.end..end])
+}
+
+/// Returns a newline and an indent.
+fn line_break(alloc: Global, indent: &[u8]) -> Result<Vec<u8>, AllocError>
+    ensures { IfOk result (λ v. v.items ≡ 10 ∷ indent.now) }
+{
+    let mut out = Vec::new(alloc);
+    out.push(b'\n')?;
+    out.extend_from_slice(indent)?;
+    Ok(out)
+}
+
+/// Puts a newline and an indent in place of the spaces from the end of the call up to an offset,
+/// unless it is not after what was read.
+fn put_line(
+    alloc: Global,
+    idioms: Idioms,
+    text: &[u8],
+    call: &CallAt,
+    indent: &[u8],
+    end: usize,
+    pass: &mut Pass,
+) -> Result<(), AllocError>
+    requires call { Contains (calls_in text.now) (macro_call_of call.now) }
+    requires ends { specs.EndsItsLine text.now (macro_call_of call.now) }
+    requires indent { list_all is_space indent.now ≡ true }
+    requires begun { specs.IsPass idioms text.now pass.old.at pass.old.out.items }
+    ensures { OnOk result (specs.IsPass idioms text.now pass.new.at pass.new.out.items) }
+{
+    let _ = idioms;
+    if call.end < pass.at || !are_spaces_after(text, call, end) {
+        return Ok(());
+    }
+    let put = line_break(alloc, indent)?;
+    write_change(text, call.end, end, put.as_slice(), pass)
+}
+
+/// Returns whether a statement may begin at a place, also after a `;`.
+fn may_begin(text: &[u8], spot: Spot, at: usize) -> bool {
+    begins_statement(text, spot, at) || is_after_separator(text, spot, at)
+}
+
+/// Puts what follows a call on a line of its own, if the call ends its line and a statement
+/// follows.
+fn pass_line(
+    alloc: Global,
+    idioms: Idioms,
+    text: &[u8],
+    spot: Spot,
+    call: &CallAt,
+    pass: &mut Pass,
+) -> Result<(), AllocError>
+    requires call { Contains (calls_in text.now) (macro_call_of call.now) }
+    requires begun { specs.IsPass idioms text.now pass.old.at pass.old.out.items }
+    ensures { OnOk result (specs.IsPass idioms text.now pass.new.at pass.new.out.items) }
+{
+    let rest = from(text, call.end);
+    if ends_statement(rest) || goes_on(rest) || !may_begin(text, spot, call.start) {
+        return Ok(());
+    }
+    if !ends_its_line(text, call) {
+        return Ok(());
+    }
+    let end = call.end.saturating_add(space_len(rest));
+    put_line(
+        alloc,
+        idioms,
+        text,
+        call,
+        line_indent(text, spot),
+        end,
+        pass,
+    )
+}
+
 /// Replaces a call if it has to go and has an idiom that is wanted, unless it was in what was
 /// replaced.
 fn pass_whole(
@@ -316,7 +414,7 @@ fn pass_whole(
     if declares_option(text, call) {
         return pass_option(idioms, text, call, pass);
     }
-    Ok(())
+    pass_line(alloc, idioms, text, spot, call, pass)
 }
 
 /// Drops a backslash that joins two lines of a list, which is at an offset, unless it is not after
@@ -400,22 +498,209 @@ fn pass_words(idioms: Idioms, text: &[u8], call: &CallAt, pass: &mut Pass) -> Re
     }
 }
 
-/// Drops backslashes of a list of words, or otherwise replaces the call if it has to go.
+/// Returns an argument of the call.
+fn argument_at(call: &CallAt, index: usize) -> Option<Extent>
+    ensures { result ≡ slice_get (macro_call_of call.now).args index }
+{
+    call.args.get(index).copied()
+}
+
+fn is_bracket(byte: u8) -> bool
+    ensures { result ≡ specs.is_bracket byte }
+{
+    byte == b'[' || byte == b']'
+}
+
+/// Returns whether an offset is in one of the calls from the one at an index on, if it begins in
+/// the argument. They are in order of their offsets.
+fn is_in_call(text: &[u8], calls: &[CallAt], first: usize, arg: Extent, at: usize) -> bool
+    requires calls { map macro_call_of calls.now ≡ calls_in text.now }
+    ensures { IsTrue result → specs.IsInCall text.now arg at }
+{
+    let _ = text;
+    for i in first..calls.len() {
+        let call = &calls[i];
+        if at < call.start {
+            return false;
+        }
+        if arg.start <= call.start && at < call.end {
+            return true;
+        }
+    }
+    false
+}
+
+/// Returns whether the byte at an offset is no bracket, or is in a call that begins in the
+/// argument.
+fn is_plain_at(text: &[u8], calls: &[CallAt], first: usize, arg: Extent, at: usize) -> bool
+    requires calls { map macro_call_of calls.now ≡ calls_in text.now }
+    ensures { IsTrue result
+        → specs.is_bracket (slice_index text.now at) ≡ true
+        → specs.IsInCall text.now arg at }
+{
+    at < text.len() && (!is_bracket(text[at]) || is_in_call(text, calls, first, arg, at))
+}
+
+/// Returns whether each bracket of an argument up to an offset is in a call.
+fn is_plain(text: &[u8], calls: &[CallAt], first: usize, arg: Extent, end: usize) -> bool
+    requires calls { map macro_call_of calls.now ≡ calls_in text.now }
+    ensures { IsTrue result
+        → (at : ℕ) → arg.start ≤ at → at < end → specs.is_bracket (slice_index text.now at) ≡ true
+        → specs.IsInCall text.now arg at }
+{
+    for at in arg.start..end {
+        if !is_plain_at(text, calls, first, arg, at) {
+            return false;
+        }
+    }
+    true
+}
+
+/// Returns whether each bracket of an argument up to an offset is in a call, and nothing but blanks
+/// is after it.
+fn is_bare(text: &[u8], calls: &[CallAt], first: usize, arg: Extent, end: usize) -> bool
+    requires calls { map macro_call_of calls.now ≡ calls_in text.now }
+    ensures { IsTrue result
+        → specs.IsBare text.now arg end × (arg.start ≤ end) × (end ≤ length text.now) }
+{
+    let is_there = arg.start <= end && end <= arg.end && arg.end <= text.len();
+    is_there && is_plain(text, calls, first, arg, end) && are_blank(&text[end..arg.end])
+}
+
+/// Returns the text between two offsets in brackets.
+fn in_brackets(alloc: Global, text: &[u8], start: usize, end: usize) -> Result<Vec<u8>, AllocError>
+    requires { (start ≤ end) × (end ≤ length text.now) }
+    ensures { IfOk result (λ v. v.items ≡ specs.in_brackets (slice_range text.now start end)) }
+{
+    let mut out = Vec::new(alloc);
+    out.push(b'[')?;
+    out.extend_from_slice(&text[start..end])?;
+    out.push(b']')?;
+    Ok(out)
+}
+
+/// Writes the argument at an index, up to an offset, in brackets, unless it has some outside its
+/// calls, or is not after what was read.
+fn put_brackets(
+    alloc: Global,
+    idioms: Idioms,
+    text: &[u8],
+    calls: &[CallAt],
+    first: usize,
+    call: &CallAt,
+    index: usize,
+    arg: Extent,
+    end: usize,
+    pass: &mut Pass,
+) -> Result<(), AllocError>
+    requires calls { map macro_call_of calls.now ≡ calls_in text.now }
+    requires call { Contains (calls_in text.now) (macro_call_of call.now) }
+    requires read { (macro_call_of call.now).is_of_profile ≡ true }
+    requires arg { slice_get (macro_call_of call.now).args index ≡ Some arg }
+    requires begun { specs.IsPass idioms text.now pass.old.at pass.old.out.items }
+    ensures { OnOk result (specs.IsPass idioms text.now pass.new.at pass.new.out.items) }
+{
+    let _ = idioms;
+    let _ = call;
+    let _ = index;
+    if arg.start < pass.at || !is_bare(text, calls, first, arg, end) {
+        return Ok(());
+    }
+    let put = in_brackets(alloc, text, arg.start, end)?;
+    write_change(text, arg.start, end, put.as_slice(), pass)
+}
+
+/// The length of the longest argument that gets brackets. Each bracket in it is looked for in the
+/// calls of the argument.
+const LONGEST: usize = 2000;
+
+/// Returns the offset after the last byte of an argument that is no blank, if it is no longer than
+/// `LONGEST`, and one of its lines begins a compound statement of a shell.
+fn compound_end(text: &[u8], arg: Extent) -> Option<usize> {
+    let written = without_end_blanks(part(text, arg.start, arg.end));
+    if written.len() <= LONGEST && has_compound(written) {
+        Some(arg.start.saturating_add(written.len()))
+    } else {
+        None
+    }
+}
+
+/// Writes the argument of a call at an index in brackets, if it has none and a compound statement
+/// of a shell is in it: a call that takes the place of that has commas, at which m4 would cut the
+/// argument.
+fn pass_argument(
+    alloc: Global,
+    idioms: Idioms,
+    text: &[u8],
+    calls: &[CallAt],
+    first: usize,
+    call: &CallAt,
+    index: usize,
+    pass: &mut Pass,
+) -> Result<(), AllocError>
+    requires calls { map macro_call_of calls.now ≡ calls_in text.now }
+    requires call { Contains (calls_in text.now) (macro_call_of call.now) }
+    requires read { (macro_call_of call.now).is_of_profile ≡ true }
+    requires begun { specs.IsPass idioms text.now pass.old.at pass.old.out.items }
+    ensures { OnOk result (specs.IsPass idioms text.now pass.new.at pass.new.out.items) }
+{
+    let Some(arg) = argument_at(call, index) else {
+        return Ok(());
+    };
+    match compound_end(text, arg) {
+        Some(end) => put_brackets(
+            alloc, idioms, text, calls, first, call, index, arg, end, pass,
+        ),
+        None => Ok(()),
+    }
+}
+
+/// Writes each argument of a call in brackets that has none, if acrun reads the macro and a compound
+/// statement of a shell is in the argument. The first one is no list of statements.
+fn pass_arguments(
+    alloc: Global,
+    idioms: Idioms,
+    text: &[u8],
+    calls: &[CallAt],
+    first: usize,
+    call: &CallAt,
+    pass: &mut Pass,
+) -> Result<(), AllocError>
+    requires calls { map macro_call_of calls.now ≡ calls_in text.now }
+    requires call { Contains (calls_in text.now) (macro_call_of call.now) }
+    requires begun { specs.IsPass idioms text.now pass.old.at pass.old.out.items }
+    ensures { OnOk result (specs.IsPass idioms text.now pass.new.at pass.new.out.items) }
+{
+    if !call.is_of_profile {
+        return Ok(());
+    }
+    for index in 1..call.args.len() {
+        pass_argument(alloc, idioms, text, calls, first, call, index, pass)?;
+    }
+    Ok(())
+}
+
+/// Drops backslashes of a list of words, puts arguments in brackets, or otherwise replaces the call
+/// if it has to go.
 fn pass_call(
     alloc: Global,
     idioms: Idioms,
     known: &Known,
     text: &[u8],
+    calls: &[CallAt],
+    first: usize,
     spot: Spot,
     call: &CallAt,
     pass: &mut Pass,
 ) -> Result<(), AllocError>
+    requires calls { map macro_call_of calls.now ≡ calls_in text.now }
     requires call { Contains (calls_in text.now) (macro_call_of call.now) }
     requires begun { specs.IsPass idioms text.now pass.old.at pass.old.out.items }
     ensures { OnOk result (specs.IsPass idioms text.now pass.new.at pass.new.out.items) }
 {
     pass_words(idioms, text, call, pass)?;
-    pass_whole(alloc, idioms, known, text, spot, call, pass)
+    pass_whole(alloc, idioms, known, text, spot, call, pass)?;
+    pass_arguments(alloc, idioms, text, calls, first, call, pass)
 }
 
 /// Goes over the calls of a text.
@@ -434,7 +719,7 @@ fn pass_calls(
     let mut walk = Walk::new();
     for i in 0..calls.len() {
         let spot = walk.spot_of(text, &calls[i]);
-        pass_call(alloc, idioms, known, text, spot, &calls[i], pass)?;
+        pass_call(alloc, idioms, known, text, calls, i, spot, &calls[i], pass)?;
     }
     Ok(())
 }

@@ -69,19 +69,23 @@ pub fn exact_of(
 /// An idiom that differs from its macro.
 #[derive(Clone, Copy)]
 pub struct Other {
+    /// The text of the idiom, or nothing if the call can be left out.
     pub idiom: &'static [u8],
     /// In what it differs: a line of words that begins with a blank.
     pub said: &'static [u8],
 }
 
-/// Returns the idiom of an entry, if it is one, with what is said of it.
+/// Returns the idiom of an entry with what is said of it. It is nothing if the call has no meaning.
 fn other_by(entry: Option<MacroEntry>, words: &'static [u8]) -> Option<Other>
     ensures idiom { IfSome result (λ other. put_by (option_map said entry) ≡ Some other.idiom.now) }
     ensures words { IfSome result (λ other. other.said.now ≡ words.now) }
 {
-    match exact_by(entry) {
-        Some(Exact::Idiom(idiom)) => Some(Other { idiom, said: words }),
-        _ => None,
+    match exact_by(entry)? {
+        Exact::Idiom(idiom) => Some(Other { idiom, said: words }),
+        Exact::Nothing => Some(Other {
+            idiom: b"",
+            said: words,
+        }),
     }
 }
 

@@ -83,7 +83,8 @@ AC_VERBOSE 1 1
 AC_VPRINTF 0 0
 AC_WARN 1 1
 AS_MESSAGE 1 1
-AS_VAR_COPY 2 2";
+AS_VAR_COPY 2 2
+m4_pattern_allow 1 1";
 
 /// Returns the rows of these macros, with a newline between them.
 pub(crate) fn exact() -> &'static [u8]
@@ -103,32 +104,53 @@ AC_CANONICAL_BUILD 0 0 the system is not detected, so the user gives build and i
 AC_CANONICAL_HOST 0 0 the system is not detected, so the user gives host and its parts, as NAME=VALUE
 AC_CANONICAL_SYSTEM 0 0 no system is detected, so the user gives host, target and their parts, as NAME=VALUE
 AC_CANONICAL_TARGET 0 0 no system is detected, so the user gives host, target and their parts, as NAME=VALUE
+AC_CHAR_UNSIGNED 0 0 the compiler defines __CHAR_UNSIGNED__ itself
 AC_CHECK_ALIGNOF 1 1 the program includes the default headers of acrun, and an alignment other than 1, 2, 4, 8 and 16 is 0
 AC_CHECK_HEADER_STDBOOL 0 0 HAVE_STDBOOL_H is defined if the header is there
 AC_CHECK_MEMBER 1 3 the program includes the default headers of acrun, sys/stat.h and unistd.h, and a bit-field counts as missing
+AC_CHECK_MEMBER(includes) 4 4 a bit-field counts as missing
 AC_CHECK_MEMBERS 1 1 the program includes the default headers of acrun, sys/stat.h and unistd.h, and a bit-field counts as missing
+AC_CHECK_MEMBERS(actions) 2 3 the program includes the default headers of acrun, sys/stat.h and unistd.h, and a bit-field counts as missing
+AC_CHECK_MEMBERS(includes) 4 4 a bit-field counts as missing
 AC_CHECK_SIZEOF 1 2 the program includes the default headers of acrun, and a size other than 1, 2, 4, 8 and 16 is 0
 AC_CHECK_TARGET_TOOL 2 3 no program whose name begins with that of the host is looked for
 AC_CHECK_TARGET_TOOLS 2 3 no program whose name begins with that of the host is looked for
 AC_CHECK_TOOLS 2 3 no program whose name begins with that of the host is looked for
+AC_CONFIG_LIBOBJ_DIR 1 1 the Makefile has to say where the sources of the objects are
+AC_COPYRIGHT 1 1 no program prints the notice
 AC_CYGWIN 0 0 a program is compiled, and the name of the host is not looked at
+AC_C_BACKSLASH_A 0 0 nothing is defined, and the compiler is taken to have it
 AC_C_BIGENDIAN 0 0 the macros of the compiler for the order of bytes decide, and no program is run
+AC_C_CHAR_UNSIGNED 0 0 the compiler defines __CHAR_UNSIGNED__ itself
+AC_C_FLEXIBLE_ARRAY_MEMBER 0 0 nothing is defined, and the compiler is taken to have it
+AC_C_LONG_DOUBLE 0 0 nothing is defined, and the compiler is taken to have it
+AC_C_RESTRICT 0 0 nothing is defined, and the compiler is taken to have it
+AC_C_STRINGIZE 0 0 nothing is defined, and the compiler is taken to have it
+AC_C_TYPEOF 0 0 nothing is defined, and the compiler is taken to have it
+AC_C_VARARRAYS 0 0 nothing is defined, and the compiler is taken to have it
 AC_DIRENT 0 0 no other header and no library of directories is looked for
 AC_DIR_HEADER 0 0 no other header and no library of directories is looked for
 AC_FUNC_ALLOCA 0 0 the function is taken to be there, and ALLOCA is empty
+AC_FUNC_CALLOC 0 0 the function is taken to work
 AC_FUNC_CHOWN 0 0 no program is run, so a function that is there counts as one that works
+AC_FUNC_CLOSEDIR_VOID 0 0 the function is taken to work
 AC_FUNC_ERROR_AT_LINE 0 0 the object is in EXTRA_OBJS and not in LIBOBJS
 AC_FUNC_FORK 0 0 no program is run, so a function that is there counts as one that works
 AC_FUNC_FSEEKO 0 0 _LARGEFILE_SOURCE is not defined
 AC_FUNC_GETPGRP 0 0 GETPGRP_VOID is defined without a check
+AC_FUNC_LSTAT 0 0 the function is taken to work
 AC_FUNC_LSTAT_FOLLOWS_SLASHED_SYMLINK 0 0 the name is defined without a check
 AC_FUNC_MALLOC 0 0 HAVE_MALLOC is 1 without a check
+AC_FUNC_MEMCMP 0 0 the function is taken to work
+AC_FUNC_MKTIME 0 0 the function is taken to work
 AC_FUNC_MMAP 0 0 no program is run, so a function that is there counts as one that works
 AC_FUNC_REALLOC 0 0 HAVE_REALLOC is 1 without a check
 AC_FUNC_SELECT_ARGTYPES 0 0 the types are those of POSIX, without a check
 AC_FUNC_SETPGRP 0 0 SETPGRP_VOID is defined without a check
+AC_FUNC_STAT 0 0 the function is taken to work
 AC_FUNC_STRCOLL 0 0 no program is run, so a function that is there counts as one that works
 AC_FUNC_STRNLEN 0 0 no program is run, and the object is in EXTRA_OBJS and not in LIBOBJS
+AC_FUNC_STRTOD 0 0 the function is taken to work
 AC_FUNC_UTIME_NULL 0 0 HAVE_UTIME_NULL is defined without a check
 AC_FUNC_VFORK 0 0 no program is run, so a function that is there counts as one that works
 AC_GETGROUPS_T 0 0 GETGROUPS_T is gid_t without a check
@@ -139,7 +161,12 @@ AC_HEADER_STDC 0 0 STDC_HEADERS is defined without a check
 AC_HEADER_SYS_WAIT 0 0 the header counts as that of POSIX if it is there
 AC_HEADER_TIME 0 0 TIME_WITH_SYS_TIME is defined without a check
 AC_HEADER_TIOCGWINSZ 0 0 a program is compiled, and no text is searched for
+AC_LANG_C 0 0 C is the only language
+AC_LANG_RESTORE 0 0 C is the only language
+AC_LANG_SAVE 0 0 C is the only language
 AC_LIBOBJ 1 1 the object is in EXTRA_OBJS and not in LIBOBJS
+AC_LIBSOURCE 1 1 the Makefile has to say where the sources of the objects are
+AC_LIBSOURCES 1 1 the Makefile has to say where the sources of the objects are
 AC_LONG_FILE_NAMES 0 0 HAVE_LONG_FILE_NAMES is defined without a check
 AC_MINGW32 0 0 a program is compiled, and the name of the host is not looked at
 AC_MMAP 0 0 no program is run, so a function that is there counts as one that works
@@ -147,8 +174,11 @@ AC_PATH_X 0 0 nothing is looked for, so the user gives X_CFLAGS and X_LIBS
 AC_PATH_XTRA 0 0 nothing is looked for, so the user gives X_CFLAGS and X_LIBS
 AC_PROG_EGREP 0 0 no program is looked for
 AC_PROG_FGREP 0 0 no program is looked for
+AC_PROG_GCC_TRADITIONAL 0 0 no flag is added
 AC_PROG_LEX 0 0 no scanner is made, so yytext is taken to be a pointer
+AC_PROG_MAKE_SET 0 0 each make sets MAKE, so @SET_MAKE@ has to go from the templates
 AC_REPLACE_FUNCS 1 1 the object is in EXTRA_OBJS and not in LIBOBJS
+AC_SET_MAKE 0 0 each make sets MAKE, so @SET_MAKE@ has to go from the templates
 AC_SIZEOF_TYPE 1 1 the program includes the default headers of acrun, and a size other than 1, 2, 4, 8 and 16 is 0
 AC_STDC_HEADERS 0 0 STDC_HEADERS is defined without a check
 AC_STRCOLL 0 0 no program is run, so a function that is there counts as one that works
@@ -157,25 +187,55 @@ AC_SYS_LONG_FILE_NAMES 0 0 HAVE_LONG_FILE_NAMES is defined without a check
 AC_SYS_POSIX_TERMIOS 0 0 the program includes termios.h alone
 AC_TIME_WITH_SYS_TIME 0 0 TIME_WITH_SYS_TIME is defined without a check
 AC_TYPE_GETGROUPS 0 0 GETGROUPS_T is gid_t without a check
+AC_TYPE_INT16_T 0 0 nothing is defined, and the sources take the type from stdint.h
+AC_TYPE_INT32_T 0 0 nothing is defined, and the sources take the type from stdint.h
+AC_TYPE_INT64_T 0 0 nothing is defined, and the sources take the type from stdint.h
+AC_TYPE_INT8_T 0 0 nothing is defined, and the sources take the type from stdint.h
+AC_TYPE_INTMAX_T 0 0 nothing is defined, and the sources take the type from stdint.h
+AC_TYPE_INTPTR_T 0 0 nothing is defined, and the sources take the type from stdint.h
+AC_TYPE_LONG_DOUBLE 0 0 nothing is defined, and the compiler is taken to have it
+AC_TYPE_LONG_LONG_INT 0 0 nothing is defined, and the compiler is taken to have it
+AC_TYPE_MBSTATE_T 0 0 nothing is defined, and the compiler is taken to have it
 AC_TYPE_UID_T 0 0 gid_t is taken to be there
+AC_TYPE_UINT16_T 0 0 nothing is defined, and the sources take the type from stdint.h
+AC_TYPE_UINT32_T 0 0 nothing is defined, and the sources take the type from stdint.h
+AC_TYPE_UINT64_T 0 0 nothing is defined, and the sources take the type from stdint.h
+AC_TYPE_UINT8_T 0 0 nothing is defined, and the sources take the type from stdint.h
+AC_TYPE_UINTMAX_T 0 0 nothing is defined, and the sources take the type from stdint.h
+AC_TYPE_UINTPTR_T 0 0 nothing is defined, and the sources take the type from stdint.h
+AC_TYPE_UNSIGNED_LONG_LONG_INT 0 0 nothing is defined, and the compiler is taken to have it
 AC_UID_T 0 0 gid_t is taken to be there
 AC_USE_SYSTEM_EXTENSIONS 0 0 only _GNU_SOURCE and __EXTENSIONS__ are defined, and config.h.in needs a line for each
 AC_UTIME_NULL 0 0 HAVE_UTIME_NULL is defined without a check
 AC_VFORK 0 0 no program is run, so a function that is there counts as one that works
 AC_WORDS_BIGENDIAN 0 0 the macros of the compiler for the order of bytes decide, and no program is run
+AH_BOTTOM 1 1 the template of the header has to have its text
+AH_TEMPLATE 2 2 the template of the header has to have its line
+AH_TOP 1 1 the template of the header has to have its text
+AH_VERBATIM 2 2 the template of the header has to have its text
 AM_CONDITIONAL 2 2 there is no Automake, so each line of Makefile.in that depends on it begins with @NAME_TRUE@ or @NAME_FALSE@
 AM_CONFIG_HEADER 1 1 no stamp file is made
 AM_GNU_GETTEXT 0 1 a library that has gettext is added to LIBS, and a rule of the Makefile makes the catalogues
+AM_GNU_GETTEXT_REQUIRE_VERSION 1 1 a rule of the Makefile makes the catalogues
+AM_GNU_GETTEXT_VERSION 1 1 a rule of the Makefile makes the catalogues
 AM_ICONV 0 0 a library that has iconv is added to LIBS, LIBICONV is empty, and ICONV_CONST is not defined
 AM_LANGINFO_CODESET 0 0 the function is looked for, and CODESET is taken to be there
+AM_NLS 0 0 a rule of the Makefile makes the catalogues
 AM_PATH_PYTHON 0 0 PYTHON is the only variable that is set
+AM_PO_SUBDIRS 0 0 a rule of the Makefile makes the catalogues
 AM_PROG_AR 0 0 no program whose name begins with that of the host is looked for, and ar is not tried
+AM_PROG_CC_C_O 0 0 the compiler is taken to allow -c with -o
+AM_PROG_CC_STDC 0 0 no flag is added
 AM_PROG_LEX 0 0 no scanner is made, so yytext is taken to be a pointer
+AM_XGETTEXT_OPTION 1 1 a rule of the Makefile makes the catalogues
 AS_EXIT 1 1 a message is printed
 AS_UNSET 1 1 the variable is empty and not unset
 AS_VAR_SET_IF 1 3 a variable that is set to nothing counts as one that is not set
 AX_PTHREAD 0 0 the library is added to LIBS, and PTHREAD_CFLAGS is -pthread without a check
-gl_USE_SYSTEM_EXTENSIONS 0 0 only _GNU_SOURCE and __EXTENSIONS__ are defined, and config.h.in needs a line for each";
+PKG_PROG_PKG_CONFIG 0 1 no pkg-config is run, so the user gives what it prints
+gl_PROG_CC_C99 0 0 no flag is added
+gl_USE_SYSTEM_EXTENSIONS 0 0 only _GNU_SOURCE and __EXTENSIONS__ are defined, and config.h.in needs a line for each
+m4_pattern_forbid 1 1 no word is forbidden";
 
 /// Returns the rows of these macros, with a newline between them.
 pub(crate) fn differing() -> &'static [u8]

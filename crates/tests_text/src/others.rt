@@ -1,12 +1,13 @@
 //! lint_macros: what is said of other macros.
 
-use lint_macros::{Index, MacroEntry, MacroKind, fill};
+use lint_macros::{Index, MacroEntry, MacroKind, entry_name, fill, takes_list};
 use std::alloc::{AllocError, Global};
 use std::test::Fail;
-use test_rows::{Page, RowCall, cut, try_rows};
+use test_rows::{Page, RowCall, cut, number_of, try_rows};
 
 /// `said` and a name; `fill`, a text, and after a `%` each an argument; or `made`, a name, and the
-/// same, for the text of its entry.
+/// same, for the text of its entry. `entry`, a name and a number of arguments: the name of the
+/// entry, and whether it takes a list.
 const ENTRIES: &[u8] = b"
 said AC_CHECK_HEADERS_ONCE => idiom AC_CHECK_HEADERS_ONCE [AC_CHECK_HEADERS([$1{HEADERS}])]
 said AC_FUNC_VPRINTF => idiom AC_FUNC_VPRINTF [AC_CHECK_FUNCS([vprintf])]
@@ -37,6 +38,13 @@ fill X($@{ALL})%[a]%b c => [X([a], [b c])]
 fill X($@{ALL})%[a]%$b => [X(ALL)]
 fill $CC \"$CC -E\" ${INSTALL}%x => [$CC \"$CC -E\" ${INSTALL}]
 fill  => []
+
+entry AC_CHECK_MEMBERS 1 => AC_CHECK_MEMBERS yes
+entry AC_CHECK_MEMBERS 2 => AC_CHECK_MEMBERS(actions) yes
+entry AC_CHECK_MEMBERS 4 => AC_CHECK_MEMBERS(includes) yes
+entry AC_CHECK_MEMBER 3 => AC_CHECK_MEMBER no
+entry AC_CHECK_MEMBER 4 => AC_CHECK_MEMBER(includes) no
+entry AC_CHECK_SIZEOF 4 => AC_CHECK_SIZEOF no
 ";
 
 fn name_of(kind: MacroKind) -> &'static [u8] {
@@ -93,6 +101,14 @@ fn put_call(page: &mut Page, is_named: bool, given: &[u8]) {
     }
 }
 
+fn put_entry_name(page: &mut Page, given: &[u8]) {
+    let (name, count) = cut(given, b" ");
+    let entry = entry_name(name, number_of(count));
+    page.put(entry);
+    page.put(b" ");
+    page.put_yes(takes_list(entry));
+}
+
 struct Macrotable;
 
 impl RowCall for Macrotable {
@@ -101,6 +117,7 @@ impl RowCall for Macrotable {
         match call.first() {
             Some(b's') => put_said(page, text),
             Some(b'm') => put_call(page, true, text),
+            Some(b'e') => put_entry_name(page, text),
             _ => put_call(page, false, text),
         }
     }

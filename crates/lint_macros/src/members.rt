@@ -1,0 +1,37 @@
+//! Which entry of the table is about a call that checks members of a type.
+
+ghost use Rattle.std.specs.Prelude.{◌≡◌, bytes_eq};
+ghost use Rattle.lint_macros.specs.Members as words;
+
+fn is(name: &[u8], word: &[u8]) -> bool
+    ensures { result ≡ bytes_eq name.now word.now }
+{
+    name == word
+}
+
+/// Returns the name of the entry for a call of a macro of this name with so many arguments. It is
+/// the name itself, but a check of members with actions or with includes has an entry of its own
+/// (own).
+pub fn entry_name(name: &[u8], count: usize) -> &[u8]
+    ensures { result.now ≡ words.entry_name name.now count }
+{
+    if is(name, b"AC_CHECK_MEMBERS") && 3 < count {
+        b"AC_CHECK_MEMBERS(includes)"
+    } else if is(name, b"AC_CHECK_MEMBERS") && 1 < count {
+        b"AC_CHECK_MEMBERS(actions)"
+    } else if is(name, b"AC_CHECK_MEMBER") && 3 < count {
+        b"AC_CHECK_MEMBER(includes)"
+    } else {
+        name
+    }
+}
+
+/// Returns whether the idiom of an entry is written once for each name of a list, which is the
+/// first argument, with commas between the names (own).
+pub fn takes_list(name: &[u8]) -> bool
+    ensures { result ≡ words.takes_list name.now }
+{
+    is(name, b"AC_CHECK_MEMBERS")
+        || is(name, b"AC_CHECK_MEMBERS(actions)")
+        || is(name, b"AC_CHECK_MEMBERS(includes)")
+}
