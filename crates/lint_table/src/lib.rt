@@ -6,7 +6,7 @@
 //!
 //! ```text
 //! let mut page = Page::new(alloc);
-//! page.put(keys::NO_TEST, &[Part::Quoted(b"grep x")]);     // `grep x` is no test that is read
+//! page.put(keys::NO_TEST, &[WordPart::Quoted(b"grep x")]); // `grep x` is no test that is read
 //! ```
 //!
 //! What `put` adds is proved: the words, with their places filled, or the page says that memory ran

@@ -6,7 +6,7 @@
 //! ```text
 //! first_name(b"AC_INIT([a])")                          // AC_INIT
 //! after_blanks(b"  x=1")                               // x=1
-//! place_of(b"AC_INIT([a])\nAC_PROG_CC\n", 15)          // line 2, column 3
+//! position_of(b"AC_INIT([a])\nAC_PROG_CC\n", 15)       // line 2, column 3
 //! ```
 //!
 //! Read `specs/Places.antt` and then `places` (lines and columns), and `pieces` (names, words,

@@ -7,7 +7,7 @@
 //!
 //! ```
 //! let text = b"AC_INIT([demo], [1.0])\nAC_PROG_CC\n";
-//! let place = lint_text::place_of(text, 26); // line 2, column 4
+//! let place = lint_text::position_of(text, 26); // line 2, column 4
 //! let line = lint_text::line_at(text, 26); // AC_PROG_CC
 //! ```
 //!
