@@ -74,8 +74,8 @@ a line of its own, an argument with an `if` or a `case` gets brackets, AC_HELP_S
 of lines of lists. All else is copied. What has to be done by hand has a line `dnl acrun: ..` above it, with what `acrun lint` says
 there. FILE itself is not written.
 
-  --idioms   write texts too that differ from the macro, with the call's arguments in them, each below a line
-             `dnl acrun: in place of MACRO: ..` that says in what; such a line is not counted as left to do
+  --idioms   write texts too that differ from the macro, with the call's arguments in them, and AC_MSG_RESULT in place of `echo`, each
+             below a line `dnl acrun: in place of MACRO: ..` that says in what; such a line is not counted as left to do
 
 Exit status: 0 nothing is left to do; 1 there are such lines; 2 a file can't be read, its quotes have an error, or the words are wrong.
 ";

@@ -4,7 +4,9 @@ use Rattle.std.specs.List.{flat_map, starts_with}
 use Rattle.lint_errors.specs.Errors.{IsAccepted}
 use Rattle.port_calls.specs.Rewritten.{IsRewritten}
 use Rattle.port_calls.specs.declared.idioms.Idioms.{Idioms}
+use Rattle.port_calls.specs.declared.idioms.Idioms.TheVariants.{Exact, All}
 use Rattle.port_shell.specs.Formed.{IsFormed}
+use Rattle.port_shell.specs.Told.{IsTold}
 use Rattle.text_cut.specs.Cuts.{parts}
 
 -- ---- comments
@@ -50,11 +52,18 @@ abbrev pub IsPrinted : List ℕ → Bool → List ℕ → Type 0
 IsPrinted text false out = (out ≡ text) × IsAccepted text
 IsPrinted text true out = IsCommented text (length text) out × (IsAccepted text → ⊥) × HasLeft out
 
--- The calls of the text are rewritten, by the idioms that are wanted, and then its statements of a shell.
+-- If all idioms are wanted, what `echo` prints becomes a message. Otherwise the text stays.
+abbrev pub IsToldBy : Idioms → List ℕ → List ℕ → Type 0
+IsToldBy Exact text out = out ≡ text
+IsToldBy All text out = IsTold text out
+
+-- The calls of the text are rewritten, by the idioms that are wanted, then its statements of a shell, and then what `echo` prints.
 pub record IsTurn (idioms : Idioms) (text out : List ℕ) : Type 0 where
   pub mid : List ℕ
   pub calls : IsRewritten idioms text mid
-  pub statements : IsFormed mid out
+  pub formed : List ℕ
+  pub statements : IsFormed mid formed
+  pub messages : IsToldBy idioms formed out
 
 -- The same as often as there is something to rewrite.
 pub data IsMoved (idioms : Idioms) : List ℕ → List ℕ → Type 0 where

@@ -5,20 +5,32 @@ ghost use Rattle.std.specs.Prelude.{IfOk, IfSome};
 ghost use Rattle.cmd_port.specs.Ported as specs;
 
 use port_calls::{Idioms, replaced};
-use port_shell::formed;
+use port_shell::{formed, told};
 use std::alloc::{AllocError, Global};
 
 /// How often there is a turn at most. A call may be rewritten once it is in a call that a statement
 /// became.
 const TURNS: usize = 70;
 
-/// Returns the text with its calls rewritten, and then its statements of a shell, or `None` if
-/// nothing can be rewritten.
+/// Returns the text with messages in place of what `echo` prints, if all idioms are wanted, and
+/// otherwise the text.
+fn told_by(alloc: Global, idioms: Idioms, text: Vec<u8>) -> Result<Vec<u8>, AllocError>
+    ensures { IfOk result (λ v. specs.IsToldBy idioms text.items v.items) }
+{
+    match idioms {
+        Idioms::Exact => Ok(text),
+        Idioms::All => told(alloc, text.as_slice()),
+    }
+}
+
+/// Returns the text with its calls rewritten, then its statements of a shell, and then what `echo`
+/// prints, or `None` if nothing can be rewritten.
 fn turned(alloc: Global, idioms: Idioms, text: &[u8]) -> Result<Option<Vec<u8>>, AllocError>
     ensures { IfOk result (λ o. IfSome o (λ v. specs.IsTurn idioms text.now v.items)) }
 {
     let mid = replaced(alloc, idioms, text)?;
-    let out = formed(alloc, mid.as_slice())?;
+    let formed = formed(alloc, mid.as_slice())?;
+    let out = told_by(alloc, idioms, formed)?;
     if out.as_slice() == text {
         Ok(None)
     } else {

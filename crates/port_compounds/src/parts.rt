@@ -193,7 +193,7 @@ fn is_dnl_at(text: &[u8], at: usize) -> bool
 }
 
 /// Returns whether the text has `dnl` at some place.
-pub(crate) fn has_dnl(text: &[u8]) -> bool
+pub fn has_dnl(text: &[u8]) -> bool
     ensures { result ≡ false → specs.HasDnl text.now → ⊥ }
 {
     for i in 0..text.len() {

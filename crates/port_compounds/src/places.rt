@@ -27,7 +27,7 @@ pub(crate) fn are_blank(text: &[u8]) -> bool
 }
 
 /// Returns whether there are spaces alone.
-pub(crate) fn are_spaces(text: &[u8]) -> bool
+pub fn are_spaces(text: &[u8]) -> bool
     ensures { result ≡ list_all specs.is_space text.now }
 {
     text.iter().all(|byte| is_space(*byte))

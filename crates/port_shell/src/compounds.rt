@@ -157,6 +157,15 @@ impl Compounds {
         }
     }
 
+    /// Notes an `echo` that is a statement of a list that calls may be put in.
+    fn read_echo(&mut self, text: &[u8], word: Word, is_quoted: bool) -> Result<(), AllocError> {
+        let is_echo = text == b"echo".as_slice() && word.is_plain && !is_quoted;
+        if is_echo && self.begins_call() && !self.is_function {
+            self.found.push(Cut::Echo(word.start))?;
+        }
+        Ok(())
+    }
+
     /// Reads the first or the second byte of a joint, in a statement that begins with a test.
     fn join_guard(&mut self, at: usize) {
         if let Some(guard) = self.guard {
@@ -479,6 +488,7 @@ impl Compounds {
             return Ok(false);
         }
         self.read_guard(text, word, is_quoted);
+        self.read_echo(text, word, is_quoted)?;
         if self.front == Front::Further {
             return Ok(false);
         }

@@ -8,6 +8,8 @@ pub(crate) enum Cut {
     If(IfCut),
     Case(CaseCut),
     Guard(GuardCut),
+    /// The offset of an `echo`.
+    Echo(usize),
 }
 
 impl Cut {
@@ -17,6 +19,7 @@ impl Cut {
             Cut::If(cut) => cut.start,
             Cut::Case(cut) => cut.start,
             Cut::Guard(cut) => cut.start,
+            Cut::Echo(at) => *at,
         }
     }
 }

@@ -11,6 +11,7 @@
 //! test -n "$a" || b=2                        // becomes AS_IF([test -n "$a"], [], [b=2])
 //! test "$a" = b -a "$c" && d=1               // becomes AS_IF([test "$a" = b && test "$c"], [d=1])
 //! if test -f a; then b=1; fi                 // stays, since acrun reads no test of files
+//! echo using $a                              // stays, or becomes AC_MSG_RESULT([using $a]) below a comment
 //! ```
 //!
 //! Read the definitions first: those of `port_compounds` say what these statements and their parts
@@ -25,10 +26,12 @@
 mod calls;
 mod compounds;
 mod cut;
+mod echoes;
 mod lists;
 mod passes;
 mod passing;
 mod puts;
 mod shell;
 
+pub use echoes::told;
 pub use passes::formed;

@@ -12,16 +12,16 @@ use std::alloc::{AllocError, Global};
 
 /// A text that is written while another is read.
 #[derive(Drop)]
-struct Pass {
-    out: Vec<u8>,
+pub(crate) struct Pass {
+    pub out: Vec<u8>,
     /// How much was read.
-    at: usize,
+    pub at: usize,
     /// Whether anything was rewritten.
-    has_changed: bool,
+    pub has_changed: bool,
 }
 
 /// Copies what is before a statement, and writes what is put in its place.
-fn write_change(
+pub(crate) fn write_change(
     text: &[u8],
     start: usize,
     end: usize,
@@ -139,6 +139,7 @@ fn pass_cut(
         Cut::If(cut) => pass_if(alloc, text, cut, pass),
         Cut::Case(cut) => pass_case(alloc, text, cut, pass),
         Cut::Guard(cut) => pass_guard(alloc, text, *cut, reads, pass),
+        Cut::Echo(_) => Ok(()),
     }
 }
 

@@ -2,7 +2,7 @@
 //!
 //! `calls` has which calls are found in a source, `error_rows` which errors, `reading_on` those that
 //! are found by reading on after each, `warned` which warnings, and `shows` what is shown of them.
-//! `ifs`, `cases` and `guards` have which statements of a shell become calls. `log_lines` has what
+//! `ifs`, `cases`, `guards` and `echoes` have which statements of a shell become calls. `log_lines` has what
 //! each line of a log is, and `whys` the command why over files: no contract says what it prints,
 //! so a row compares the exit status and both streams. Each of these tests is a table of rows, in
 //! the form that the crate `test_rows` reads. `offsets` has the places of offsets in a text,
@@ -15,6 +15,8 @@
 mod calls;
 #[cfg(test)]
 mod cases;
+#[cfg(test)]
+mod echoes;
 #[cfg(test)]
 mod error_rows;
 #[cfg(test)]

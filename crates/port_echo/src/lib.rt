@@ -1,0 +1,19 @@
+//! The message that a line of a shell prints by `echo`.
+//!
+//! A line is read if it has nothing but spaces, `echo` and one space, and after that words that a
+//! shell reads as they are, or one word in quotes. What is around the line is not looked at.
+//!
+//! ```text
+//! echo_message(b"  echo using $x", 0, 2, 15)       // using $x
+//! echo_message(b"echo 'using x'", 0, 0, 14)        // using x
+//! echo_message(b"echo a > b", 0, 0, 10)            // None
+//! ```
+//!
+//! Read `specs/Echo`, and then this crate from `printed` on. No call allocates, and none fails. "own"
+//! marks a rule that no manual gives.
+#![tactic(auto)]
+
+mod line;
+mod printed;
+
+pub use line::echo_message;

@@ -1,0 +1,24 @@
+-- What one step of telling makes.
+use Rattle.std.proofs.Common.{◌≡◌, ℕ, ◌≤◌, List, [], ◌∷◌, ◌++◌, length, Result, Ok, Err, is_ok, OnOk, if◌then◌else◌, slice_range, sym, subst, ap, ◌∙◌, arith}
+use Rattle.std.specs.Prelude.{codes}
+use Rattle.port_echo.specs.Echo.{IsEcho}
+use Rattle.port_shell.specs.Calls.{IsPut}
+use Rattle.port_shell.specs.Told.{IsToldTo, noted}
+use Rattle.port_shell.specs.Told as specs
+
+pub told_bound : (text : List ℕ) (at : ℕ) (out : List ℕ) → IsToldTo text at out → at ≤ length text
+told_bound text at out specs.IsToldTo.begun = omega arith
+told_bound text at out (specs.IsToldTo.copied next before from to) = to
+told_bound text at out (specs.IsToldTo.told echo end message call before is puts) = is.line.order.2
+
+pub told_step : (text : List ℕ) (read : ℕ) (out : List ℕ) (start at end : ℕ) (message call put : List ℕ) (new_at : ℕ) (new : List ℕ)
+    → IsToldTo text read out → IsEcho text start at end message → IsPut (codes "AC_MSG_RESULT") (message ∷ []) call → read ≤ start → start ≤ length text
+    → put ≡ noted (slice_range text start at) call → (new_at ≡ end) × (new ≡ (out ++ slice_range text read start) ++ put) → IsToldTo text new_at new
+told_step text read out start at end message call put new_at new before is puts from within put_is (at_is, new_is) =
+    subst (λ a. IsToldTo text a new) (sym at_is)
+    (subst (IsToldTo text end) (sym (new_is ∙ ap (λ p. (out ++ slice_range text read start) ++ p) put_is)) (specs.IsToldTo.told at end message call (specs.IsToldTo.copied start before from within) is puts))
+
+pub told_end : {T E : Type 0} (r : Result T E) (text : List ℕ) (at : ℕ) (out new : List ℕ) → IsToldTo text at out
+    → new ≡ (if is_ok r then out ++ slice_range text at (length text) else out) → OnOk r (IsToldTo text (length text) new)
+told_end (Ok v) text at out new before is = subst (IsToldTo text (length text)) (sym is) (specs.IsToldTo.copied (length text) before (told_bound text at out before) (omega arith))
+told_end (Err e) text at out new before is = tt

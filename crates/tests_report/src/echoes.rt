@@ -1,0 +1,57 @@
+//! What `echo` prints, as messages.
+
+use port_shell::told;
+use std::test::Fail;
+use test_rows::{Page, RowCall, try_rows};
+
+struct Told;
+
+impl RowCall for Told {
+    fn put(&self, page: &mut Page, given: &[u8]) {
+        let made = told(page.alloc(), given);
+        if let Some(text) = page.given(made) {
+            if text.as_slice() == given {
+                page.put(b"the same");
+            } else {
+                page.put(text.as_slice());
+            }
+        }
+    }
+}
+
+/// A text with an `echo`, and what becomes of it.
+const ECHOES: &[u8] = br##"
+echo using $x, 1.2 => dnl acrun: in place of echo: -q drops the line^JAC_MSG_RESULT([using $x, 1.2])
+a=1^J  echo 'no  x'^Jb=2 => a=1^J  dnl acrun: in place of echo: -q drops the line^J  AC_MSG_RESULT([no  x])^Jb=2
+if test -n "$a"; then^J  echo "a: $a (b)"^Jfi => if test -n "$a"; then^J  dnl acrun: in place of echo: -q drops the line^J  AC_MSG_RESULT([a: $a (b)])^Jfi
+AS_IF([a], [^Jecho b]) => the same
+AS_IF([a], [^Jecho b^J]) => AS_IF([a], [^Jdnl acrun: in place of echo: -q drops the line^JAC_MSG_RESULT([b])^J])
+echo '  a ' => dnl acrun: in place of echo: -q drops the line^JAC_MSG_RESULT([  a ])
+// what a shell reads otherwise
+echo a  b => the same
+echo -n a => the same
+echo '-n' => the same
+echo a > b => the same
+echo a; b=1 => the same
+echo a | b => the same
+echo `a` => the same
+echo a* => the same
+echo "a\b" => the same
+echo 'a$b' => the same
+echo "a" 'b' => the same
+echo => the same
+echo  a => the same
+echo a dnl b => the same
+echo [a] => the same
+// where no call can be put
+for a in b; do^Jecho a^Jdone => the same
+a() {^Jecho a^J} => the same
+a <<b^Jecho a^Jb => the same
+a="^Jecho b^J" => the same
+a &&^Jecho b => the same
+"##;
+
+#[test]
+fn echoes(rt: HostRuntime) -> Result<(), Fail> {
+    try_rows(rt.alloc(), &Told, ECHOES)
+}
