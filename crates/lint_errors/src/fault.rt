@@ -83,5 +83,6 @@ pub(crate) fn place_of_fault(
     if !may_be_of_text(fault) || is_argument(calls, at) {
         return Ok(at);
     }
-    statement_after(alloc, text, at)
+    let is_after_output = matches!(fault, ParseFault::AfterOutput(_));
+    statement_after(alloc, text, at, !is_after_output)
 }

@@ -235,8 +235,14 @@ fn stopped_len(alloc: Global, text: &[u8], at: usize, len: usize) -> Result<usiz
 }
 
 /// Returns the start of the first statement that isn't read in the text between calls that begins
-/// at `at`. If none begins there, returns `at`.
-pub(crate) fn statement_after(alloc: Global, text: &[u8], at: usize) -> Result<usize, AllocError>
+/// at `at`, or, if no statement may be there, of the first one or the first semicolon. If no text
+/// begins there, returns `at`.
+pub(crate) fn statement_after(
+    alloc: Global,
+    text: &[u8],
+    at: usize,
+    may_be_there: bool,
+) -> Result<usize, AllocError>
     ensures { IfOk result (specs.IsAfter at (length text.now)) }
 {
     if at >= text.len() {
@@ -244,6 +250,10 @@ pub(crate) fn statement_after(alloc: Global, text: &[u8], at: usize) -> Result<u
     }
     let rest = &text[at..];
     let len = piece_len(alloc, rest, at)?.min(rest.len());
-    let start = refused_in(alloc, &rest[..len])?;
+    let start = if may_be_there {
+        refused_in(alloc, &rest[..len])?
+    } else {
+        idle_len(&rest[..len], true)
+    };
     Ok(at + start)
 }
