@@ -1,7 +1,7 @@
 -- The forms of arguments of calls: the value of each, or its error (Autoconf's manual, "The Autoconf Language"; the
 -- forms themselves are own). Errors have the offset of the argument; those of quoting have their own offset.
 use Rattle.std.specs.Prelude.{ℕ, Bool, true, not, List, Result, Ok, Err}
-use Rattle.m4quote.specs.Entry.{Span}
+use Rattle.m4quote.specs.ItemValue.{Span}
 use Rattle.m4quote.specs.Scan.{used}
 use Rattle.m4quote.specs.declared.fault.QuoteFault.{QuoteFault}
 use Rattle.deftable.specs.CacheName.{is_cache_name}

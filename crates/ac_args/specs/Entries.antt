@@ -2,7 +2,7 @@
 -- quoting have their own offset.
 use Rattle.std.specs.Prelude.{ℕ, List, length, Result, Ok, nat_lt, nat_le}
 use Rattle.std.specs.List.{list_all}
-use Rattle.m4quote.specs.Entry.{Span}
+use Rattle.m4quote.specs.ItemValue.{Span}
 use Rattle.m4quote.specs.Scan.{used}
 use Rattle.text_cut.specs.Cuts.{trimmed}
 use Rattle.ac_statement.specs.declared.fault.ParseFault.{ParseFault}

@@ -6,7 +6,7 @@ use Rattle.deftable.specs.ShellName.{is_shell_name_of}
 use Rattle.text_cut.specs.Cuts.{is_blank, fields}
 use Rattle.ac_tree.specs.declared.listed.Sought.{Sought}
 use Rattle.ac_tree.specs.declared.listed.Listed.TheVariants.{Header, Function, Declaration}
-use Rattle.ac_tree.specs.declared.listed.Sought.TheVariants.{Entry, «Type»}
+use Rattle.ac_tree.specs.declared.listed.Sought.TheVariants.{ListEntry, «Type»}
 use Rattle.ac_args.specs.Commas.{comma_entries}
 
 -- No blank, `$`, `<`, `>`, `"`, backslash or backquote. (own)
@@ -20,15 +20,15 @@ is_type_byte b = not (b == 10 || b == 36 || b == 92 || b == 96)
 -- The text has the form of an entry of its kind. A function and a declaration are C identifiers, which have the form of shell
 -- names. (own)
 abbrev pub has_form : Sought → List ℕ → Bool
-has_form (Entry Header) text = nat_lt 0 (length text) && list_all is_header_byte text
-has_form (Entry Function) text = is_shell_name_of text
-has_form (Entry Declaration) text = is_shell_name_of text
+has_form (ListEntry Header) text = nat_lt 0 (length text) && list_all is_header_byte text
+has_form (ListEntry Function) text = is_shell_name_of text
+has_form (ListEntry Declaration) text = is_shell_name_of text
 has_form «Type» text = nat_lt 0 (length text) && list_all is_type_byte text
 
 -- The entries that a text lists, whatever their form: those between blanks, or those between commas outside parentheses.
 -- (Autoconf's manual, the sections of the macros; that parentheses hold commas is own)
 abbrev pub split : Sought → List ℕ → List (List ℕ)
-split (Entry Header) text = fields text
-split (Entry Function) text = fields text
-split (Entry Declaration) text = comma_entries text
+split (ListEntry Header) text = fields text
+split (ListEntry Function) text = fields text
+split (ListEntry Declaration) text = comma_entries text
 split «Type» text = comma_entries text

@@ -1,7 +1,7 @@
 -- Arguments that name an optional feature or package. (Autoconf's manual, "Choosing Package Options" and "External
 -- Software")
 use Rattle.std.specs.Prelude.{ℕ, List, Result, Ok}
-use Rattle.m4quote.specs.Entry.{Span}
+use Rattle.m4quote.specs.ItemValue.{Span}
 use Rattle.ac_tree.specs.Feature.{is_feature, option_variable}
 use Rattle.ac_tree.specs.declared.feature.OptionKind.{OptionKind}
 use Rattle.ac_args.specs.Arguments.{trimmed_text}

@@ -7,7 +7,7 @@
 -- wherever it finds it.)
 use Rattle.std.specs.Prelude.{ℕ, Bool, true, false, ◌&&◌, ◌||◌, ◌==◌, List, [], ◌∷◌, length, Option, Some, None, Result, Ok, Err, codes, if◌then◌else◌}
 use Rattle.std.specs.Str.{bytes_eq}
-use Rattle.m4quote.specs.Entry.{Span, Entry, call, bare}
+use Rattle.m4quote.specs.ItemValue.{Span, ItemValue, call, bare}
 use Rattle.ac_statement.specs.declared.fault.ParseFault.{ParseFault}
 use Rattle.ac_statement.specs.declared.fault.ParseFault.TheVariants.{UnknownStatement, ArgCount}
 use Rattle.ac_tree.specs.declared.help.Help.{Help}
@@ -26,7 +26,7 @@ pub record Called : Type 0 where
   pub at : ℕ
 
 -- The call of this name, if the other items are blanks. (own)
-abbrev pub sole_call : List ℕ → List Entry → Option Called
+abbrev pub sole_call : List ℕ → List ItemValue → Option Called
 sole_call name [] = None
 sole_call name (call other args at ∷ items) = if bytes_eq other name && are_blank items then Some (record { args = args; at = at }) else None
 sole_call name (bare text at ∷ items) = if is_all_blank text then sole_call name items else None
@@ -34,7 +34,7 @@ sole_call name (bare text at ∷ items) = if is_all_blank text then sole_call na
 -- ---- a call among others
 
 -- One of the items is a call of this name. (own)
-abbrev pub has_call : List ℕ → List Entry → Bool
+abbrev pub has_call : List ℕ → List ItemValue → Bool
 has_call name [] = false
 has_call name (call other args at ∷ items) = bytes_eq other name || has_call name items
 has_call name (bare text at ∷ items) = has_call name items
@@ -52,7 +52,7 @@ help_string args at = do
   _ ← wants (length args == 2) (ArgCount at)
   left ← text (arg_at args 0)
   right ← text (arg_at args 1)
-  Ok (helps.Entry left right)
+  Ok (helps.ItemValue left right)
 
 -- The help of an argument that calls no macro: its used text. (own)
 abbrev pub own_text : Span → Result Help ParseFault
@@ -65,7 +65,7 @@ help_by arg true None = Err (UnknownStatement arg.at)
 help_by arg false None = own_text arg
 
 -- The help of an argument, by its items or the error in reading them. (own)
-abbrev pub help_among : Span → Result (List Entry) ParseFault → Result Help ParseFault
+abbrev pub help_among : Span → Result (List ItemValue) ParseFault → Result Help ParseFault
 help_among arg (Ok items) = help_by arg (has_call help_string_name items) (sole_call help_string_name items)
 help_among arg (Err f) = own_text arg
 

@@ -1,7 +1,7 @@
 -- Arguments that name libraries. (Autoconf's manual, "Library Files"; which bytes a library's name may have is own)
 use Rattle.std.specs.Prelude.{ℕ, Bool, List, length, Result, Ok, nat_lt}
 use Rattle.std.specs.List.{list_all}
-use Rattle.m4quote.specs.Entry.{Span}
+use Rattle.m4quote.specs.ItemValue.{Span}
 use Rattle.text_cut.specs.Cuts.{fields}
 use Rattle.ac_statement.specs.declared.fault.ParseFault.{ParseFault}
 use Rattle.ac_statement.specs.declared.fault.ParseFault.TheVariants.{BadName}

@@ -4,7 +4,7 @@ use Rattle.std.specs.Prelude.{ℕ, Bool, not, ◌&&◌, ◌||◌, ◌==◌, List
 use Rattle.std.specs.List.{list_all}
 use Rattle.std.specs.Str.{bytes_eq}
 use Rattle.conftest_source.specs.Sources.{default_includes}
-use Rattle.m4quote.specs.Entry.{Span}
+use Rattle.m4quote.specs.ItemValue.{Span}
 use Rattle.shellword.specs.Scan.{here_of}
 use Rattle.shellword.specs.declared.part.Part.{Part}
 use Rattle.text_cut.specs.Cuts.{is_blank, trimmed, fields, parts}

@@ -1,7 +1,7 @@
 -- Arguments that are shell text (POSIX shell, 2.2 to 2.6, 2.7.4, 2.9.4.3; `test` by the number of its words). Errors
 -- have the offset of the argument.
 use Rattle.std.specs.Prelude.{List, Result}
-use Rattle.m4quote.specs.Entry.{Span}
+use Rattle.m4quote.specs.ItemValue.{Span}
 use Rattle.shellword.specs.Pattern.{patterns_of}
 use Rattle.shellword.specs.Scan.{word_of, here_of}
 use Rattle.shellword.specs.Test.{test_of}

@@ -1,7 +1,7 @@
 //! Readers of arguments, one for each form.
 
 ghost use Rattle.std.specs.Prelude.{◌≡◌, ◌+◌, ◌≤◌, length, map, Ok, Err, IfOk, IfErr, ℕ, List, []};
-ghost use Rattle.m4quote.specs.Entry.{span};
+ghost use Rattle.m4quote.specs.ItemValue.{span};
 ghost use Rattle.ac_args.specs.Arguments as forms;
 ghost use Rattle.ac_statement.specs.Reading.{Gives};
 ghost use Rattle.ac_statement.specs.Texts as texts;

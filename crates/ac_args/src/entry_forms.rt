@@ -43,8 +43,8 @@ pub(crate) fn has_form(kind: Sought, text: &[u8]) -> bool
     ensures { result ≡ specs.has_form kind text.now }
 {
     match kind {
-        Sought::Entry(Listed::Header) => !text.is_empty() && are_header_bytes(text),
-        Sought::Entry(Listed::Function | Listed::Declaration) => is_shell_name(text),
+        Sought::ListEntry(Listed::Header) => !text.is_empty() && are_header_bytes(text),
+        Sought::ListEntry(Listed::Function | Listed::Declaration) => is_shell_name(text),
         Sought::Type => !text.is_empty() && are_type_bytes(text),
     }
 }
@@ -62,7 +62,7 @@ pub(crate) fn split(alloc: Global, kind: Sought, text: &[u8]) -> Result<Vec<&[u8
     ensures { IfOk result (λ v. map (λ e. e.now) v.items ≡ specs.split kind text.now) }
 {
     match kind {
-        Sought::Entry(Listed::Header | Listed::Function) => fields(alloc, text),
-        Sought::Entry(Listed::Declaration) | Sought::Type => comma_entries(alloc, text),
+        Sought::ListEntry(Listed::Header | Listed::Function) => fields(alloc, text),
+        Sought::ListEntry(Listed::Declaration) | Sought::Type => comma_entries(alloc, text),
     }
 }

@@ -1,7 +1,7 @@
 //! Arguments that name an optional feature or package.
 
 ghost use Rattle.std.specs.Prelude.{◌≡◌};
-ghost use Rattle.m4quote.specs.Entry.{span};
+ghost use Rattle.m4quote.specs.ItemValue.{span};
 ghost use Rattle.ac_args.specs.Feature as words;
 ghost use Rattle.ac_statement.specs.Reading.{Gives};
 

@@ -1,7 +1,7 @@
 //! Help arguments (Autoconf's manual, "Making Your Help Strings Look Pretty").
 
 ghost use Rattle.std.specs.Prelude.{◌≡◌, MatchOption, None, Some, map};
-ghost use Rattle.m4quote.specs.Entry.{span, views};
+ghost use Rattle.m4quote.specs.ItemValue.{span, views};
 ghost use Rattle.ac_args.specs.Help as words;
 ghost use Rattle.ac_statement.specs.Reading.{Gives};
 
@@ -68,7 +68,7 @@ fn help_string(alloc: Global, args: &[Arg<'_>], at: usize) -> Result<Help, Parse
     }
     let left = text(alloc, arg_at(args, 0))?;
     let right = text(alloc, arg_at(args, 1))?;
-    Ok(Help::Entry { left, right })
+    Ok(Help::Columns { left, right })
 }
 
 fn own_text(alloc: Global, arg: Arg<'_>) -> Result<Help, ParseFault>

@@ -2,7 +2,7 @@
 
 ghost use Rattle.std.specs.Prelude.{◌≡◌, map, IfOk};
 ghost use Rattle.std.specs.List.{list_all};
-ghost use Rattle.m4quote.specs.Entry.{span};
+ghost use Rattle.m4quote.specs.ItemValue.{span};
 ghost use Rattle.text_cut.specs.Cuts.{fields};
 ghost use Rattle.ac_args.specs.Libraries as words;
 ghost use Rattle.ac_statement.specs.Reading.{Gives};

@@ -3,7 +3,7 @@
 ghost use Rattle.std.specs.Prelude.{◌≡◌, ◌≤◌, [], map, IfOk, slice_index_or};
 ghost use Rattle.std.specs.Char.{is_ascii_digit};
 ghost use Rattle.std.specs.List.{list_all};
-ghost use Rattle.m4quote.specs.Entry.{span};
+ghost use Rattle.m4quote.specs.ItemValue.{span};
 ghost use Rattle.text_cut.specs.Cuts as cuts;
 ghost use Rattle.ac_args.specs.Numbers as forms;
 ghost use Rattle.ac_statement.specs.Reading.{Gives};

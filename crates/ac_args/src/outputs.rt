@@ -1,7 +1,7 @@
 //! Readers of lists of outputs.
 
 ghost use Rattle.std.specs.Prelude.{◌≡◌, map};
-ghost use Rattle.m4quote.specs.Entry.{span};
+ghost use Rattle.m4quote.specs.ItemValue.{span};
 ghost use Rattle.ac_args.specs.Outputs as specs;
 ghost use Rattle.ac_statement.specs.Reading.{Gives};
 

@@ -3,7 +3,7 @@ use Rattle.std.proofs.Common.{◌≡◌, ◌↔◌, ℕ, zero, suc, ◌+◌, ◌
 use Rattle.std.specs.Prelude.{Contains}
 use Rattle.std.proofs.lemmas.List.Elements.{Contains-append_left, Contains-append_right, Contains-append_cases}
 use Rattle.m4quote.specs.declared.fault.QuoteFault.{QuoteFault}
-use Rattle.m4quote.specs.Entry.{Span, Entry, call, bare}
+use Rattle.m4quote.specs.ItemValue.{Span, ItemValue, call, bare}
 use Rattle.m4quote.specs.Scan.{outcome}
 use Rattle.m4quote.specs.Spelling.{IsSpelling}
 use Rattle.m4quote.proofs.Laws.{outcome_is_spelling}
@@ -65,12 +65,12 @@ found_arg bodies holds i (x ∷ args) c got =
 
 -- ---- what the text has is found
 
-in_argument_is : (room : ℕ) (arg a : Span) (inner : List Entry) → StandsFor arg a → IsSpelling a.at a.text inner → in_argument (suc room) arg ≡ in_items (in_argument room) inner
+in_argument_is : (room : ℕ) (arg a : Span) (inner : List ItemValue) → StandsFor arg a → IsSpelling a.at a.text inner → in_argument (suc room) arg ≡ in_items (in_argument room) inner
 unfolding in_argument
 in_argument_is room arg a inner stands spelled =
     ap (in_denoted (in_argument room)) ((inside_is arg a).1 stands) ∙ ap (λ o. in_items (in_argument room) (items_of o)) ((outcome_is_spelling a.at a.text inner).1 spelled)
 
-has_found : {room : ℕ} {items : List Entry} {c : MacroCall} → HasCall room items c → Contains (in_items (in_argument room) items) c
+has_found : {room : ℕ} {items : List ItemValue} {c : MacroCall} → HasCall room items c → Contains (in_items (in_argument room) items) c
 has_found (here {room} {at} {name} {args} {items}) = (0, omega arith, refl)
 has_found (within {room} {at} {k} {name} {args} {items} {inner} {row} {arg} {a} {c} known inside is some stands spelled has) =
     let bodies = in_argument (suc room) in
@@ -89,7 +89,7 @@ has_found (later {room} {item = call name args at} {items} {c} has) =
 -- a statement argument has the call
 record InText (room : ℕ) (arg : Span) (c : MacroCall) : Type 0 where
   a : Span
-  inner : List Entry
+  inner : List ItemValue
   stands : StandsFor arg a
   spelled : IsSpelling a.at a.text inner
   has : HasCall room inner c
@@ -101,7 +101,7 @@ InArg (suc room) arg c = InText room arg c
 abbrev AreFound : ℕ → Type 0
 AreFound room = (arg : Span) (c : MacroCall) → Contains (in_argument room arg) c → InArg room arg c
 
-has_within : (room at : ℕ) (name : List ℕ) (args : List Span) (items : List Entry) (row : Row) (c : MacroCall) → row_named name ≡ Some row → FoundArg (in_argument room) (holds_statements row.named (length args)) 0 args c
+has_within : (room at : ℕ) (name : List ℕ) (args : List Span) (items : List ItemValue) (row : Row) (c : MacroCall) → row_named name ≡ Some row → FoundArg (in_argument room) (holds_statements row.named (length args)) 0 args c
     → AreFound room → HasCall room (call name args at ∷ items) c
 has_within zero at name args items row c known r found = absurd (found r.arg c r.found)
 has_within (suc room) at name args items row c known r found =
@@ -109,17 +109,17 @@ has_within (suc room) at name args items row c known r found =
     let start : r.k ≡ 0 + r.k = omega arith in
     within known r.inside r.is (ap (holds_statements row.named (length args)) start ∙ r.some) t.stands t.spelled t.has
 
-has_macro : (room at : ℕ) (name : List ℕ) (args : List Span) (items : List Entry) (c : MacroCall) (o : Option Row) → row_named name ≡ o → AreFound room → Contains (in_macro (in_argument room) o args) c
+has_macro : (room at : ℕ) (name : List ℕ) (args : List Span) (items : List ItemValue) (c : MacroCall) (o : Option Row) → row_named name ≡ o → AreFound room → Contains (in_macro (in_argument room) o args) c
     → HasCall room (call name args at ∷ items) c
 has_macro room at name args items c None e found got = not_in_none c got
 has_macro room at name args items c (Some row) e found got = has_within room at name args items row c e (found_arg (in_argument room) (holds_statements row.named (length args)) 0 args c got) found
 
-has_call : (room at : ℕ) (name : List ℕ) (args : List Span) (items : List Entry) (c : MacroCall) → AreFound room → Contains (call_at name args at ∷ in_macro (in_argument room) (row_named name) args) c
+has_call : (room at : ℕ) (name : List ℕ) (args : List Span) (items : List ItemValue) (c : MacroCall) → AreFound room → Contains (call_at name args at ∷ in_macro (in_argument room) (row_named name) args) c
     → HasCall room (call name args at ∷ items) c
 has_call room at name args items c found (zero, inside, is) = subst (HasCall room (call name args at ∷ items)) is here
 has_call room at name args items c found (suc k, inside, is) = has_macro room at name args items c (row_named name) refl found (k, omega arith, is)
 
-has_items : (room : ℕ) → AreFound room → (items : List Entry) (c : MacroCall) → Contains (in_items (in_argument room) items) c → HasCall room items c
+has_items : (room : ℕ) → AreFound room → (items : List ItemValue) (c : MacroCall) → Contains (in_items (in_argument room) items) c → HasCall room items c
 has_items room found [] c got = not_in_none c got
 has_items room found (bare text at ∷ items) c got = later (has_items room found items c got)
 has_items room found (call name args at ∷ items) c got =
@@ -128,7 +128,7 @@ has_items room found (call name args at ∷ items) c got =
     (λ right. later (has_items room found items c right))
     (Contains-append_cases (call_at name args at ∷ in_macro (in_argument room) (row_named name) args) (in_items (in_argument room) items) c got)
 
-has_outcome : (room : ℕ) (arg a : Span) (c : MacroCall) (o : Result (List Entry) QuoteFault) → StandsFor arg a → outcome a.at a.text ≡ o → AreFound room → Contains (in_items (in_argument room) (items_of o)) c → InText room arg c
+has_outcome : (room : ℕ) (arg a : Span) (c : MacroCall) (o : Result (List ItemValue) QuoteFault) → StandsFor arg a → outcome a.at a.text ≡ o → AreFound room → Contains (in_items (in_argument room) (items_of o)) c → InText room arg c
 has_outcome room arg a c (Ok inner) stands e found got =
     record { a = a; inner = inner; stands = stands; spelled = (outcome_is_spelling a.at a.text inner).0 e; has = has_items room found inner c got }
 has_outcome room arg a c (Err f) stands e found got = not_in_none c got
@@ -142,7 +142,7 @@ unfolding in_argument
 are_found zero arg c got = not_in_none c got
 are_found (suc room) arg c got = has_denoted room arg c (inside arg) refl (are_found room) got
 
-is_call : (text : List ℕ) (c : MacroCall) (o : Result (List Entry) QuoteFault) → outcome 0 text ≡ o → Contains (in_items (in_argument 31) (items_of o)) c → IsCallOf text c
+is_call : (text : List ℕ) (c : MacroCall) (o : Result (List ItemValue) QuoteFault) → outcome 0 text ≡ o → Contains (in_items (in_argument 31) (items_of o)) c → IsCallOf text c
 is_call text c (Ok items) e got = record { items = items; spelled = (outcome_is_spelling 0 text items).0 e; has = has_items 31 (are_found 31) items c got }
 is_call text c (Err f) e got = not_in_none c got
 

@@ -3,7 +3,7 @@ use Rattle.std.proofs.Common.{◌≡◌, ℕ, suc, ◌+◌, ◌-◌, ◌*◌, �
 use Rattle.std.specs.Prelude.{All}
 use Rattle.std.proofs.lemmas.List.{length-drop, length-take-le}
 use Rattle.std.proofs.lemmas.List.Elements.{All-nil, All-cons}
-use Rattle.m4quote.specs.Entry.{Span, Entry, call, bare, bare_before}
+use Rattle.m4quote.specs.ItemValue.{Span, ItemValue, call, bare, bare_before}
 use Rattle.m4quote.specs.Text.{blank_len}
 use Rattle.m4quote.specs.Spelling.{AreArguments, last, more, argument_of, Spells, nothing, bare_text, dropped_line, bare_name, with_arguments}
 use Rattle.m4quote.proofs.Insides.{front_fits}
@@ -20,7 +20,7 @@ abbrev pub call_end : List ℕ → List Span → ℕ → ℕ
 call_end name args at = end_after (at + length name) (map extent_of args)
 
 -- the calls are one after another from an offset on, up to another one
-abbrev pub IsLaid : ℕ → ℕ → List Entry → Type 0
+abbrev pub IsLaid : ℕ → ℕ → List ItemValue → Type 0
 IsLaid low high [] = Unit {0}
 IsLaid low high (bare text at ∷ items) = IsLaid low high items
 IsLaid low high (call name args at ∷ items) = (low ≤ at) × (0 < length name) × AreLaid (at + length name) args × (call_end name args at ≤ high) × IsLaid (call_end name args at) high items
@@ -29,7 +29,7 @@ pub laid_end : (low : ℕ) (args : List Span) → AreLaid low args → low ≤ e
 laid_end low [] laid = omega arith
 laid_end low (arg ∷ args) laid = omega (arith, laid.0, laid_end (arg.at + length arg.text + 1) args laid.1)
 
-laid_lower : (low new high : ℕ) (items : List Entry) → new ≤ low → IsLaid low high items → IsLaid new high items
+laid_lower : (low new high : ℕ) (items : List ItemValue) → new ≤ low → IsLaid low high items → IsLaid new high items
 laid_lower low new high [] le laid = tt
 laid_lower low new high (bare text at ∷ items) le laid = laid_lower low new high items le laid
 laid_lower low new high (call name args at ∷ items) le laid = (omega (arith, laid.0), laid.1, laid.2, laid.3, laid.4)
@@ -38,11 +38,11 @@ args_lower : (low new : ℕ) (args : List Span) → new ≤ low → AreLaid low 
 args_lower low new [] le laid = tt
 args_lower low new (arg ∷ args) le laid = (omega (arith, laid.0), laid.1)
 
-laid_either : (t : Bool) (low high at to : ℕ) (a b : List ℕ) (items : List Entry) → IsLaid low high items → IsLaid low high (cond t (bare (a ++ b) at ∷ items) (bare a at ∷ bare b to ∷ items))
+laid_either : (t : Bool) (low high at to : ℕ) (a b : List ℕ) (items : List ItemValue) → IsLaid low high items → IsLaid low high (cond t (bare (a ++ b) at ∷ items) (bare a at ∷ bare b to ∷ items))
 laid_either true low high at to a b items laid = laid
 laid_either false low high at to a b items laid = laid
 
-laid_bare : (low high at : ℕ) (text : List ℕ) (items : List Entry) → IsLaid low high items → IsLaid low high (bare_before at text items)
+laid_bare : (low high at : ℕ) (text : List ℕ) (items : List ItemValue) → IsLaid low high items → IsLaid low high (bare_before at text items)
 laid_bare low high at [] items laid = laid
 laid_bare low high at (b ∷ bs) [] laid = tt
 laid_bare low high at (b ∷ bs) (call name args to ∷ items) laid = laid
@@ -65,7 +65,7 @@ arguments_laid (more {at} {n} {m} {text} {after} {args} inside ends later) low l
     let rest = arguments_laid later (at + blank_len text + length (take n (drop (blank_len text) text)) + 1) (omega (arith, next)) in
     record { laid = (omega arith, rest.laid); ends = omega (arith, rest.ends) }
 
-pub items_laid : {at : ℕ} {text : List ℕ} {items : List Entry} → Spells at text items → (high : ℕ) → at + length text ≤ high → IsLaid at high items
+pub items_laid : {at : ℕ} {text : List ℕ} {items : List ItemValue} → Spells at text items → (high : ℕ) → at + length text ≤ high → IsLaid at high items
 items_laid nothing high le = tt
 items_laid (bare_text {at} {n} {kind} {text} {items} front is later) high le =
     let fits = front_fits front in
@@ -93,14 +93,14 @@ items_laid (with_arguments {at} {n} {m} {text} {inside} {args} {items} front ope
       laid_lower (at + n + 1 + m) (call_end (take n text) args at) high items (omega (arith, within.ends)) rest,
     )
 
-placed : (low high : ℕ) (items : List Entry) → IsLaid low high items → high < 2 ^ 64 → ArePlaced items
+placed : (low high : ℕ) (items : List ItemValue) → IsLaid low high items → high < 2 ^ 64 → ArePlaced items
 placed low high [] laid lt = All-nil IsItemPlaced
 placed low high (bare text at ∷ items) laid lt = All-cons IsItemPlaced (bare text at) items tt (placed low high items laid lt)
 placed low high (call name args at ∷ items) laid lt =
     let after = laid_end (at + length name) args laid.2 in
     All-cons IsItemPlaced (call name args at) items (omega (arith, after, laid.3), omega (arith, laid.3)) (placed (call_end name args at) high items laid.4 lt)
 
-pub spelled_placed : {at : ℕ} {text : List ℕ} {items : List Entry} → Spells at text items → at + length text < 2 ^ 64 → ArePlaced items
+pub spelled_placed : {at : ℕ} {text : List ℕ} {items : List ItemValue} → Spells at text items → at + length text < 2 ^ 64 → ArePlaced items
 spelled_placed {at} {text} {items} spells lt = placed at (at + length text) items (items_laid spells (at + length text) (omega arith)) lt
 
 pub none_placed : ArePlaced []

@@ -4,7 +4,7 @@ use Rattle.std.specs.Prelude.{IfOk}
 use Rattle.std.proofs.lemmas.List.{length-append}
 use Rattle.std.proofs.lemmas.List.Elements.{All-head, All-tail}
 use Rattle.m4quote.specs.declared.fault.QuoteFault.{QuoteFault}
-use Rattle.m4quote.specs.Entry.{Span, Entry, call, bare}
+use Rattle.m4quote.specs.ItemValue.{Span, ItemValue, call, bare}
 use Rattle.m4quote.specs.Parts.{IsPart, IsItemOf, ArePartsOf}
 use Rattle.m4quote.specs.Scan.{outcome}
 use Rattle.m4quote.proofs.Laws.{outcome_is_spelling, spelling_parts}
@@ -59,7 +59,7 @@ macro_order : (bodies : Bodies) → AreInside bodies → (low : ℕ) (args : Lis
 macro_order bodies all low args None laid = laid_end low args laid
 macro_order bodies all low args (Some row) laid = args_order bodies (holds_statements row.named (length args)) all 0 low args laid
 
-items_order : (bodies : Bodies) → AreInside bodies → (low high : ℕ) (items : List Entry) → low ≤ high → IsLaid low high items → AreInOrder low high (in_items bodies items)
+items_order : (bodies : Bodies) → AreInside bodies → (low high : ℕ) (items : List ItemValue) → low ≤ high → IsLaid low high items → AreInOrder low high (in_items bodies items)
 items_order bodies all low high [] le laid = le
 items_order bodies all low high (bare text at ∷ items) le laid = items_order bodies all low high items le laid
 items_order bodies all low high (call name args at ∷ items) le laid =
@@ -68,14 +68,14 @@ items_order bodies all low high (call name args at ∷ items) le laid =
     let one : AreInOrder low end (call_at name args at ∷ in_macro bodies (row_named name) args) = (laid.0, omega (arith, laid.1), after, omega arith, macro_order bodies all (at + length name) args (row_named name) laid.2) in
     order_append low end high (call_at name args at ∷ in_macro bodies (row_named name) args) (in_items bodies items) one (items_order bodies all end high items laid.3 laid.4)
 
-outcome_order : (bodies : Bodies) → AreInside bodies → (a : Span) (o : Result (List Entry) QuoteFault) → outcome a.at a.text ≡ o → AreInOrder a.at (a.at + length a.text) (in_items bodies (items_of o))
+outcome_order : (bodies : Bodies) → AreInside bodies → (a : Span) (o : Result (List ItemValue) QuoteFault) → outcome a.at a.text ≡ o → AreInOrder a.at (a.at + length a.text) (in_items bodies (items_of o))
 outcome_order bodies all a (Ok items) e =
     items_order bodies all a.at (a.at + length a.text) items (omega arith) (items_laid ((outcome_is_spelling a.at a.text items).0 e).spells (a.at + length a.text) (omega arith))
 outcome_order bodies all a (Err f) e = omega arith
 
 -- ---- the text that an argument denotes
 
-part_among : (base : ℕ) (whole : List ℕ) (before after : List Entry) (text : List ℕ) (at : ℕ) → ArePartsOf base whole (before ++ bare text at ∷ after) → IsPart base whole at text
+part_among : (base : ℕ) (whole : List ℕ) (before after : List ItemValue) (text : List ℕ) (at : ℕ) → ArePartsOf base whole (before ++ bare text at ∷ after) → IsPart base whole at text
 part_among base whole [] after text at parts = All-head (IsItemOf base whole) (bare text at) after parts
 part_among base whole (item ∷ before) after text at parts = part_among base whole before after text at (All-tail (IsItemOf base whole) item (before ++ bare text at ∷ after) parts)
 

@@ -5,7 +5,7 @@ use Rattle.std.proofs.lemmas.List.{drop_more, append-nil, append_assoc}
 use Rattle.std.proofs.lemmas.List.Elements.{All-nil, All-cons, All-get_or, All-head, All-tail}
 use Rattle.m4quote.specs.declared.item.Arg.{Arg}
 use Rattle.m4quote.specs.declared.item.Item.{Item}
-use Rattle.m4quote.specs.Entry.{Span, Entry, span, view, views}
+use Rattle.m4quote.specs.ItemValue.{Span, ItemValue, span, view, views}
 use Rattle.ac_calls.specs.Calls.{MacroCall, Bodies, IsItemPlaced, ArePlaced, in_args, in_item, in_items}
 
 unmapped : (items : List Item) → ArePlaced (views items) → All (λ x. IsItemPlaced (view x)) items

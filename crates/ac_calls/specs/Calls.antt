@@ -1,7 +1,7 @@
 -- The calls of a text, as a function of the text. `Standing` has the same as rules. All of this is own.
 use Rattle.std.specs.Prelude.{ℕ, zero, suc, ◌+◌, ◌<◌, ◌≤◌, ◌^◌, Bool, List, [], ◌∷◌, ◌++◌, length, map, Option, Some, None, Result, Ok, Err, is_some, if◌then◌else◌, All}
 use Rattle.std.specs.List.{flat_map}
-use Rattle.m4quote.specs.Entry.{Span, Entry, call, bare}
+use Rattle.m4quote.specs.ItemValue.{Span, ItemValue, call, bare}
 use Rattle.m4quote.specs.Scan.{outcome}
 use Rattle.m4quote.specs.declared.fault.QuoteFault.{QuoteFault}
 use Rattle.ac_statement.specs.declared.fault.ParseFault.{ParseFault}
@@ -50,12 +50,12 @@ call_at name args at = record {
 abbrev pub IsPlaced : List ℕ → List Span → ℕ → Type 0
 IsPlaced name args at = (at + length name < 2 ^ 64) × (end_after (at + length name) (map extent_of args) < 2 ^ 64)
 
-abbrev pub IsItemPlaced : Entry → Type 0
+abbrev pub IsItemPlaced : ItemValue → Type 0
 IsItemPlaced (call name args at) = IsPlaced name args at
 IsItemPlaced (bare text at) = Unit {0}
 
 -- Each offset of the items' calls is a number of the machine.
-abbrev pub ArePlaced : List Entry → Type 0
+abbrev pub ArePlaced : List ItemValue → Type 0
 ArePlaced items = All IsItemPlaced items
 
 -- ---- the calls of a text
@@ -75,16 +75,16 @@ in_macro bodies None args = []
 in_macro bodies (Some row) args = in_args bodies (holds_statements row.named (length args)) 0 args
 
 -- The calls of an item: a call is one, and those in its arguments come after it.
-abbrev pub in_item : Bodies → Entry → List MacroCall
+abbrev pub in_item : Bodies → ItemValue → List MacroCall
 in_item bodies (bare text at) = []
 in_item bodies (call name args at) = call_at name args at ∷ in_macro bodies (row_named name) args
 
 -- The calls of items, in order.
-abbrev pub in_items : Bodies → List Entry → List MacroCall
+abbrev pub in_items : Bodies → List ItemValue → List MacroCall
 in_items bodies items = flat_map (in_item bodies) items
 
 -- The items of a text, or none if its quotes have an error.
-abbrev pub items_of : Result (List Entry) QuoteFault → List Entry
+abbrev pub items_of : Result (List ItemValue) QuoteFault → List ItemValue
 items_of (Ok items) = items
 items_of (Err f) = []
 

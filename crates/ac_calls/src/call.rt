@@ -1,7 +1,7 @@
 //! A call, by its offsets in the text.
 
 ghost use Rattle.std.specs.Prelude.{◌≡◌, ◌+◌, ◌<◌, ◌≤◌, ◌^◌, length, map, IfOk, is_some};
-ghost use Rattle.m4quote.specs.Entry.{span};
+ghost use Rattle.m4quote.specs.ItemValue.{span};
 ghost use Rattle.ac_macros.specs.Table.{row_named};
 ghost use Rattle.ac_calls.specs.Calls as specs;
 

@@ -1,7 +1,7 @@
 //! Finds the calls of a text.
 
 ghost use Rattle.std.specs.Prelude.{◌≡◌, ◌+◌, ◌≤◌, [], ◌∷◌, ◌++◌, ◌↔◌, if◌then◌else◌, Contains, map, length, IfOk, OnOk};
-ghost use Rattle.m4quote.specs.Entry.{span, view, views};
+ghost use Rattle.m4quote.specs.ItemValue.{span, view, views};
 ghost use Rattle.m4quote.specs.Scan.{outcome};
 ghost use Rattle.ac_macros.specs.Table.{row_named};
 ghost use Rattle.ac_calls.specs.Calls as specs;

@@ -2,7 +2,7 @@
 use Rattle.std.proofs.Common.{◌≡◌, ℕ, ◌+◌, ◌-◌, ◌<◌, ◌≤◌, Bool, true, false, ◌||◌, eqb, eq-eqb, ne_eqb, List, [], ◌∷◌, ◌++◌, length, take, reverse, refl, sym, ap, subst, ◌∙◌, append_assoc, arith}
 use Rattle.std.specs.Prelude.{not}
 use Rattle.std.proofs.lemmas.List.{length-append, length-take-le, reverse-append, append-nil, map-append}
-use Rattle.m4quote.specs.Entry.{Span, Entry, call, bare, bare_before}
+use Rattle.m4quote.specs.ItemValue.{Span, ItemValue, call, bare, bare_before}
 use Rattle.m4quote.specs.Spelling.{Spells, nothing, bare_text, dropped_line, bare_name, with_arguments}
 use Rattle.m4quote.proofs.Insides.{front_fits}
 use Rattle.m4quote.proofs.ItemsLoop.{StartsFrom, bare_before-append}
@@ -21,7 +21,7 @@ free_before line_start at = line_start.free || not (reaches line_start at)
 
 -- The call at the front of these items is this sign among the signs, after those of `rev` in reverse.
 pub record Found (signs rev : List Sign) (line_start : LineStart) (name : List ℕ) (args : List Span) (at : ℕ)
-    (after : List Entry) : Type 0 where
+    (after : List ItemValue) : Type 0 where
   pub front : List Sign
   pub back : List Sign
   pub parts : signs ≡ front ++ call_sign at ∷ back
@@ -36,7 +36,7 @@ shifted more front rev =
 
 -- Signs in front of those in which it was found.
 later : (more signs rev : List Sign) (line_start : LineStart) (name : List ℕ) (args : List Span) (at : ℕ)
-    (after : List Entry)
+    (after : List ItemValue)
     → Found signs (reverse more ++ rev) line_start name args at after
     → Found (more ++ signs) rev line_start name args at after
 later more signs rev line_start name args at after f =
@@ -117,20 +117,20 @@ past_line (b ∷ bs) place at next line_start rev h lt to le =
 
 -- ---- the items before a call
 
-nothing_before : (before : List Entry) (i : Entry) (after : List Entry) → [] ≡ before ++ i ∷ after
+nothing_before : (before : List ItemValue) (i : ItemValue) (after : List ItemValue) → [] ≡ before ++ i ∷ after
     → ⊥
 nothing_before [] i after e = absurd cc
 nothing_before (x ∷ before) i after e = absurd cc
 
 -- The items after the pending text.
-record Peeled (text : List ℕ) (place : ℕ) (line_start : LineStart) (before items : List Entry) (i : Entry)
-    (after : List Entry) : Type 0 where
-  pub others : List Entry
+record Peeled (text : List ℕ) (place : ℕ) (line_start : LineStart) (before items : List ItemValue) (i : ItemValue)
+    (after : List ItemValue) : Type 0 where
+  pub others : List ItemValue
   pub parts : items ≡ others ++ i ∷ after
   pub same : line_start_after (line_start_with line_start place text) others ≡ line_start_after line_start before
 
-peeled : (text : List ℕ) (place : ℕ) (line_start : LineStart) (before items : List Entry) (name : List ℕ)
-    (args : List Span) (at : ℕ) (after : List Entry)
+peeled : (text : List ℕ) (place : ℕ) (line_start : LineStart) (before items : List ItemValue) (name : List ℕ)
+    (args : List Span) (at : ℕ) (after : List ItemValue)
     → bare_before place text [] ++ items ≡ before ++ call name args at ∷ after
     → Peeled text place line_start before items (call name args at) after
 peeled [] place line_start before items name args at after e =
@@ -140,7 +140,7 @@ peeled (b ∷ bs) place line_start (x ∷ before) items name args at after e =
     let first : bare (b ∷ bs) place ≡ x = cc in
     record { others = before; parts = cc; same = ap (λ i. line_start_after (line_start_of i) before) first }
 
-apart : (text : List ℕ) (place to : ℕ) (items : List Entry) → StartsFrom to items
+apart : (text : List ℕ) (place to : ℕ) (items : List ItemValue) → StartsFrom to items
     → place + length text < to → bare_before place text items ≡ bare_before place text [] ++ items
 apart [] place to items s lt = refl
 apart (b ∷ bs) place to [] s lt = refl
@@ -149,7 +149,7 @@ apart (b ∷ bs) place to (bare text at ∷ items) s lt =
     rw (ne_eqb at (place + length (b ∷ bs)) (λ e. omega (arith, e, s, lt))) refl
 
 apart_call : (text : List ℕ) (place : ℕ) (name : List ℕ) (args : List Span) (at : ℕ)
-    (items : List Entry)
+    (items : List ItemValue)
     → bare_before place text
     (call name args at ∷ items) ≡ bare_before place text [] ++ call name args at ∷ items
 apart_call [] place name args at items = refl
@@ -158,10 +158,10 @@ apart_call (b ∷ bs) place name args at items = refl
 -- ---- a call
 
 module _ (signs rev : List Sign) (at end : ℕ) (name : List ℕ) (args : List Span)
-    (items : List Entry) (reach : (to : ℕ) → end ≤ to → call_reaches name args at to ≡ eqb to end)
+    (items : List ItemValue) (reach : (to : ℕ) → end ≤ to → call_reaches name args at to ≡ eqb to end)
     (start : StartsFrom end items)
     (follows : signs_open ends_after signs ≡ after_at end items) where
-  this : (line_start : LineStart) (name' : List ℕ) (args' : List Span) (at' : ℕ) (after : List Entry)
+  this : (line_start : LineStart) (name' : List ℕ) (args' : List Span) (at' : ℕ) (after : List ItemValue)
       → free_before line_start at ≡ signs_open ends_before rev
       → call name args at ∷ items ≡ call name' args' at' ∷ after
       → Found (call_sign at ∷ signs) rev line_start name' args' at' after
@@ -183,10 +183,10 @@ module _ (signs rev : List Sign) (at end : ℕ) (name : List ℕ) (args : List S
             (free_after name args at end items reach start ∙ sym follows))));
       }
 
-  at_call : (line_start : LineStart) (others : List Entry) (name' : List ℕ) (args' : List Span) (at' : ℕ)
-      (after : List Entry)
+  at_call : (line_start : LineStart) (others : List ItemValue) (name' : List ℕ) (args' : List Span) (at' : ℕ)
+      (after : List ItemValue)
       → free_before line_start at ≡ signs_open ends_before rev
-      → ((more : List Entry) → items ≡ more ++ call name' args' at' ∷ after
+      → ((more : List ItemValue) → items ≡ more ++ call name' args' at' ∷ after
       → Found signs (call_sign at ∷ rev) (line_start_after no_line_start more) name' args' at' after)
       → call name args at ∷ items ≡ others ++ call name' args' at' ∷ after
       → Found (call_sign at ∷ signs) rev (line_start_after line_start others) name' args' at' after
@@ -214,10 +214,10 @@ after_line text place at next line_start rev h lt =
       past = λ e. past_line text place at next line_start rev h lt;
     }
 
-pub find : {at : ℕ} {text : List ℕ} {items : List Entry} → (s : Spells at text items)
+pub find : {at : ℕ} {text : List ℕ} {items : List ItemValue} → (s : Spells at text items)
     → (pending : List ℕ) (place : ℕ) (line_start : LineStart) (rev : List Sign)
     → Pending pending place at line_start rev
-    → (before : List Entry) (name : List ℕ) (args : List Span) (to : ℕ) (after : List Entry)
+    → (before : List ItemValue) (name : List ℕ) (args : List Span) (to : ℕ) (after : List ItemValue)
     → bare_before place pending items ≡ before ++ call name args to ∷ after
     → Found (signs_of s) rev (line_start_after line_start before) name args to after
 find nothing pending place line_start rev h before name args to after e =

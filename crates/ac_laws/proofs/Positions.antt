@@ -1,7 +1,7 @@
 -- A call is a statement exactly if it is apart.
 use Rattle.std.proofs.Common.{◌≡◌, true, ℕ, ◌+◌, ◌≤◌, List, [], ◌∷◌, ◌++◌, take, reverse, refl, sym, ap, subst, ◌∙◌, arith}
 use Rattle.std.proofs.lemmas.List.{append-nil}
-use Rattle.m4quote.specs.Entry.{Span, Entry, call}
+use Rattle.m4quote.specs.ItemValue.{Span, ItemValue, call}
 use Rattle.m4quote.specs.Spelling.{Spells, nothing, bare_text, dropped_line, bare_name, with_arguments}
 use Rattle.m4quote.proofs.Insides.{front_fits}
 use Rattle.ac_statement.specs.Stand.{no_line_start, line_start_of, is_statement}
@@ -35,7 +35,7 @@ Rises-bytes : (at : ℕ) (text : List ℕ) (signs : List Sign) → Rises at sign
 Rises-bytes at [] signs h = h
 Rises-bytes at (b ∷ bs) signs h = Rises-bytes at bs signs h
 
-rises : {at : ℕ} {text : List ℕ} {items : List Entry} → (s : Spells at text items)
+rises : {at : ℕ} {text : List ℕ} {items : List ItemValue} → (s : Spells at text items)
     → Rises at (signs_of s)
 rises nothing = tt
 rises (bare_text {at} {n} {kind} {text} {items} front is_bare rest) =
@@ -116,7 +116,7 @@ statements_are_apart base text before after name args at spelling =
 -- ---- calls of a list that is read
 
 item_parted : (list_kind : ListKind) (Inside : ListKind → Within) (c : declarations.Declarations)
-    (line_start : LineStart) (name : List ℕ) (args : List Span) (at : ℕ) (after : List Entry) (s : Script)
+    (line_start : LineStart) (name : List ℕ) (args : List Span) (at : ℕ) (after : List ItemValue) (s : Script)
     → IsItem list_kind Inside c line_start (call name args at) after s
     → is_statement line_start name args at after ≡ true
 item_parted list_kind Inside c line_start name args at after s (plain_call may is) = may.parted
@@ -126,8 +126,8 @@ item_parted list_kind Inside c line_start name args at after s (question may is 
 item_parted list_kind Inside c line_start name args at after s (check may message variable commands) =
     may.parted
 
-list_parted : (list_kind : ListKind) (Inside : ListKind → Within) (before : List Entry) (name : List ℕ)
-    (args : List Span) (at : ℕ) (after : List Entry) (c : declarations.Declarations) (line_start : LineStart)
+list_parted : (list_kind : ListKind) (Inside : ListKind → Within) (before : List ItemValue) (name : List ℕ)
+    (args : List Span) (at : ℕ) (after : List ItemValue) (c : declarations.Declarations) (line_start : LineStart)
     (s : Script)
     → AreStatements list_kind Inside c line_start (before ++ call name args at ∷ after) s
     → is_statement (line_start_after line_start before) name args at after ≡ true

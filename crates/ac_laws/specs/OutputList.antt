@@ -1,7 +1,7 @@
 -- Which outputs an argument lists, and what is wrong with one that lists none.
 use Rattle.std.specs.Prelude.{◌≡◌, ◌⊎◌, ◌↔◌, ℕ, ◌+◌, ◌<◌, ◌≤◌, true, false, List, [], ◌∷◌, ◌++◌, length, map, Ok, Err}
 use Rattle.std.specs.List.{AllByRecursion}
-use Rattle.m4quote.specs.Entry.{Span}
+use Rattle.m4quote.specs.ItemValue.{Span}
 use Rattle.text_cut.specs.Cuts.{fields}
 use Rattle.deftable.specs.NameList.{AreDistinct}
 use Rattle.output_list.specs.declared.output.Output.{Output}

@@ -1,7 +1,7 @@
 -- Which calls are statements, by what is before and after each on its line.
 use Rattle.std.specs.Prelude.{◌≡◌, ◌⊎◌, ◌↔◌, ℕ, true, List, [], ◌∷◌, ◌++◌}
 use Rattle.std.specs.List.{list_all}
-use Rattle.m4quote.specs.Entry.{Span, Entry, call}
+use Rattle.m4quote.specs.ItemValue.{Span, ItemValue, call}
 use Rattle.m4quote.specs.Spelling.{IsSpelling}
 use Rattle.ac_statement.specs.declared.placement.LineStart.{LineStart}
 use Rattle.ac_statement.specs.Stand.{is_space, no_line_start, line_start_of, is_statement}
@@ -54,13 +54,13 @@ pub record IsApart (signs : List Sign) (at : ℕ) : Type 0 where
   pub clear_after : IsClearAfter after
 
 -- What the last of the items is to a call after them. (own)
-abbrev pub line_start_after : LineStart → List Entry → LineStart
+abbrev pub line_start_after : LineStart → List ItemValue → LineStart
 line_start_after line_start [] = line_start
 line_start_after line_start (item ∷ items) = line_start_after (line_start_of item) items
 
 -- A call of a text is a statement exactly if it is apart. (own)
 abbrev pub StatementsAreApart : Type 0
-StatementsAreApart = (base : ℕ) (text : List ℕ) (before after : List Entry)
+StatementsAreApart = (base : ℕ) (text : List ℕ) (before after : List ItemValue)
     (name : List ℕ) (args : List Span) (at : ℕ)
     → (spelling : IsSpelling base text (before ++ call name args at ∷ after))
     → (is_statement (line_start_after no_line_start before) name args at after ≡ true) ↔ IsApart (signs_of spelling.spells) at
@@ -69,7 +69,7 @@ StatementsAreApart = (base : ℕ) (text : List ℕ) (before after : List Entry)
 -- (own)
 abbrev pub ReadAreApart : Type 0
 ReadAreApart = (list_kind : ListKind) (room : ℕ) (c : declarations.Declarations)
-    (base : ℕ) (text : List ℕ) (before after : List Entry)
+    (base : ℕ) (text : List ℕ) (before after : List ItemValue)
     (name : List ℕ) (args : List Span) (at : ℕ) (s : Script)
     → (spelling : IsSpelling base text (before ++ call name args at ∷ after))
     → AreStatements list_kind (IsBody room) c no_line_start (before ++ call name args at ∷ after) s

@@ -9,7 +9,7 @@ use Rattle.std.specs.Cmp.Lexicographic.{nat_list_eq_equiv}
 use Rattle.deftable.specs.NameList.{with_name, has_name, AreDistinct}
 use Rattle.deftable.proofs.Names.{has_name-with_name, with_name-known, with_name-new, AreDistinct-with_name}
 use Rattle.text_cut.specs.Cuts.{fields}
-use Rattle.m4quote.specs.Entry.{Span}
+use Rattle.m4quote.specs.ItemValue.{Span}
 use Rattle.ac_statement.specs.declared.fault.ParseFault.{ParseFault}
 use Rattle.ac_statement.specs.declared.fault.ParseFault.TheVariants.{BadName}
 use Rattle.output_list.specs.declared.output.Output.{Output}

@@ -5,7 +5,7 @@
 -- error that is reported is that of the first argument that has one. So are the other libraries of AC_CHECK_LIB and
 -- AC_SEARCH_LIBS, which are the fifth.
 use Rattle.std.specs.Prelude.{List, None, Result, Ok}
-use Rattle.m4quote.specs.Entry.{Span}
+use Rattle.m4quote.specs.ItemValue.{Span}
 use Rattle.ac_statement.specs.declared.fault.ParseFault.{ParseFault}
 use Rattle.ac_statement.specs.Reading.{◌>>=◌}
 use Rattle.ac_statement.specs.Texts.{arg_at}

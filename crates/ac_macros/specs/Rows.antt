@@ -1,7 +1,7 @@
 -- The readers of macros: for each macro the form of its arguments, from the left, and the statement that it makes: what it
 -- does, and what it declares if it declares something. If an argument has an error, it is that of the first such argument.
 use Rattle.std.specs.Prelude.{ℕ, List, length, Result, Ok, nat_lt, codes, if◌then◌else◌}
-use Rattle.m4quote.specs.Entry.{Span}
+use Rattle.m4quote.specs.ItemValue.{Span}
 use Rattle.ac_statement.specs.declared.fault.ParseFault.{ParseFault}
 use Rattle.ac_statement.specs.declared.fault.ParseFault.TheVariants.{TooMany}
 use Rattle.ac_args.specs.Arguments.{text, name, title, line, is_given}

@@ -1,7 +1,7 @@
 -- Readers of macros that look for programs. (Autoconf's manual, "Generic Programs" and "C Compiler")
 use Rattle.std.specs.Prelude.{ℕ, ◌+◌, Bool, List, [], ◌∷◌, length, Option, Some, None, Result, Ok, nat_le, codes, if◌then◌else◌}
 use Rattle.deftable.specs.NameList.{has_name}
-use Rattle.m4quote.specs.Entry.{Span}
+use Rattle.m4quote.specs.ItemValue.{Span}
 use Rattle.shellword.specs.declared.part.Part.{Part}
 use Rattle.ac_statement.specs.declared.fault.ParseFault.{ParseFault}
 use Rattle.ac_statement.specs.declared.fault.ParseFault.TheVariants.{TooMany}

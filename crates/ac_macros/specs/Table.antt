@@ -2,7 +2,7 @@
 -- calls take, and whether they are allowed only in the file's own list of statements.
 use Rattle.std.specs.Prelude.{ℕ, Bool, true, false, not, ◌&&◌, List, [], ◌∷◌, length, Option, Some, None, nat_le, codes, if◌then◌else◌}
 use Rattle.std.specs.Str.{bytes_eq}
-use Rattle.m4quote.specs.Entry.{Span}
+use Rattle.m4quote.specs.ItemValue.{Span}
 use Rattle.ac_args.specs.Arguments.{is_given}
 use Rattle.ac_statement.specs.Texts.{arg_at}
 use Rattle.ac_macros.specs.declared.macros.ActMacro.TheVariants.{Prereq, Ignored, Lang, Define, DefineUnquoted, MsgError, Message}
@@ -17,7 +17,7 @@ use Rattle.ac_macros.specs.declared.macros.QuestionMacro.TheVariants.{Given, Tri
 use Rattle.ac_macros.specs.declared.table.Row.{Row}
 use Rattle.ac_tree.specs.declared.feature.OptionKind.TheVariants.{Feature, Package}
 use Rattle.ac_tree.specs.declared.listed.Listed.TheVariants.{Header, Function, Declaration}
-use Rattle.ac_tree.specs.declared.listed.Sought.TheVariants.{Entry, «Type»}
+use Rattle.ac_tree.specs.declared.listed.Sought.TheVariants.{ListEntry, «Type»}
 use Rattle.ac_tree.specs.declared.statement.Message.TheVariants.{Checking, Results, Notice, Warning}
 use Rattle.ac_tree.specs.declared.statement.OutputKind.TheVariants as outputs
 use Rattle.ac_tree.specs.declared.program.Try.TheVariants.{Compile, Link, Preproc, Run}
@@ -58,13 +58,13 @@ rows =
     ∷ (codes "AC_CHECK_PROG", Statement (Plain (Declares CheckProg)), 3, 4, false)
     ∷ (codes "AC_CHECK_PROGS", Statement (Plain (Declares CheckProgs)), 2, 3, false)
     ∷ (codes "AC_PATH_PROG", Statement (Plain (Declares PathProg)), 2, 3, false)
-    ∷ (codes "AC_CHECK_HEADER", Statement (Question (Checks (Entry Header))), 1, 4, false)
-    ∷ (codes "AC_CHECK_FUNC", Statement (Question (Checks (Entry Function))), 1, 3, false)
-    ∷ (codes "AC_CHECK_DECL", Statement (Question (Checks (Entry Declaration))), 1, 4, false)
+    ∷ (codes "AC_CHECK_HEADER", Statement (Question (Checks (ListEntry Header))), 1, 4, false)
+    ∷ (codes "AC_CHECK_FUNC", Statement (Question (Checks (ListEntry Function))), 1, 3, false)
+    ∷ (codes "AC_CHECK_DECL", Statement (Question (Checks (ListEntry Declaration))), 1, 4, false)
     ∷ (codes "AC_CHECK_TYPE", Statement (Question (Checks «Type»)), 1, 4, false)
-    ∷ (codes "AC_CHECK_HEADERS", Statement (Question (ChecksEach (Entry Header))), 1, 4, false)
-    ∷ (codes "AC_CHECK_FUNCS", Statement (Question (ChecksEach (Entry Function))), 1, 3, false)
-    ∷ (codes "AC_CHECK_DECLS", Statement (Question (ChecksEach (Entry Declaration))), 1, 4, false)
+    ∷ (codes "AC_CHECK_HEADERS", Statement (Question (ChecksEach (ListEntry Header))), 1, 4, false)
+    ∷ (codes "AC_CHECK_FUNCS", Statement (Question (ChecksEach (ListEntry Function))), 1, 3, false)
+    ∷ (codes "AC_CHECK_DECLS", Statement (Question (ChecksEach (ListEntry Declaration))), 1, 4, false)
     ∷ (codes "AC_CHECK_TYPES", Statement (Question (ChecksEach «Type»)), 1, 4, false)
     ∷ (codes "AC_CHECK_LIB", Statement (Question Library), 2, 5, false)
     ∷ (codes "AC_SEARCH_LIBS", Statement (Question Libraries), 2, 5, false)

@@ -1,7 +1,7 @@
 -- Readers of macros that try programs, and of the programs that they try. (Autoconf's manual, "Running the Compiler"
 -- and "Generating Sources")
 use Rattle.std.specs.Prelude.{ℕ, ◌==◌, List, length, Option, Some, None, Result, Ok, Err, nat_le, codes}
-use Rattle.m4quote.specs.Entry.{Span}
+use Rattle.m4quote.specs.ItemValue.{Span}
 use Rattle.ac_statement.specs.declared.fault.ParseFault.{ParseFault}
 use Rattle.ac_statement.specs.declared.fault.ParseFault.TheVariants.{UnknownStatement, ArgCount}
 use Rattle.ac_statement.specs.Texts.{arg_at}
@@ -29,7 +29,7 @@ unfoldable pub lang_source : List Span → ℕ → Result Program ParseFault
 lang_source args at = do
   _ ← wants (length args == 1) (ArgCount at)
   t ← source_text (arg_at args 0)
-  Ok (made.Source t)
+  Ok (made.Whole t)
 
 -- The program of one of the two calls, in an argument at this offset. (own)
 abbrev pub called : ℕ → Option Called → Option Called → Result Program ParseFault

@@ -2,7 +2,7 @@
 //! "Generic Headers", "Generic Functions", "Generic Declarations" and "Generic Types").
 
 ghost use Rattle.std.specs.Prelude.{◌≡◌, map};
-ghost use Rattle.m4quote.specs.Entry.{span};
+ghost use Rattle.m4quote.specs.ItemValue.{span};
 ghost use Rattle.ac_statement.specs.Reading.{Gives};
 ghost use Rattle.ac_macros.specs.Checks as rows;
 

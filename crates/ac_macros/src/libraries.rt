@@ -1,7 +1,7 @@
 //! Readers of macros that look for libraries (Autoconf's manual, "Library Files").
 
 ghost use Rattle.std.specs.Prelude.{◌≡◌, map};
-ghost use Rattle.m4quote.specs.Entry.{span};
+ghost use Rattle.m4quote.specs.ItemValue.{span};
 ghost use Rattle.ac_statement.specs.Reading.{Gives};
 ghost use Rattle.ac_macros.specs.Libraries as rows;
 
@@ -21,7 +21,7 @@ pub(crate) fn check_lib(alloc: Global, args: &[Arg<'_>]) -> Result<Question, Par
     ensures { Gives (λ q. q) result (rows.check_lib (map span args.now)) }
 {
     let library = library(alloc, arg_at(args, 0))?;
-    let function = entry(alloc, Sought::Entry(Listed::Function), arg_at(args, 1))?;
+    let function = entry(alloc, Sought::ListEntry(Listed::Function), arg_at(args, 1))?;
     Ok(Question::Library {
         library,
         function,
@@ -35,7 +35,7 @@ pub(crate) fn check_lib(alloc: Global, args: &[Arg<'_>]) -> Result<Question, Par
 pub(crate) fn search_libs(alloc: Global, args: &[Arg<'_>]) -> Result<Question, ParseFault>
     ensures { Gives (λ q. q) result (rows.search_libs (map span args.now)) }
 {
-    let function = entry(alloc, Sought::Entry(Listed::Function), arg_at(args, 0))?;
+    let function = entry(alloc, Sought::ListEntry(Listed::Function), arg_at(args, 0))?;
     let names = libraries(alloc, arg_at(args, 1))?;
     Ok(Question::Libraries {
         function,

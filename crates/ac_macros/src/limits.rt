@@ -1,7 +1,7 @@
 //! The limits of a source's lists, kept by each statement.
 
 ghost use Rattle.std.specs.Prelude.{◌≡◌, ℕ, ◌≤◌, List, length, Ok};
-ghost use Rattle.m4quote.specs.Entry.{Span};
+ghost use Rattle.m4quote.specs.ItemValue.{Span};
 ghost use Rattle.ac_macros.specs.declared.macros.PlainMacro.{PlainMacro};
 ghost use Rattle.ac_macros.specs.declared.macros.QuestionMacro.{QuestionMacro};
 ghost use Rattle.ac_tree.specs.declared.declarations.Declarations.{Declarations};

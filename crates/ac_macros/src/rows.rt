@@ -1,7 +1,7 @@
 //! A reader for each macro, which reads its arguments from the left.
 
 ghost use Rattle.std.specs.Prelude.{◌≡◌, Result, map};
-ghost use Rattle.m4quote.specs.Entry.{span};
+ghost use Rattle.m4quote.specs.ItemValue.{span};
 ghost use Rattle.ac_statement.specs.Reading.{Gives};
 ghost use Rattle.ac_macros.specs.Rows as rows;
 ghost use Rattle.ac_statement.specs.declared.fault.ParseFault as faults;

@@ -2,7 +2,7 @@
 //! Compiler").
 
 ghost use Rattle.std.specs.Prelude.{◌≡◌, map, IfOk};
-ghost use Rattle.m4quote.specs.Entry.{span};
+ghost use Rattle.m4quote.specs.ItemValue.{span};
 ghost use Rattle.ac_statement.specs.Reading.{Gives};
 ghost use Rattle.ac_macros.specs.Searches as rows;
 ghost use Rattle.ac_tree.specs.declared.statement.Declares.TheVariants.{Variable};

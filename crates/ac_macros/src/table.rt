@@ -1,7 +1,7 @@
 //! The table of macros: a row for each name.
 
 ghost use Rattle.std.specs.Prelude.{◌≡◌, map, length, IfOk};
-ghost use Rattle.m4quote.specs.Entry.{span};
+ghost use Rattle.m4quote.specs.ItemValue.{span};
 ghost use Rattle.ac_macros.specs.Table as table;
 
 use crate::macros::Macro::{Check, Choice, Plain, Question};
@@ -64,13 +64,13 @@ const TABLE: [(&[u8], Named, usize, usize, bool); 45] = [
     (b"AC_CHECK_PROG", Statement(Plain(Declares(DeclaringMacro::CheckProg))), 3, 4, false),
     (b"AC_CHECK_PROGS", Statement(Plain(Declares(DeclaringMacro::CheckProgs))), 2, 3, false),
     (b"AC_PATH_PROG", Statement(Plain(Declares(DeclaringMacro::PathProg))), 2, 3, false),
-    (b"AC_CHECK_HEADER", Statement(Question(QuestionMacro::Checks(Sought::Entry(Listed::Header)))), 1, 4, false),
-    (b"AC_CHECK_FUNC", Statement(Question(QuestionMacro::Checks(Sought::Entry(Listed::Function)))), 1, 3, false),
-    (b"AC_CHECK_DECL", Statement(Question(QuestionMacro::Checks(Sought::Entry(Listed::Declaration)))), 1, 4, false),
+    (b"AC_CHECK_HEADER", Statement(Question(QuestionMacro::Checks(Sought::ListEntry(Listed::Header)))), 1, 4, false),
+    (b"AC_CHECK_FUNC", Statement(Question(QuestionMacro::Checks(Sought::ListEntry(Listed::Function)))), 1, 3, false),
+    (b"AC_CHECK_DECL", Statement(Question(QuestionMacro::Checks(Sought::ListEntry(Listed::Declaration)))), 1, 4, false),
     (b"AC_CHECK_TYPE", Statement(Question(QuestionMacro::Checks(Sought::Type))), 1, 4, false),
-    (b"AC_CHECK_HEADERS", Statement(Question(QuestionMacro::ChecksEach(Sought::Entry(Listed::Header)))), 1, 4, false),
-    (b"AC_CHECK_FUNCS", Statement(Question(QuestionMacro::ChecksEach(Sought::Entry(Listed::Function)))), 1, 3, false),
-    (b"AC_CHECK_DECLS", Statement(Question(QuestionMacro::ChecksEach(Sought::Entry(Listed::Declaration)))), 1, 4, false),
+    (b"AC_CHECK_HEADERS", Statement(Question(QuestionMacro::ChecksEach(Sought::ListEntry(Listed::Header)))), 1, 4, false),
+    (b"AC_CHECK_FUNCS", Statement(Question(QuestionMacro::ChecksEach(Sought::ListEntry(Listed::Function)))), 1, 3, false),
+    (b"AC_CHECK_DECLS", Statement(Question(QuestionMacro::ChecksEach(Sought::ListEntry(Listed::Declaration)))), 1, 4, false),
     (b"AC_CHECK_TYPES", Statement(Question(QuestionMacro::ChecksEach(Sought::Type))), 1, 4, false),
     (b"AC_CHECK_LIB", Statement(Question(QuestionMacro::Library)), 2, 5, false),
     (b"AC_SEARCH_LIBS", Statement(Question(QuestionMacro::Libraries)), 2, 5, false),

@@ -2,7 +2,7 @@
 //! Sources").
 
 ghost use Rattle.std.specs.Prelude.{◌≡◌, map};
-ghost use Rattle.m4quote.specs.Entry.{span};
+ghost use Rattle.m4quote.specs.ItemValue.{span};
 ghost use Rattle.ac_statement.specs.Reading.{Gives};
 ghost use Rattle.ac_macros.specs.Tries as rows;
 
@@ -38,7 +38,7 @@ fn lang_source(alloc: Global, args: &[Arg<'_>], at: usize) -> Result<Program, Pa
         return Err(ParseFault::ArgCount(at));
     }
     let text = source_text(alloc, arg_at(args, 0))?;
-    Ok(Program::Source { text })
+    Ok(Program::Whole { text })
 }
 
 /// Reads the program of an argument that is one call of AC_LANG_PROGRAM or AC_LANG_SOURCE.

@@ -6,7 +6,7 @@ use Rattle.std.proofs.lemmas.List.Elements.{filter-append}
 use Rattle.std.proofs.lemmas.List.Sums.{prefix_len_passes}
 use Rattle.std.proofs.lemmas.Bool.{cases_lt, eqb-true}
 use Rattle.std.proofs.Math.Seq.{take-add}
-use Rattle.m4quote.specs.Entry.{Span, Entry, call, bare, bare_before}
+use Rattle.m4quote.specs.ItemValue.{Span, ItemValue, call, bare, bare_before}
 use Rattle.m4quote.specs.Text.{is_blank, blank_len}
 use Rattle.m4quote.specs.Spelling.{IsInside, AreArguments, last, more, argument_of, Spells, nothing, bare_text, dropped_line, bare_name, with_arguments}
 use Rattle.m4quote.proofs.Insides.{front_fits}
@@ -65,11 +65,11 @@ abbrev pub in_arguments : List Span → ℕ
 in_arguments [] = 0
 in_arguments (a ∷ args) = brackets a.text + in_arguments args
 
-abbrev in_item : Entry → ℕ
+abbrev in_item : ItemValue → ℕ
 in_item (call name args at) = in_arguments args
 in_item (bare text at) = 0
 
-abbrev in_calls : List Entry → ℕ
+abbrev in_calls : List ItemValue → ℕ
 in_calls [] = 0
 in_calls (item ∷ items) = in_item item + in_calls items
 
@@ -77,11 +77,11 @@ less_arguments-is : (n : ℕ) (args : List Span) → less_arguments n args ≡ n
 less_arguments-is n [] = omega arith
 less_arguments-is n (a ∷ args) = less_arguments-is (n - brackets a.text) args ∙ omega arith
 
-less_item-is : (n : ℕ) (item : Entry) → less_item n item ≡ n - in_item item
+less_item-is : (n : ℕ) (item : ItemValue) → less_item n item ≡ n - in_item item
 less_item-is n (call name args at) = less_arguments-is n args
 less_item-is n (bare text at) = omega arith
 
-less_calls-is : (n : ℕ) (items : List Entry) → less_calls n items ≡ n - in_calls items
+less_calls-is : (n : ℕ) (items : List ItemValue) → less_calls n items ≡ n - in_calls items
 less_calls-is n [] = omega arith
 less_calls-is n (item ∷ items) = less_calls-is (less_item n item) items ∙ ap (λ m. m - in_calls items) (less_item-is n item) ∙ omega arith
 
@@ -181,26 +181,26 @@ arguments-cover (more {at} {n} {m} {text} {after} {args} inside ends later) =
 -- ---- items
 
 -- The counts of a text and of the items that it spells.
-record Counts (at : ℕ) (text : List ℕ) (items : List Entry) : Type 0 where
+record Counts (at : ℕ) (text : List ℕ) (items : List ItemValue) : Type 0 where
   low : (p : ℕ) → Any (IsInCall p) items → at ≤ p
   less : in_calls items ≤ brackets text
   to : brackets text ≤ in_calls items → HasBracketsInCallsAlone at text items
   from : HasBracketsInCallsAlone at text items → brackets text ≤ in_calls items
 
 -- After n bytes, the rest of a text has its brackets in calls.
-after_alone : (at n : ℕ) (text : List ℕ) (items : List Entry) → n ≤ length text → HasBracketsInCallsAlone at text items → HasBracketsInCallsAlone (at + n) (drop n text) items
+after_alone : (at n : ℕ) (text : List ℕ) (items : List ItemValue) → n ≤ length text → HasBracketsInCallsAlone at text items → HasBracketsInCallsAlone (at + n) (drop n text) items
 after_alone at n text items fits alone = λ k lt is.
     (let there : Any (IsInCall (at + (n + k))) items = alone (n + k) (omega (arith, lt, length-drop n text)) (ap is_bracket (sym (get_or-drop n text k 0)) ∙ is) in
     subst (λ p. Any (IsInCall p) items) (let e : at + (n + k) ≡ at + n + k = omega arith in e) there)
 
 -- The same from the rest on.
-before_alone : (at n k : ℕ) (text : List ℕ) (items : List Entry) → n ≤ k → k < length text → is_bracket (get_or text k 0) ≡ true → HasBracketsInCallsAlone (at + n) (drop n text) items → Any (IsInCall (at + k)) items
+before_alone : (at n k : ℕ) (text : List ℕ) (items : List ItemValue) → n ≤ k → k < length text → is_bracket (get_or text k 0) ≡ true → HasBracketsInCallsAlone (at + n) (drop n text) items → Any (IsInCall (at + k)) items
 before_alone at n k text items high lt is alone =
     let byte : get_or (drop n text) (k - n) 0 ≡ get_or text k 0 = get_or-drop n text (k - n) 0 ∙ ap (λ m. get_or text m 0) (let e : n + (k - n) ≡ k = omega arith in e) in
     subst (λ p. Any (IsInCall p) items) (let e : at + n + (k - n) ≡ at + k = omega arith in e) (alone (k - n) (omega (arith, length-drop n text)) (ap is_bracket byte ∙ is))
 
 -- N bytes more before it, which are in no call.
-longer : (at n : ℕ) (text : List ℕ) (items : List Entry) → n ≤ length text → Counts (at + n) (drop n text) items → Counts at text items
+longer : (at n : ℕ) (text : List ℕ) (items : List ItemValue) → n ≤ length text → Counts (at + n) (drop n text) items → Counts at text items
 longer at n text items fits rest =
     let parts = brackets-parts n text in
     let len : length (take n text) ≡ n = length-take-le n text fits in
@@ -220,10 +220,10 @@ longer at n text items fits rest =
     }
 
 -- A call before them, whose arguments are in the first m bytes.
-with_call : (at m : ℕ) (text name : List ℕ) (args : List Span) (place : ℕ) (items : List Entry) → Covers at text args m → Counts (at + m) (drop m text) items → Counts at text (call name args place ∷ items)
+with_call : (at m : ℕ) (text name : List ℕ) (args : List Span) (place : ℕ) (items : List ItemValue) → Covers at text args m → Counts (at + m) (drop m text) items → Counts at text (call name args place ∷ items)
 with_call at m text name args place items first rest =
     let parts = brackets-parts m text in
-    let item : Entry = call name args place in
+    let item : ItemValue = call name args place in
     record {
       low = λ p h. elim (split (IsInCall p) item items h) [
         | inl in_this ↦ (first.within p in_this).0
@@ -244,12 +244,12 @@ with_call at m text name args place items first rest =
     }
 
 -- Lists that have the same calls.
-record Same (a b : List Entry) : Type 0 where
+record Same (a b : List ItemValue) : Type 0 where
   count : in_calls a ≡ in_calls b
   to : (p : ℕ) → Any (IsInCall p) a → Any (IsInCall p) b
   from : (p : ℕ) → Any (IsInCall p) b → Any (IsInCall p) a
 
-same-Counts : (at : ℕ) (text : List ℕ) (a b : List Entry) → Same a b → Counts at text a → Counts at text b
+same-Counts : (at : ℕ) (text : List ℕ) (a b : List ItemValue) → Same a b → Counts at text a → Counts at text b
 same-Counts at text a b same h = record {
   low = λ p k. h.low p (same.from p k);
   less = omega (arith, same.count, h.less);
@@ -257,35 +257,35 @@ same-Counts at text a b same h = record {
   from = λ alone. omega (arith, same.count, h.from (λ k lt is. same.from (at + k) (alone k lt is)));
 }
 
-same : (items : List Entry) → Same items items
+same : (items : List ItemValue) → Same items items
 same items = record { count = refl; to = λ p h. h; from = λ p h. h }
 
 -- An item without arguments.
-more_plain : (item : Entry) (items : List Entry) → in_item item ≡ 0 → ((p : ℕ) → IsInCall p item → ⊥) → Same items (item ∷ items)
+more_plain : (item : ItemValue) (items : List ItemValue) → in_item item ≡ 0 → ((p : ℕ) → IsInCall p item → ⊥) → Same items (item ∷ items)
 more_plain item items none apart = record {
   count = omega (arith, none);
   to = λ p h. there (IsInCall p) item items h;
   from = λ p h. elim (split (IsInCall p) item items h) [ inl in_this ↦ absurd (apart p in_this) | inr later ↦ later ];
 }
 
-other_plain : (a b : Entry) (items : List Entry) → in_item a ≡ 0 → in_item b ≡ 0 → ((p : ℕ) → IsInCall p a → ⊥) → ((p : ℕ) → IsInCall p b → ⊥) → Same (a ∷ items) (b ∷ items)
+other_plain : (a b : ItemValue) (items : List ItemValue) → in_item a ≡ 0 → in_item b ≡ 0 → ((p : ℕ) → IsInCall p a → ⊥) → ((p : ℕ) → IsInCall p b → ⊥) → Same (a ∷ items) (b ∷ items)
 other_plain a b items none none' apart apart' = record {
   count = omega (arith, none, none');
   to = λ p h. elim (split (IsInCall p) a items h) [ inl in_this ↦ absurd (apart p in_this) | inr later ↦ there (IsInCall p) b items later ];
   from = λ p h. elim (split (IsInCall p) b items h) [ inl in_this ↦ absurd (apart' p in_this) | inr later ↦ there (IsInCall p) a items later ];
 }
 
-joined_or_not : (t : Bool) (at to : ℕ) (a b : List ℕ) (items : List Entry) → Same (bare b to ∷ items) (cond t (bare (a ++ b) at ∷ items) (bare a at ∷ bare b to ∷ items))
+joined_or_not : (t : Bool) (at to : ℕ) (a b : List ℕ) (items : List ItemValue) → Same (bare b to ∷ items) (cond t (bare (a ++ b) at ∷ items) (bare a at ∷ bare b to ∷ items))
 joined_or_not true at to a b items = other_plain (bare b to) (bare (a ++ b) at) items refl refl (λ p h. h) (λ p h. h)
 joined_or_not false at to a b items = more_plain (bare a at) (bare b to ∷ items) refl (λ p h. h)
 
-bare_before-same : (at : ℕ) (text : List ℕ) (items : List Entry) → Same items (bare_before at text items)
+bare_before-same : (at : ℕ) (text : List ℕ) (items : List ItemValue) → Same items (bare_before at text items)
 bare_before-same at [] items = same items
 bare_before-same at (b ∷ bs) [] = more_plain (bare (b ∷ bs) at) [] refl (λ p h. h)
 bare_before-same at (b ∷ bs) (call name args to ∷ items) = more_plain (bare (b ∷ bs) at) (call name args to ∷ items) refl (λ p h. h)
 bare_before-same at (b ∷ bs) (bare text to ∷ items) = joined_or_not (eqb to (at + length (b ∷ bs))) at to (b ∷ bs) text items
 
-Spells-Counts : {at : ℕ} {text : List ℕ} {items : List Entry} → Spells at text items → Counts at text items
+Spells-Counts : {at : ℕ} {text : List ℕ} {items : List ItemValue} → Spells at text items → Counts at text items
 Spells-Counts nothing = record {
   low = λ p h. absurd (none_of (IsInCall p) h);
   less = omega arith;
@@ -298,14 +298,14 @@ Spells-Counts (dropped_line {at} {n} {text} {items} front later) = longer at n t
 Spells-Counts (bare_name {at} {n} {text} {items} front no_args later) =
     same-Counts at text items (call (take n text) [] at ∷ items) (more_plain (call (take n text) [] at) items refl (λ p h. none_of (HasByteAt p) h)) (longer at n text items (front_fits front).1 (Spells-Counts later))
 Spells-Counts (with_arguments {at} {n} {m} {text} {inside} {args} {items} front opens given later) =
-    let items' : List Entry = call (take n text) args at ∷ items in
+    let items' : List ItemValue = call (take n text) args at ∷ items in
     let called : Counts (at + n + 1) inside items' = with_call (at + n + 1) m inside (take n text) args at items (arguments-cover given) (Spells-Counts later) in
     let opened : Counts (at + n) (40 ∷ inside) items' = longer (at + n) 1 (40 ∷ inside) items' (omega arith) called in
     longer at n text items' (front_fits front).1 (subst (λ (t : List ℕ). Counts (at + n) t items') (sym opens) opened)
 
 -- ---- the two tests
 
-module _ (at : ℕ) (text : List ℕ) (items : List Entry) (spelled : Spells at text items) where
+module _ (at : ℕ) (text : List ℕ) (items : List ItemValue) (spelled : Spells at text items) where
   pub unquoted-alone : is_unquoted text items ≡ true → HasBracketsInCallsAlone at text items
   unquoted-alone h =
       let counted = Spells-Counts spelled in

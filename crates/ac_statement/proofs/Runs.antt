@@ -7,7 +7,7 @@ use Rattle.std.proofs.lemmas.List.Folds.{list_all-append}
 use Rattle.std.proofs.lemmas.List.Sums.{prefix_len-le-length}
 use Rattle.std.proofs.Math.Seq.{take-append_seam}
 use Rattle.text_cut.specs.Cuts.{is_blank, front_trimmed, trimmed}
-use Rattle.m4quote.specs.Entry.{Span}
+use Rattle.m4quote.specs.ItemValue.{Span}
 use Rattle.m4quote.specs.Spelling.{Balanced, empty, byte, group}
 use Rattle.m4quote.specs.Scan.{closing}
 use Rattle.m4quote.specs.declared.fault.QuoteFault.{QuoteFault}

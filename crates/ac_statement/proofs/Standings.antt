@@ -7,7 +7,7 @@ use Rattle.std.proofs.Math.Seq.{drop-append_seam}
 use Rattle.text_cut.specs.Cuts.{is_blank}
 use Rattle.m4quote.specs.declared.fault.QuoteFault.{QuoteFault}
 use Rattle.m4quote.specs.declared.fault.QuoteFault.TheVariants as quote
-use Rattle.m4quote.specs.Entry.{Span, Entry, call, bare}
+use Rattle.m4quote.specs.ItemValue.{Span, ItemValue, call, bare}
 use Rattle.m4quote.specs.Faults.{IsFirstFault}
 use Rattle.m4quote.specs.Parts.{ArePartsOf}
 use Rattle.m4quote.specs.Scan.{outcome}
@@ -29,7 +29,7 @@ some s = Some s
 
 -- ---- the one bare text that is not blank
 
-only-IsAllBut : (items : List Entry) (s : Span) → only_text items ≡ Some s → IsAllBut items s
+only-IsAllBut : (items : List ItemValue) (s : Span) → only_text items ≡ Some s → IsAllBut items s
 only-IsAllBut [] s e = absurd cc
 only-IsAllBut (call name args at ∷ items) s e = absurd cc
 only-IsAllBut (bare t at ∷ items) s e =
@@ -39,7 +39,7 @@ only-IsAllBut (bare t at ∷ items) s e =
           record {
             before = bare t at ∷ rest.before;
             after = rest.after;
-            parts = ap (λ (l : List Entry). bare t at ∷ l) rest.parts;
+            parts = ap (λ (l : List ItemValue). bare t at ∷ l) rest.parts;
             blank_before = rw (blank, rest.blank_before) refl;
             blank_after = rest.blank_after;
           })
@@ -53,7 +53,7 @@ only-IsAllBut (bare t at ∷ items) s e =
         let place : at ≡ s.at = cc in
         record { before = []; after = items; parts = rw (text, place) refl; blank_before = refl; blank_after = blank }
 
-IsAllBut-only : (before after : List Entry) (t : List ℕ) (at : ℕ) → are_blank before ≡ true → are_blank after ≡ true → is_all_blank t ≡ false → only_text (before ++ bare t at ∷ after) ≡ Some (record { text = t; at = at })
+IsAllBut-only : (before after : List ItemValue) (t : List ℕ) (at : ℕ) → are_blank before ≡ true → are_blank after ≡ true → is_all_blank t ≡ false → only_text (before ++ bare t at ∷ after) ≡ Some (record { text = t; at = at })
 IsAllBut-only [] after t at h k other = rw (other, k) refl
 IsAllBut-only (call name args to ∷ before) after t at h k other = absurd cc
 IsAllBut-only (bare u to ∷ before) after t at h k other =
@@ -67,7 +67,7 @@ run_not_blank s inside r =
     ap is_all_blank r.parts ∙ list_all-append is_blank r.before _ ∙ rw r.blank_before refl
 
 -- No call is beside it.
-no_call_in_blank : (p : ℕ) (items : List Entry) → are_blank items ≡ true → Any (IsInCall p) items → ⊥
+no_call_in_blank : (p : ℕ) (items : List ItemValue) → are_blank items ≡ true → Any (IsInCall p) items → ⊥
 no_call_in_blank p [] blank h = none_of (IsInCall p) h
 no_call_in_blank p (call name args at ∷ items) blank h = absurd cc
 no_call_in_blank p (bare t at ∷ items) blank h =
@@ -80,7 +80,7 @@ no_call_in_blank p (bare t at ∷ items) blank h =
           ])
     ]
 
-no_call_beside : (p : ℕ) (before after : List Entry) (t : List ℕ) (at : ℕ) → are_blank before ≡ true → are_blank after ≡ true → Any (IsInCall p) (before ++ bare t at ∷ after) → ⊥
+no_call_beside : (p : ℕ) (before after : List ItemValue) (t : List ℕ) (at : ℕ) → are_blank before ≡ true → are_blank after ≡ true → Any (IsInCall p) (before ++ bare t at ∷ after) → ⊥
 no_call_beside p [] after t at h k any =
     elim (split (IsInCall p) (bare t at) after any) [ inl this ↦ this | inr later ↦ no_call_in_blank p after k later ]
 no_call_beside p (call name args to ∷ before) after t at h k any = absurd cc
@@ -95,7 +95,7 @@ no_call_beside p (bare u to ∷ before) after t at h k any =
     ]
 
 -- A run's bracket is in no call.
-run_alone : (base : ℕ) (text : List ℕ) (items : List Entry) (s inside : Span) → ArePartsOf base text items → only_text items ≡ Some s → IsRun s inside → HasBracketsInCallsAlone base text items → ⊥
+run_alone : (base : ℕ) (text : List ℕ) (items : List ItemValue) (s inside : Span) → ArePartsOf base text items → only_text items ≡ Some s → IsRun s inside → HasBracketsInCallsAlone base text items → ⊥
 run_alone base text items s inside parts only r alone =
     let all = only-IsAllBut items s only in
     let part = part_of base text items s parts only in
@@ -133,7 +133,7 @@ run_of None t e = absurd cc
 run_of (Some s) t e = (s, refl, e)
 
 module _ (arg : Span) where
-  stands : (items : List Entry) (s : Span) (o : Option Span) → inside_of (only_text items) ≡ o → IsSpelling arg.at arg.text items → or_itself arg items o ≡ Ok s → StandsFor arg s
+  stands : (items : List ItemValue) (s : Span) (o : Option Span) → inside_of (only_text items) ≡ o → IsSpelling arg.at arg.text items → or_itself arg items o ≡ Ok s → StandsFor arg s
   stands items s (Some t) found spelled e =
       let u = run_of (only_text items) t found in
       subst (StandsFor arg) (ok_is t s e) (run spelled (only-IsAllBut items u.0 u.1) (inside-IsRun u.0 t u.2))
@@ -148,7 +148,7 @@ module _ (arg : Span) where
       let b = bind_ok (items_of arg) (λ items. or_itself arg items (inside_of (only_text items))) s e in
       stands b.0 s (inside_of (only_text b.0)) refl ((outcome_is_spelling arg.at arg.text b.0).0 (quoted_ok (outcome arg.at arg.text) b.0 b.1)) b.2
 
-  read : (items : List Entry) → IsSpelling arg.at arg.text items → outcome arg.at arg.text ≡ Ok items
+  read : (items : List ItemValue) → IsSpelling arg.at arg.text items → outcome arg.at arg.text ≡ Ok items
   read items spelled = (outcome_is_spelling arg.at arg.text items).1 spelled
 
   StandsFor-inside : (s : Span) → StandsFor arg s → inside arg ≡ Ok s
@@ -163,7 +163,7 @@ module _ (arg : Span) where
         let u = run_of (only_text items) t found in
         absurd (run_alone arg.at arg.text items u.0 t (spelling_parts arg.at arg.text items spelled) u.1 (inside-IsRun u.0 t u.2) alone)
 
-  refused : (items : List Entry) (f : ParseFault) (o : Option Span) → or_itself arg items o ≡ Err f → f ≡ UnknownStatement arg.at
+  refused : (items : List ItemValue) (f : ParseFault) (o : Option Span) → or_itself arg items o ≡ Err f → f ≡ UnknownStatement arg.at
   refused items f (Some s) e = absurd cc
   refused items f None e = by (is_unquoted arg.text items) e where
     by : (b : Bool) → cond b (Ok arg) (Err (UnknownStatement arg.at)) ≡ Err f → f ≡ UnknownStatement arg.at

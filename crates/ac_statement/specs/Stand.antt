@@ -2,7 +2,7 @@
 -- comment from the text after it. (own; a shell separates commands in the same way)
 use Rattle.std.specs.Prelude.{ℕ, ◌+◌, ◌-◌, Bool, true, not, ◌&&◌, ◌||◌, ◌==◌, List, [], ◌∷◌, length, reverse, slice_index, if◌then◌else◌}
 use Rattle.std.specs.List.{prefix_len}
-use Rattle.m4quote.specs.Entry.{Span, Entry, call, bare}
+use Rattle.m4quote.specs.ItemValue.{Span, ItemValue, call, bare}
 use Rattle.ac_statement.specs.declared.placement.LineStart.{LineStart}
 use Rattle.ac_statement.specs.Texts.{arg_at, is_all_blank}
 
@@ -24,7 +24,7 @@ ends_line text =
 
 -- What an item is to a call after it: bare text with its offset and length, which a call may follow if the text is
 -- blank or ends a line. A call may always follow a call. (own)
-abbrev pub line_start_of : Entry → LineStart
+abbrev pub line_start_of : ItemValue → LineStart
 line_start_of (call name args at) = record { at = 0; len = 0; free = true }
 line_start_of (bare text at) = record { at = at; len = length text; free = is_all_blank text || ends_line text }
 
@@ -43,11 +43,11 @@ call_reaches name args at to =
     else to - (arg_at args (length args - 1)).at == length (arg_at args (length args - 1)).text + 1
 
 -- What follows the call is blank, or begins as a line may end, or comes after a dropped line. (own)
-abbrev pub is_free_after : List ℕ → List Span → ℕ → List Entry → Bool
+abbrev pub is_free_after : List ℕ → List Span → ℕ → List ItemValue → Bool
 is_free_after name args at [] = true
 is_free_after name args at (call name' args' to ∷ items) = true
 is_free_after name args at (bare text to ∷ items) = not (call_reaches name args at to) || is_all_blank text || begins_line text
 
 -- A call, between what precedes it and the items after it, is a statement. (own)
-unfoldable pub is_statement : LineStart → List ℕ → List Span → ℕ → List Entry → Bool
+unfoldable pub is_statement : LineStart → List ℕ → List Span → ℕ → List ItemValue → Bool
 is_statement line_start name args at after = (line_start.free || not (reaches line_start at)) && is_free_after name args at after

@@ -2,7 +2,7 @@
 -- text with no bracket outside its calls denotes itself (own; if quotes are left out, Autoconf would expand the calls
 -- first, to the same statements). These are the rules; `Inside` has the same as functions.
 use Rattle.std.specs.Prelude.{◌≡◌, ℕ, ◌+◌, ◌<◌, ◌≤◌, true, List, ◌∷◌, ◌++◌, length, slice_index, Any}
-use Rattle.m4quote.specs.Entry.{Span, Entry, call, bare}
+use Rattle.m4quote.specs.ItemValue.{Span, ItemValue, call, bare}
 use Rattle.m4quote.specs.Spelling.{Balanced, IsSpelling}
 use Rattle.m4quote.specs.Text.{open_bracket, close_bracket}
 use Rattle.ac_statement.specs.Texts.{is_all_blank, is_bracket}
@@ -23,9 +23,9 @@ pub record IsRun (text inside : Span) : Type 0 where
   pub offset : inside.at ≡ text.at + length before + 1
 
 -- The items are this bare text, and blanks beside it. (own)
-pub record IsAllBut (items : List Entry) (text : Span) : Type 0 where
-  pub before : List Entry
-  pub after : List Entry
+pub record IsAllBut (items : List ItemValue) (text : Span) : Type 0 where
+  pub before : List ItemValue
+  pub after : List ItemValue
   pub parts : items ≡ before ++ bare text.text text.at ∷ after
   pub blank_before : are_blank before ≡ true
   pub blank_after : are_blank after ≡ true
@@ -37,18 +37,18 @@ abbrev pub HasByteAt : ℕ → Span → Type 0
 HasByteAt place arg = (arg.at ≤ place) × (place < arg.at + length arg.text)
 
 -- The item is a call, and one of its arguments has a byte at this offset. (own)
-abbrev pub IsInCall : ℕ → Entry → Type 0
+abbrev pub IsInCall : ℕ → ItemValue → Type 0
 IsInCall place (call name args at) = Any (HasByteAt place) args
 IsInCall place (bare text at) = ⊥
 
 -- Each bracket of a text at `at` is in an argument of one of its calls, so none is in bare text, a comment between
 -- calls or a dropped `dnl` line. (own)
-abbrev pub HasBracketsInCallsAlone : ℕ → List ℕ → List Entry → Type 0
+abbrev pub HasBracketsInCallsAlone : ℕ → List ℕ → List ItemValue → Type 0
 HasBracketsInCallsAlone at text items = (k : ℕ) → k < length text → is_bracket (slice_index text k) ≡ true → Any (IsInCall (at + k)) items
 
 -- ---- the argument
 
 -- A statement argument denotes this text. (own)
 pub data StandsFor (arg : Span) : Span → Type 0 where
-  run : {items : List Entry} {text inside : Span} → IsSpelling arg.at arg.text items → IsAllBut items text → IsRun text inside → StandsFor arg inside
-  itself : {items : List Entry} → IsSpelling arg.at arg.text items → HasBracketsInCallsAlone arg.at arg.text items → StandsFor arg arg
+  run : {items : List ItemValue} {text inside : Span} → IsSpelling arg.at arg.text items → IsAllBut items text → IsRun text inside → StandsFor arg inside
+  itself : {items : List ItemValue} → IsSpelling arg.at arg.text items → HasBracketsInCallsAlone arg.at arg.text items → StandsFor arg arg

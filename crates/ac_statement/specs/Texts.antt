@@ -2,7 +2,7 @@
 use Rattle.std.specs.Prelude.{ℕ, slice_index_or, Bool, not, ◌||◌, ◌==◌, List, [], ◌∷◌}
 use Rattle.std.specs.List.{list_all, list_any}
 use Rattle.std.specs.Str.{bytes_eq}
-use Rattle.m4quote.specs.Entry.{Span}
+use Rattle.m4quote.specs.ItemValue.{Span}
 use Rattle.text_cut.specs.Cuts.{is_blank}
 
 -- A bracket, `[` or `]`. (own)

@@ -2,7 +2,7 @@
 
 ghost use Rattle.std.specs.Prelude.{◌≡◌, ◌⊎◌, ◌↔◌, Ok, Err};
 ghost use Rattle.m4quote.specs.declared.fault.QuoteFault.{QuoteFault};
-ghost use Rattle.m4quote.specs.Entry.{Span};
+ghost use Rattle.m4quote.specs.ItemValue.{Span};
 ghost use Rattle.m4quote.specs.Faults.{IsFirstFault};
 ghost use Rattle.ac_statement.specs.declared.fault.ParseFault.{ParseFault};
 ghost use Rattle.ac_statement.specs.declared.fault.ParseFault.TheVariants.{UnknownStatement, Quote};

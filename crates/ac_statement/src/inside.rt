@@ -2,7 +2,7 @@
 
 ghost use Rattle.std.specs.Prelude.{◌≡◌, ◌+◌, ◌<◌, ◌≤◌, ◌^◌, length, map, IfOk, MatchOption, None, Some};
 ghost use Rattle.std.specs.List.{prefix_len};
-ghost use Rattle.m4quote.specs.Entry.{Span, span, view, views};
+ghost use Rattle.m4quote.specs.ItemValue.{Span, span, view, views};
 ghost use Rattle.m4quote.specs.Parts.{ArePartsOf};
 ghost use Rattle.ac_statement.specs.Inside as words;
 ghost use Rattle.ac_statement.specs.Reading.{Gives};

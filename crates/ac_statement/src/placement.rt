@@ -2,7 +2,7 @@
 
 ghost use Rattle.std.specs.Prelude.{◌≡◌, ◌≤◌, map, length, reverse};
 ghost use Rattle.std.specs.List.{prefix_len};
-ghost use Rattle.m4quote.specs.Entry.{span, view, views};
+ghost use Rattle.m4quote.specs.ItemValue.{span, view, views};
 ghost use Rattle.ac_statement.specs.Stand as words;
 
 use crate::texts::is_all_blank;

@@ -1,7 +1,7 @@
 //! Blank texts, and arguments by their index.
 
 ghost use Rattle.std.specs.Prelude.{◌≡◌, map};
-ghost use Rattle.m4quote.specs.Entry.{span};
+ghost use Rattle.m4quote.specs.ItemValue.{span};
 ghost use Rattle.ac_statement.specs.Texts as texts;
 
 use m4quote::Arg;

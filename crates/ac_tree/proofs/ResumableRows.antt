@@ -7,7 +7,7 @@ use Rattle.shellword.specs.declared.part.Part.{Part}
 use Rattle.shellword.specs.declared.part.Part.TheVariants as parts
 use Rattle.shellword.specs.Truth.{single}
 use Rattle.ac_tree.specs.declared.feature.OptionKind.TheVariants.{Feature}
-use Rattle.ac_tree.specs.declared.help.Help.TheVariants.{Entry}
+use Rattle.ac_tree.specs.declared.help.Help.TheVariants.{Columns}
 use Rattle.ac_tree.specs.declared.listed.Listed.TheVariants.{Header, Function}
 use Rattle.ac_tree.specs.declared.listed.Sought.TheVariants as seeks
 use Rattle.ac_tree.specs.declared.program.Program.TheVariants as texts
@@ -38,11 +38,11 @@ substs name rest = Then (declares.Variable name) effects.Nothing rest
 
 -- AC_CHECK_HEADER([a.h],[x=1])
 abbrev header : Script → Script
-header rest = Choice declares.Nothing (Asked (Checks (seeks.Entry Header) (codes "a.h") None)) (Case Yes (sets (codes "x") (codes "1")) No_case) rest
+header rest = Choice declares.Nothing (Asked (Checks (seeks.ListEntry Header) (codes "a.h") None)) (Case Yes (sets (codes "x") (codes "1")) No_case) rest
 
 -- AC_CHECK_FUNC([f],[y=1])
 abbrev function : Script → Script
-function rest = Choice declares.Nothing (Asked (Checks (seeks.Entry Function) (codes "f") None)) (Case Yes (sets (codes "y") (codes "1")) No_case) rest
+function rest = Choice declares.Nothing (Asked (Checks (seeks.ListEntry Function) (codes "f") None)) (Case Yes (sets (codes "y") (codes "1")) No_case) rest
 
 -- AS_IF([test "$NAME" = yes],[x=2])
 abbrev if_yes : List ℕ → Script → Script
@@ -96,15 +96,15 @@ row_program : is_resumable (Then (declares.Variable (codes "a_cv_b")) (Search (c
 unfolding is_cache_name has_cv has_name
 row_program = refl
 
-row_option : is_resumable (Choice (declares.Option Feature (codes "enable_a_cv_b") (Entry (codes "a") (codes "b"))) (Asked (Given Feature (codes "enable_a_cv_b"))) No_case Done) ≡ false
+row_option : is_resumable (Choice (declares.Option Feature (codes "enable_a_cv_b") (Columns (codes "a") (codes "b"))) (Asked (Given Feature (codes "enable_a_cv_b"))) No_case Done) ≡ false
 unfolding is_cache_name has_cv has_name
 row_option = refl
 
 -- A program is tried outside AC_CACHE_CHECK, and in its commands.
 abbrev tries : Script
-tries = Choice declares.Nothing (Asked (Tries Compile (texts.Source (plainly (codes "p"))))) (Case Yes (sets (codes "v_cv_x") (codes "1")) No_case) Done
+tries = Choice declares.Nothing (Asked (Tries Compile (texts.Whole (plainly (codes "p"))))) (Case Yes (sets (codes "v_cv_x") (codes "1")) No_case) Done
 
-row_tries : is_resumable (Choice declares.Nothing (Asked (Tries Compile (texts.Source []))) No_case Done) ≡ false
+row_tries : is_resumable (Choice declares.Nothing (Asked (Tries Compile (texts.Whole []))) No_case Done) ≡ false
 unfolding is_cache_name has_cv has_name
 row_tries = refl
 
@@ -123,7 +123,7 @@ row_library = refl
 
 -- The actions of AC_CHECK_HEADERS([a.h b.h]) may read the result of the first entry, and not that of the second.
 abbrev headers : List ℕ → Script
-headers name = Choice declares.Nothing (Asked (ChecksEach (seeks.Entry Header) (codes "a.h" ∷ codes "b.h" ∷ []) None)) (Case Yes (if_yes name Done) No_case) Done
+headers name = Choice declares.Nothing (Asked (ChecksEach (seeks.ListEntry Header) (codes "a.h" ∷ codes "b.h" ∷ []) None)) (Case Yes (if_yes name Done) No_case) Done
 
 row_first : is_resumable (headers (codes "ac_cv_header_a_h")) ≡ true
 unfolding is_cache_name has_cv has_name

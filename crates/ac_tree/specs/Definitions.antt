@@ -4,7 +4,7 @@ use Rattle.m4quote.specs.Names.{cpp_byte}
 use Rattle.ac_tree.specs.declared.listed.Listed.{Listed}
 use Rattle.ac_tree.specs.declared.listed.Listed.TheVariants.{Header, Function, Declaration}
 use Rattle.ac_tree.specs.declared.listed.Sought.{Sought}
-use Rattle.ac_tree.specs.declared.listed.Sought.TheVariants.{Entry, «Type»}
+use Rattle.ac_tree.specs.declared.listed.Sought.TheVariants.{ListEntry, «Type»}
 
 -- The text as the end of a preprocessor symbol. (Autoconf's manual, AS_TR_CPP in "Common Shell
 -- Constructs")
@@ -22,7 +22,7 @@ entry_definition Declaration entry = codes "HAVE_DECL_" ++ symbol_part entry
 -- The name that the result of what a macro looks for defines: that of an entry, or `HAVE_` and a
 -- type. (Autoconf's manual, "Generic Types")
 abbrev pub sought_definition : Sought → List ℕ → List ℕ
-sought_definition (Entry listed) entry = entry_definition listed entry
+sought_definition (ListEntry listed) entry = entry_definition listed entry
 sought_definition «Type» entry = codes "HAVE_" ++ symbol_part entry
 
 -- The name that a library defines which has a function: `HAVE_LIB` and the library. (Autoconf's

@@ -5,7 +5,7 @@ use Rattle.deftable.specs.NameList.{with_name}
 use Rattle.ac_tree.specs.declared.declarations.Declarations as declarations
 use Rattle.ac_tree.specs.declared.declarations.Stage.TheVariants.{Before, Open, Ended}
 use Rattle.ac_tree.specs.declared.feature.OptionKind.TheVariants.{Feature, Package}
-use Rattle.ac_tree.specs.declared.help.Help.TheVariants.{Entry}
+use Rattle.ac_tree.specs.declared.help.Help.TheVariants.{Columns}
 use Rattle.ac_tree.specs.declared.help.Help.{Help}
 use Rattle.ac_tree.specs.declared.feature.OptionKind.{OptionKind}
 use Rattle.output_list.specs.declared.output.Output.{Output}
@@ -22,7 +22,7 @@ start = record { stage = Before; substituted = []; precious = []; features = [];
 -- A precious variable is an output variable too, and has help. (Autoconf's manual, "Setting Output Variables")
 abbrev pub with_precious : declarations.Declarations → List ℕ → List ℕ → declarations.Declarations
 with_precious c name help =
-    record c { substituted = with_name c.substituted name; precious = with_name c.precious name; help = c.help ++ Entry name help ∷ [] }
+    record c { substituted = with_name c.substituted name; precious = with_name c.precious name; help = c.help ++ Columns name help ∷ [] }
 
 -- A variable of the compiler is precious, and an output variable. (Autoconf's manual, "C Compiler")
 abbrev pub with_tool : declarations.Declarations → List ℕ → declarations.Declarations

@@ -5,7 +5,7 @@ use Rattle.m4quote.specs.Names.{sh_byte}
 use Rattle.ac_tree.specs.declared.listed.Listed.{Listed}
 use Rattle.ac_tree.specs.declared.listed.Listed.TheVariants.{Header, Function, Declaration}
 use Rattle.ac_tree.specs.declared.listed.Sought.{Sought}
-use Rattle.ac_tree.specs.declared.listed.Sought.TheVariants.{Entry, «Type»}
+use Rattle.ac_tree.specs.declared.listed.Sought.TheVariants.{ListEntry, «Type»}
 use Rattle.ac_tree.specs.declared.statement.Effect.{Effect}
 use Rattle.ac_tree.specs.declared.statement.Effect.TheVariants.{Search, Searches}
 use Rattle.ac_tree.specs.declared.statement.ProgramValue.{ProgramValue}
@@ -28,7 +28,7 @@ type_name name = codes "ac_cv_type_" ++ shell_part name
 
 -- The cached name of what a macro looks for. (Autoconf's manual, "Cache Variable Names")
 abbrev pub sought_name : Sought → List ℕ → List ℕ
-sought_name (Entry listed) entry = entry_name listed entry
+sought_name (ListEntry listed) entry = entry_name listed entry
 sought_name «Type» entry = type_name entry
 
 -- The cached name of a library that is to have a function. (Autoconf's manual, "Library Files")

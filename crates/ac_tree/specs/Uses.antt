@@ -73,7 +73,7 @@ uses_of declared Complete = reading []
 -- The texts of a program that is tried. (Autoconf's manual, "Generating Sources")
 abbrev pub program_texts : Program → List (List Part)
 program_texts (programs.Program prologue body) = prologue ∷ body ∷ []
-program_texts (programs.Source text) = text ∷ []
+program_texts (programs.Whole text) = text ∷ []
 
 -- A question. The variable of an option is assigned by the command line. (own)
 abbrev pub uses_asked : Question → Uses

@@ -88,7 +88,7 @@ fn declare_variable(
     let right = help.copy(alloc)?;
     known.substituted.add(name.as_slice())?;
     known.precious.add(name.as_slice())?;
-    known.help.push(Help::Entry { left, right })
+    known.help.push(Help::Columns { left, right })
 }
 
 /// Adds a variable of the compiler, which is precious.

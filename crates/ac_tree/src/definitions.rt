@@ -15,11 +15,11 @@ pub fn sought_definition(alloc: Global, sought: Sought, entry: &[u8]) -> Result<
 {
     let part = cpp_name(alloc, entry)?;
     match sought {
-        Sought::Entry(Listed::Declaration) => Bytes::concat(
+        Sought::ListEntry(Listed::Declaration) => Bytes::concat(
             alloc,
             &[b"HAVE_DECL_", part.as_slice()],
         ),
-        Sought::Entry(Listed::Header | Listed::Function) | Sought::Type => {
+        Sought::ListEntry(Listed::Header | Listed::Function) | Sought::Type => {
             Bytes::concat(alloc, &[b"HAVE_", part.as_slice()])
         }
     }

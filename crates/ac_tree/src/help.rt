@@ -12,7 +12,7 @@ use std::marker::Model;
 #[derive(Drop)]
 pub enum Help {
     /// The option or the variable, and its purpose: `AS_HELP_STRING(left, right)`, and AC_ARG_VAR.
-    Entry { left: Bytes, right: Bytes },
+    Columns { left: Bytes, right: Bytes },
     /// A text with a layout of its own. If it is empty, nothing is printed.
     Text { text: Bytes },
 }
@@ -23,10 +23,10 @@ impl Help {
         ensures { IfOk result (λ h. h ≡ self.now) }
     {
         match self {
-            Help::Entry { left, right } => {
+            Help::Columns { left, right } => {
                 let left = left.copy(alloc)?;
                 let right = right.copy(alloc)?;
-                Ok(Help::Entry { left, right })
+                Ok(Help::Columns { left, right })
             }
             Help::Text { text } => {
                 let text = text.copy(alloc)?;

@@ -20,7 +20,7 @@ pub enum Listed {
 #[derive(Clone, Copy)]
 pub enum Sought {
     /// What one child decides.
-    Entry(Listed),
+    ListEntry(Listed),
     /// A type, which one or two children decide (Autoconf's manual, "Generic Types").
     Type,
 }

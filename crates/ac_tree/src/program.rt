@@ -22,5 +22,5 @@ pub enum Program {
     /// AC_LANG_PROGRAM: the text before `main`, and the text of its body.
     Program { prologue: HereText, body: HereText },
     /// AC_LANG_SOURCE: the whole text.
-    Source { text: HereText },
+    Whole { text: HereText },
 }

@@ -229,7 +229,7 @@ pub fn uses_of<'a>(
             listed,
             entries,
             includes,
-        } => testing_each(alloc, Sought::Entry(*listed), entries.as_slice(), includes),
+        } => testing_each(alloc, Sought::ListEntry(*listed), entries.as_slice(), includes),
         Effect::Define { .. } | Effect::Package { .. } | Effect::Complete => {
             Ok(reading(alloc, Reads::Nothing))
         }
@@ -242,7 +242,7 @@ fn program_texts<'a>(program: &'a Program) -> Reads<'a>
 {
     match program {
         Program::Program { prologue, body } => Reads::Texts(prologue.parts(), body.parts()),
-        Program::Source { text } => Reads::Text(text.parts()),
+        Program::Whole { text } => Reads::Text(text.parts()),
     }
 }
 

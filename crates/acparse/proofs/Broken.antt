@@ -1,6 +1,6 @@
 -- An error that is reported is one, and everything before it is right.
 use Rattle.std.proofs.Common.{◌≡◌, ℕ, zero, suc, List, [], ◌∷◌, drop, Option, Some, None, Result, Ok, Err, refl, sym, subst, inl, inr}
-use Rattle.m4quote.specs.Entry.{Span, Entry, call, bare}
+use Rattle.m4quote.specs.ItemValue.{Span, ItemValue, call, bare}
 use Rattle.m4quote.specs.declared.fault.QuoteFault.{QuoteFault}
 use Rattle.ac_statement.specs.declared.fault.ParseFault.{ParseFault}
 use Rattle.ac_statement.specs.declared.fault.ParseFault.TheVariants.{UnknownMacro}
@@ -53,7 +53,7 @@ is_of_arguments : (stage : Stage) (at : ℕ) (named : Named) (f : ParseFault) �
 is_of_arguments stage at (Statement m) f e = absurd cc
 is_of_arguments stage at (Argument m) f e = (m, refl, sym (err_is {A = Macro} _ f e))
 
-may_not_stand_by : (list_kind : ListKind) (stage : Stage) (line_start : LineStart) (name : List ℕ) (args : List Span) (at : ℕ) (next : List Entry) (f : ParseFault)
+may_not_stand_by : (list_kind : ListKind) (stage : Stage) (line_start : LineStart) (name : List ℕ) (args : List Span) (at : ℕ) (next : List ItemValue) (f : ParseFault)
     → checked list_kind stage line_start name args at next ≡ Err f → MayNotStand list_kind stage line_start name args at next f
 unfolding checked
 may_not_stand_by list_kind stage line_start name args at next f e =
@@ -120,7 +120,7 @@ action_breaks bodies Broken bad when (a ∷ more) c f e =
       | inr x ↦ absurd (no_cases_end _ f x.2)
     ]
 
-item_breaks : (list_kind : ListKind) (bodies : ListKind → Bodies) (Inside : ListKind → Within) (Broken : ListKind → WithinBreaks) (ok : (x : ListKind) → Reads (bodies x) (Inside x)) (bad : (x : ListKind) → Faults (bodies x) (Broken x)) (c : declarations.Declarations) (line_start : LineStart) (item : Entry) (next : List Entry) (f : ParseFault)
+item_breaks : (list_kind : ListKind) (bodies : ListKind → Bodies) (Inside : ListKind → Within) (Broken : ListKind → WithinBreaks) (ok : (x : ListKind) → Reads (bodies x) (Inside x)) (bad : (x : ListKind) → Faults (bodies x) (Broken x)) (c : declarations.Declarations) (line_start : LineStart) (item : ItemValue) (next : List ItemValue) (f : ParseFault)
     → item_of list_kind bodies c line_start item next ≡ Err f → ItemBreaks list_kind Inside Broken c line_start item next f
 unfolding choice_of asked_of asked_with check_of
 item_breaks list_kind bodies Inside Broken ok bad c line_start (bare text at) next f e = other_text e
@@ -183,7 +183,7 @@ item_breaks list_kind bodies Inside Broken ok bad c line_start (call name args a
     call_breaks (A_question m) stands e = question_breaks m stands e
     call_breaks A_check stands e = check_breaks stands e
 
-pub items_break : (list_kind : ListKind) (bodies : ListKind → Bodies) (Inside : ListKind → Within) (Broken : ListKind → WithinBreaks) (ok : (x : ListKind) → Reads (bodies x) (Inside x)) (bad : (x : ListKind) → Faults (bodies x) (Broken x)) (items : List Entry) (c : declarations.Declarations) (line_start : LineStart) (f : ParseFault)
+pub items_break : (list_kind : ListKind) (bodies : ListKind → Bodies) (Inside : ListKind → Within) (Broken : ListKind → WithinBreaks) (ok : (x : ListKind) → Reads (bodies x) (Inside x)) (bad : (x : ListKind) → Faults (bodies x) (Broken x)) (items : List ItemValue) (c : declarations.Declarations) (line_start : LineStart) (f : ParseFault)
     → items_of list_kind bodies c line_start items ≡ Err f → Breaks list_kind Inside Broken c line_start items f
 unfolding items_of
 items_break list_kind bodies Inside Broken ok bad [] c line_start f e = absurd (no_end _ f e)

@@ -1,6 +1,6 @@
 -- The statements that are read are those of the source.
 use Rattle.std.proofs.Common.{◌≡◌, ℕ, zero, suc, Bool, true, false, List, [], ◌∷◌, drop, Option, Some, None, Result, Ok, Err, refl, subst}
-use Rattle.m4quote.specs.Entry.{Span, Entry, call, bare}
+use Rattle.m4quote.specs.ItemValue.{Span, ItemValue, call, bare}
 use Rattle.m4quote.specs.declared.fault.QuoteFault.{QuoteFault}
 use Rattle.ac_statement.specs.declared.placement.LineStart.{LineStart}
 use Rattle.ac_statement.specs.Idle.{is_idle}
@@ -56,7 +56,7 @@ pub is_of_statement : (stage : Stage) (at : ℕ) (named : Named) (m : Macro) →
 is_of_statement stage at (Statement k) m e = cc
 is_of_statement stage at (Argument k) m e = absurd cc
 
-pub may_stand : (list_kind : ListKind) (stage : Stage) (line_start : LineStart) (name : List ℕ) (args : List Span) (at : ℕ) (next : List Entry) (m : Macro)
+pub may_stand : (list_kind : ListKind) (stage : Stage) (line_start : LineStart) (name : List ℕ) (args : List Span) (at : ℕ) (next : List ItemValue) (m : Macro)
     → checked list_kind stage line_start name args at next ≡ Ok m → MayStand list_kind stage line_start name args at next m
 unfolding checked
 may_stand list_kind stage line_start name args at next m e =
@@ -122,7 +122,7 @@ action_found bodies Inside ok when (a ∷ more) c cases e =
     let x = bind_ok (bodies c a) (λ body. Ok (case_if when (is_given a) body)) cases e in
     subst (IsAction Inside when c (a ∷ more)) (ok_is _ cases x.2) (there (ok c a x.0 x.1))
 
-pub item_found : (list_kind : ListKind) (bodies : ListKind → Bodies) (Inside : ListKind → Within) (ok : (x : ListKind) → Reads (bodies x) (Inside x)) (c : declarations.Declarations) (line_start : LineStart) (item : Entry) (next : List Entry) (s : Script)
+pub item_found : (list_kind : ListKind) (bodies : ListKind → Bodies) (Inside : ListKind → Within) (ok : (x : ListKind) → Reads (bodies x) (Inside x)) (c : declarations.Declarations) (line_start : LineStart) (item : ItemValue) (next : List ItemValue) (s : Script)
     → item_of list_kind bodies c line_start item next ≡ Ok s → IsItem list_kind Inside c line_start item next s
 unfolding choice_of asked_of asked_with check_of
 item_found list_kind bodies Inside ok c line_start (bare text at) next s e = bare_text (bare_found list_kind c.stage at text s e)
@@ -160,7 +160,7 @@ item_found list_kind bodies Inside ok c line_start (call name args at) next s e 
     call_found (A_question m) stands e = question_found m stands e
     call_found A_check stands e = check_found stands e
 
-pub items_found : (list_kind : ListKind) (bodies : ListKind → Bodies) (Inside : ListKind → Within) (ok : (x : ListKind) → Reads (bodies x) (Inside x)) (items : List Entry) (c : declarations.Declarations) (line_start : LineStart) (s : Script)
+pub items_found : (list_kind : ListKind) (bodies : ListKind → Bodies) (Inside : ListKind → Within) (ok : (x : ListKind) → Reads (bodies x) (Inside x)) (items : List ItemValue) (c : declarations.Declarations) (line_start : LineStart) (s : Script)
     → items_of list_kind bodies c line_start items ≡ Ok s → AreStatements list_kind Inside c line_start items s
 unfolding items_of
 items_found list_kind bodies Inside ok [] c line_start s e = subst (AreStatements list_kind Inside c line_start []) (ok_is Done s e) none

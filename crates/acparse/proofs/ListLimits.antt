@@ -1,7 +1,7 @@
 -- Statements leave the lists of a source within their limits.
 use Rattle.std.proofs.Common.{ℕ, zero, suc, Bool, true, false, List, Result, Ok, Err, sym, ◌∙◌, subst}
 use Rattle.std.specs.Prelude.{IfOk}
-use Rattle.m4quote.specs.Entry.{Span, Entry}
+use Rattle.m4quote.specs.ItemValue.{Span, ItemValue}
 use Rattle.ac_statement.specs.declared.fault.ParseFault.{ParseFault}
 use Rattle.ac_statement.specs.declared.placement.LineStart.{LineStart}
 use Rattle.ac_args.specs.Arguments.{is_given}
@@ -52,7 +52,7 @@ action_keeps : (Inside : Within) (keeps : Keeps Inside) (when : When) {c : decla
 action_keeps Inside keeps when absent h = h
 action_keeps Inside keeps when (there {c = c} {arg = arg} {body = body} i) h = case_keeps when (is_given arg) body c (keeps c arg body i h)
 
-item_keeps : (list_kind : ListKind) (Inside : ListKind → Within) (keeps : (x : ListKind) → Keeps (Inside x)) (c : declarations.Declarations) (line_start : LineStart) {item : Entry} {next : List Entry} {s : Script}
+item_keeps : (list_kind : ListKind) (Inside : ListKind → Within) (keeps : (x : ListKind) → Keeps (Inside x)) (c : declarations.Declarations) (line_start : LineStart) {item : ItemValue} {next : List ItemValue} {s : Script}
     → IsItem list_kind Inside c line_start item next s → IsWithinLimits c → IsWithinLimits (after_all c s)
 unfolding after
 item_keeps list_kind Inside keeps c line_start (bare_text i) h = bare_keeps c i h
@@ -64,7 +64,7 @@ item_keeps list_kind Inside keeps c line_start (question {declares = d} {q = q} 
     (action_keeps (Inside (of_case list_kind)) (keeps (of_case list_kind)) _ o (action_keeps (Inside (of_case list_kind)) (keeps (of_case list_kind)) _ f (question_keeps c _ _ (d, q) p h)))
 item_keeps list_kind Inside keeps c line_start (check stands m n i) h = keeps _ c _ _ i h
 
-items_keep : (list_kind : ListKind) (Inside : ListKind → Within) (keeps : (x : ListKind) → Keeps (Inside x)) {c : declarations.Declarations} {line_start : LineStart} {items : List Entry} {s : Script}
+items_keep : (list_kind : ListKind) (Inside : ListKind → Within) (keeps : (x : ListKind) → Keeps (Inside x)) {c : declarations.Declarations} {line_start : LineStart} {items : List ItemValue} {s : Script}
     → AreStatements list_kind Inside c line_start items s → IsWithinLimits c → IsWithinLimits (after_all c s)
 items_keep list_kind Inside keeps none h = h
 items_keep list_kind Inside keeps (one {c = c} {first = first} {rest = rest} i more) h =

@@ -1,6 +1,6 @@
 -- The statements of a source are read.
 use Rattle.std.proofs.Common.{◌≡◌, ℕ, zero, suc, List, Ok, refl, ap, ◌∙◌}
-use Rattle.m4quote.specs.Entry.{Span, Entry}
+use Rattle.m4quote.specs.ItemValue.{Span, ItemValue}
 use Rattle.m4quote.proofs.Laws.{outcome_is_spelling, bare_value_is_value}
 use Rattle.shell_bare.proofs.Laws.{text-read}
 use Rattle.ac_statement.specs.declared.placement.LineStart.{LineStart}
@@ -25,7 +25,7 @@ use Rattle.acparse.specs.Statements.{Within, MayStand, IsBare, before, ended, as
 abbrev pub Gets : Bodies → Within → Type 0
 Gets bodies Inside = (c : declarations.Declarations) (arg : Span) (s : Script) → Inside c arg s → bodies c arg ≡ Ok s
 
-pub is_checked : (list_kind : ListKind) (stage : Stage) (line_start : LineStart) (name : List ℕ) (args : List Span) (at : ℕ) (next : List Entry) (m : Macro)
+pub is_checked : (list_kind : ListKind) (stage : Stage) (line_start : LineStart) (name : List ℕ) (args : List Span) (at : ℕ) (next : List ItemValue) (m : Macro)
     → MayStand list_kind stage line_start name args at next m → checked list_kind stage line_start name args at next ≡ Ok m
 unfolding checked
 is_checked list_kind stage line_start name args at next m h =
@@ -52,7 +52,7 @@ unfolding action_in
 action_only bodies Inside ok when absent = refl
 action_only bodies Inside ok when (there h) = then_ok _ _ _ _ (ok _ _ _ h) refl
 
-item_only : (list_kind : ListKind) (bodies : ListKind → Bodies) (Inside : ListKind → Within) (ok : (x : ListKind) → Gets (bodies x) (Inside x)) (c : declarations.Declarations) (line_start : LineStart) {item : Entry} {next : List Entry} {s : Script}
+item_only : (list_kind : ListKind) (bodies : ListKind → Bodies) (Inside : ListKind → Within) (ok : (x : ListKind) → Gets (bodies x) (Inside x)) (c : declarations.Declarations) (line_start : LineStart) {item : ItemValue} {next : List ItemValue} {s : Script}
     → IsItem list_kind Inside c line_start item next s → item_of list_kind bodies c line_start item next ≡ Ok s
 unfolding choice_of asked_of asked_with check_of
 item_only list_kind bodies Inside ok c line_start (bare_text h) = bare_only _ h
@@ -65,7 +65,7 @@ item_only list_kind bodies Inside ok c line_start (question stands p f o w) =
 item_only list_kind bodies Inside ok c line_start (check stands m n h) =
     then_ok _ _ _ _ (is_checked _ _ _ _ _ _ _ _ stands) (then_ok _ _ _ _ m (then_ok _ _ _ _ n (then_ok _ _ _ _ (ok _ _ _ _ h) refl)))
 
-pub items_only : (list_kind : ListKind) (bodies : ListKind → Bodies) (Inside : ListKind → Within) (ok : (x : ListKind) → Gets (bodies x) (Inside x)) {c : declarations.Declarations} {line_start : LineStart} {items : List Entry} {s : Script}
+pub items_only : (list_kind : ListKind) (bodies : ListKind → Bodies) (Inside : ListKind → Within) (ok : (x : ListKind) → Gets (bodies x) (Inside x)) {c : declarations.Declarations} {line_start : LineStart} {items : List ItemValue} {s : Script}
     → AreStatements list_kind Inside c line_start items s → items_of list_kind bodies c line_start items ≡ Ok s
 unfolding items_of
 items_only list_kind bodies Inside ok none = refl

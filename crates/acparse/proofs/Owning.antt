@@ -5,8 +5,8 @@ use Rattle.std.specs.Str.{bytes_eq}
 use Rattle.std.proofs.lemmas.Slice.Eq.{bytes_eq-Decides}
 use Rattle.shellword.specs.declared.part.Part.{Part}
 use Rattle.shell_bare.specs.declared.assignments.Assignment.{Assignment}
-use Rattle.m4quote.specs.Entry.{Span}
-use Rattle.m4quote.specs.Entry as items
+use Rattle.m4quote.specs.ItemValue.{Span}
+use Rattle.m4quote.specs.ItemValue as items
 use Rattle.deftable.specs.CacheName.{is_cache_name}
 use Rattle.ac_statement.specs.declared.fault.ParseFault.{ParseFault}
 use Rattle.ac_statement.specs.declared.placement.LineStart.{LineStart}
@@ -222,7 +222,7 @@ held_check (Commands other to) arg message n at commands e f h = absurd cc
 
 -- ---- items
 
-item_held : (list_kind : ListKind) (Inside : ListKind → Within) (holds : (x : ListKind) → Holds x (Inside x)) (c : declarations.Declarations) (line_start : LineStart) {item : items.Entry} {next : List items.Entry} {s : Script}
+item_held : (list_kind : ListKind) (Inside : ListKind → Within) (holds : (x : ListKind) → Holds x (Inside x)) (c : declarations.Declarations) (line_start : LineStart) {item : items.ItemValue} {next : List items.ItemValue} {s : Script}
     → IsItem list_kind Inside c line_start item next s → Held list_kind s
 item_held list_kind Inside holds c line_start (bare_text i) = bare_held list_kind i
 item_held list_kind Inside holds c line_start (plain_call {m = m} {declares = d} {effect = e} stands p) = plain_held list_kind m d e stands.held
@@ -236,7 +236,7 @@ item_held list_kind Inside holds c line_start (check {args = args} {message = me
     let at = (arg_at args 2).at in
     held_check list_kind (arg_at args 1) message variable at commands stands.held n (holds (Commands variable at) c (arg_at args 2) commands i)
 
-items_held : (list_kind : ListKind) (Inside : ListKind → Within) (holds : (x : ListKind) → Holds x (Inside x)) {c : declarations.Declarations} {line_start : LineStart} {items : List items.Entry} {s : Script}
+items_held : (list_kind : ListKind) (Inside : ListKind → Within) (holds : (x : ListKind) → Holds x (Inside x)) {c : declarations.Declarations} {line_start : LineStart} {items : List items.ItemValue} {s : Script}
     → AreStatements list_kind Inside c line_start items s → Held list_kind s
 items_held list_kind Inside holds none = held_done list_kind
 items_held list_kind Inside holds (one {c = c} {first = first} {rest = rest} i more) = held_joined list_kind first rest (item_held list_kind Inside holds c _ i) (items_held list_kind Inside holds more)

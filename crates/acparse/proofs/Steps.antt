@@ -5,7 +5,7 @@ use Rattle.std.specs.Result.{MatchResult}
 use Rattle.std.proofs.lemmas.List.{drop_more, take_all, length-drop}
 use Rattle.m4quote.specs.declared.item.Arg.{Arg}
 use Rattle.m4quote.specs.declared.item.Item.{Item}
-use Rattle.m4quote.specs.Entry.{Span, Entry, span, view, views, call, bare}
+use Rattle.m4quote.specs.ItemValue.{Span, ItemValue, span, view, views, call, bare}
 use Rattle.ac_statement.specs.declared.fault.ParseFault.{ParseFault}
 use Rattle.ac_statement.specs.declared.fault.ParseFault.TheVariants.{OutOfMemory}
 use Rattle.ac_statement.specs.declared.placement.LineStart.{LineStart}
@@ -37,7 +37,7 @@ use Rattle.acparse.proofs.Texts.{bare_known, fails_inside}
 -- ---- items
 
 -- The statements so far, followed by those of the rest of the items, are the list.
-pub record Items (list_kind : ListKind) (bodies : ListKind → Bodies) (before c : declarations.Declarations) (line_start : LineStart) (out : Script) (all rest : List Entry) : Type 0 where
+pub record Items (list_kind : ListKind) (bodies : ListKind → Bodies) (before c : declarations.Declarations) (line_start : LineStart) (out : Script) (all rest : List ItemValue) : Type 0 where
   pub value : following out (items_of list_kind bodies c line_start rest) ≡ items_of list_kind bodies before no_line_start all
   pub known : after_all before out ≡ c
 
@@ -45,7 +45,7 @@ regroup : (out first : Script) (read : Result Script ParseFault) → following o
 regroup out first (Ok r) = ap (λ (s : Script). Ok s) (sym (joined_assoc out first r))
 regroup out first (Err f) = refl
 
-items_next : (list_kind : ListKind) (bodies : ListKind → Bodies) (before c c' : declarations.Declarations) (line_start : LineStart) (out out' : Script) (all : List Entry) (item : Entry) (rest : List Entry)
+items_next : (list_kind : ListKind) (bodies : ListKind → Bodies) (before c c' : declarations.Declarations) (line_start : LineStart) (out out' : Script) (all : List ItemValue) (item : ItemValue) (rest : List ItemValue)
     → Items list_kind bodies before c line_start out all (item ∷ rest) → Adds c c' out out' (item_of list_kind bodies c line_start item rest) → Items list_kind bodies before c' (line_start_of item) out' all rest
 unfolding items_of
 items_next list_kind bodies before c c' line_start out out' all item rest i a =
@@ -57,12 +57,12 @@ items_next list_kind bodies before c c' line_start out out' all item rest i a =
       known = ap (after_all before) a.list ∙ after_joined out a.first before ∙ ap (λ k. after_all k a.first) i.known ∙ sym a.known;
     }
 
-items_fail : (e : ParseFault) (list_kind : ListKind) (bodies : ListKind → Bodies) (before c : declarations.Declarations) (line_start : LineStart) (out : Script) (all : List Entry) (item : Entry) (rest : List Entry)
+items_fail : (e : ParseFault) (list_kind : ListKind) (bodies : ListKind → Bodies) (before c : declarations.Declarations) (line_start : LineStart) (out : Script) (all : List ItemValue) (item : ItemValue) (rest : List ItemValue)
     → Items list_kind bodies before c line_start out all (item ∷ rest) → Fails e (item_of list_kind bodies c line_start item rest) → Fails e (items_of list_kind bodies before no_line_start all)
 unfolding items_of
 items_fail e list_kind bodies before c line_start out all item rest i h = fails_along e _ _ i.value (fails_bind e _ _ (fails_bind e _ _ h))
 
-pub items_done : (list_kind : ListKind) (bodies : ListKind → Bodies) (before c : declarations.Declarations) (line_start : LineStart) (out : Script) (all rest : List Entry)
+pub items_done : (list_kind : ListKind) (bodies : ListKind → Bodies) (before c : declarations.Declarations) (line_start : LineStart) (out : Script) (all rest : List ItemValue)
     → rest ≡ [] → Items list_kind bodies before c line_start out all rest → items_of list_kind bodies before no_line_start all ≡ Ok out
 unfolding items_of
 items_done list_kind bodies before c line_start out all rest eq i =
@@ -77,19 +77,19 @@ views_drop items i item lt is = ap views (drop_more items i item lt) ∙ ap (λ 
 pub slice_from : {A : Type 0} (items : List A) (n : ℕ) → take (length items - n) (drop n items) ≡ drop n items
 slice_from items n = take_all (length items - n) (drop n items) (omega (arith, length-drop n items))
 
-pub items_step : (list_kind : ListKind) (bodies : ListKind → Bodies) (before c c' : declarations.Declarations) (line_start line_start' : LineStart) (out out' : Script) (all : List Entry) (item : Entry) (here next rest : List Entry)
+pub items_step : (list_kind : ListKind) (bodies : ListKind → Bodies) (before c c' : declarations.Declarations) (line_start line_start' : LineStart) (out out' : Script) (all : List ItemValue) (item : ItemValue) (here next rest : List ItemValue)
     → here ≡ item ∷ rest → next ≡ rest → line_start' ≡ line_start_of item
     → Items list_kind bodies before c line_start out all here → Adds c c' out out' (item_of list_kind bodies c line_start item next) → Items list_kind bodies before c' line_start' out' all rest
 items_step list_kind bodies before c c' line_start line_start' out out' all item here next rest e n f i a =
     subst (λ k. Items list_kind bodies before c' k out' all rest) (sym f)
     (items_next list_kind bodies before c c' line_start out out' all item rest (subst (λ l. Items list_kind bodies before c line_start out all l) e i) (subst (λ l. Adds c c' out out' (item_of list_kind bodies c line_start item l)) n a))
 
-pub items_stop : (x : ParseFault) (list_kind : ListKind) (bodies : ListKind → Bodies) (before c : declarations.Declarations) (line_start : LineStart) (out : Script) (all : List Entry) (item : Entry) (here next rest : List Entry)
+pub items_stop : (x : ParseFault) (list_kind : ListKind) (bodies : ListKind → Bodies) (before c : declarations.Declarations) (line_start : LineStart) (out : Script) (all : List ItemValue) (item : ItemValue) (here next rest : List ItemValue)
     → here ≡ item ∷ rest → next ≡ rest → Items list_kind bodies before c line_start out all here → Fails x (item_of list_kind bodies c line_start item next) → Fails x (items_of list_kind bodies before no_line_start all)
 items_stop x list_kind bodies before c line_start out all item here next rest e n i h =
     items_fail x list_kind bodies before c line_start out all item rest (subst (λ l. Items list_kind bodies before c line_start out all l) e i) (subst (λ l. Fails x (item_of list_kind bodies c line_start item l)) n h)
 
-pub call_adds : (list_kind : ListKind) (bodies : ListKind → Bodies) (c c' : declarations.Declarations) (at : ℕ) (line_start : LineStart) (name : List ℕ) (args : List Span) (item : Entry) (next : List Entry) (m : Macro) (out out' : List Stmt) (s : Stmt)
+pub call_adds : (list_kind : ListKind) (bodies : ListKind → Bodies) (c c' : declarations.Declarations) (at : ℕ) (line_start : LineStart) (name : List ℕ) (args : List Span) (item : ItemValue) (next : List ItemValue) (m : Macro) (out out' : List Stmt) (s : Stmt)
     → item ≡ call name args at → checked list_kind c.stage line_start name args at next ≡ Ok m → call_of list_kind bodies c m at args ≡ Ok (script_of (s ∷ []))
     → c' ≡ after_all c (script_of (s ∷ [])) → out' ≡ out ++ s ∷ [] → Adds c c' (script_of out) (script_of out') (item_of list_kind bodies c line_start item next)
 call_adds list_kind bodies c c' at line_start name args item next m out out' s is check value known list = record {
@@ -99,7 +99,7 @@ call_adds list_kind bodies c c' at line_start name args item next m out out' s i
   known = known;
 }
 
-pub bare_adds : (r : Result (Unit {0}) ParseFault) (list_kind : ListKind) (bodies : ListKind → Bodies) (c : declarations.Declarations) (at : ℕ) (line_start : LineStart) (text : List ℕ) (item : Entry) (next : List Entry) (out out' : Script)
+pub bare_adds : (r : Result (Unit {0}) ParseFault) (list_kind : ListKind) (bodies : ListKind → Bodies) (c : declarations.Declarations) (at : ℕ) (line_start : LineStart) (text : List ℕ) (item : ItemValue) (next : List ItemValue) (out out' : Script)
     → item ≡ bare text at → Gives (λ _. out') r (following out (bare_of list_kind c.stage at text))
     → MatchResult r (λ _. Adds c c out out' (item_of list_kind bodies c line_start item next)) (λ e. Fails e (item_of list_kind bodies c line_start item next))
 bare_adds (Ok x) list_kind bodies c at line_start text item next out out' is h =

@@ -2,8 +2,8 @@
 use Rattle.std.proofs.Common.{◌≡◌, ℕ, zero, suc, Bool, true, false, cond, List, [], ◌∷◌, length, Result, Ok, Err, refl, subst}
 use Rattle.std.specs.Prelude.{Option, IfOk, nat_lt}
 use Rattle.shell_bare.specs.declared.assignments.Assignment.{Assignment}
-use Rattle.m4quote.specs.Entry.{Span}
-use Rattle.m4quote.specs.Entry as items
+use Rattle.m4quote.specs.ItemValue.{Span}
+use Rattle.m4quote.specs.ItemValue as items
 use Rattle.deftable.specs.ShellName.{is_shell_name_of, IsShellName}
 use Rattle.shellword.specs.declared.part.Part.{Part}
 use Rattle.ac_statement.specs.declared.fault.ParseFault.{ParseFault}
@@ -174,7 +174,7 @@ asked_named d q cases h = asked_one (λ cases s. HasTestNamesIn cases → HasTes
 
 -- ---- items
 
-item_named : (list_kind : ListKind) (Inside : ListKind → Within) (holds : (x : ListKind) → Holds (Inside x)) (c : declarations.Declarations) (line_start : LineStart) {item : items.Entry} {next : List items.Entry} {s : Script}
+item_named : (list_kind : ListKind) (Inside : ListKind → Within) (holds : (x : ListKind) → Holds (Inside x)) (c : declarations.Declarations) (line_start : LineStart) {item : items.ItemValue} {next : List items.ItemValue} {s : Script}
     → IsItem list_kind Inside c line_start item next s → HasTestNames s
 item_named list_kind Inside holds c line_start (bare_text i) = bare_named list_kind i
 item_named list_kind Inside holds c line_start (plain_call {args = args} {at = at} {m = m} stands p) = (subst (λ r. IfOk r Named) p (plain_named c m at args), tt)
@@ -184,7 +184,7 @@ item_named list_kind Inside holds c line_start (question {declares = d} {whole =
     asked_named d whole (followed first other) (followed_named first other (action_named (Inside (of_case list_kind)) inner _ f) (action_named (Inside (of_case list_kind)) inner _ o))
 item_named list_kind Inside holds c line_start (check stands m n i) = (holds _ _ _ _ i, tt)
 
-items_named : (list_kind : ListKind) (Inside : ListKind → Within) (holds : (x : ListKind) → Holds (Inside x)) {c : declarations.Declarations} {line_start : LineStart} {items : List items.Entry} {s : Script}
+items_named : (list_kind : ListKind) (Inside : ListKind → Within) (holds : (x : ListKind) → Holds (Inside x)) {c : declarations.Declarations} {line_start : LineStart} {items : List items.ItemValue} {s : Script}
     → AreStatements list_kind Inside c line_start items s → HasTestNames s
 items_named list_kind Inside holds none = tt
 items_named list_kind Inside holds (one {c = c} {first = first} {rest = rest} i more) = joined_named first rest (item_named list_kind Inside holds c _ i) (items_named list_kind Inside holds more)

@@ -1,10 +1,10 @@
 -- The statement of a macro that asks a question, by what it declares, its question and the cases for the answers.
 use Rattle.std.specs.Prelude.{Bool, true, false, not, ◌||◌, List, Result, Ok}
-use Rattle.m4quote.specs.Entry.{Span}
+use Rattle.m4quote.specs.ItemValue.{Span}
 use Rattle.ac_statement.specs.declared.fault.ParseFault.{ParseFault}
 use Rattle.ac_statement.specs.Reading.{◌>>=◌}
 use Rattle.ac_macros.specs.Checks.{completed_of}
-use Rattle.ac_tree.specs.declared.listed.Sought.TheVariants.{Entry}
+use Rattle.ac_tree.specs.declared.listed.Sought.TheVariants.{ListEntry}
 use Rattle.ac_tree.specs.declared.statement.Declares.{Declares}
 use Rattle.ac_tree.specs.declared.statement.Effect.TheVariants.{Batch}
 use Rattle.ac_tree.specs.declared.statement.Question.{Question}
@@ -29,7 +29,7 @@ has_yes (Case when body more) = is_yes when || has_yes more
 -- not, since a type may need a second child. AC_CHECK_LIB adds the library if no case is for yes. (Autoconf's manual,
 -- "Library Files" and the sections of the macros; the batches are own)
 abbrev pub asked_by : Declares → Question → Cases → Script
-asked_by declares (ChecksEach (Entry listed) entries includes) No_case = Then declares (Batch listed entries includes) Done
+asked_by declares (ChecksEach (ListEntry listed) entries includes) No_case = Then declares (Batch listed entries includes) Done
 asked_by declares (Library library function others adds) cases = Choice declares (Asked (Library library function others (not (has_yes cases)))) cases Done
 asked_by declares question cases = Choice declares (Asked question) cases Done
 

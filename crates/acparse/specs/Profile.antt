@@ -1,7 +1,7 @@
 -- The statements of a source, or its first error, as one function of its text. It says which of two errors of one item
 -- is reported; `Source` says what a tree and an error are, in no order of reading.
 use Rattle.std.specs.Prelude.{◌≡◌, ℕ, zero, suc, Bool, true, false, List, [], ◌∷◌, drop, Option, Some, None, Result, Ok, Err, if◌then◌else◌}
-use Rattle.m4quote.specs.Entry.{Span, Entry, call, bare}
+use Rattle.m4quote.specs.ItemValue.{Span, ItemValue, call, bare}
 use Rattle.m4quote.specs.Scan.{outcome}
 use Rattle.ac_statement.specs.declared.fault.ParseFault.{ParseFault}
 use Rattle.ac_statement.specs.declared.fault.ParseFault.TheVariants.{UnknownMacro, UnknownStatement, ArgCount, NoInit, NoOutput, TooDeep}
@@ -165,7 +165,7 @@ known at (Some row) = Ok row
 -- The macro of a call between what precedes it and the items after it. The conditions are checked in this order: its
 -- name is known, it takes these arguments, its calls are statements, one is allowed here, this one is separate from other
 -- text, and the list may hold it. (own)
-unfoldable pub checked : ListKind → Stage → LineStart → List ℕ → List Span → ℕ → List Entry → Result Macro ParseFault
+unfoldable pub checked : ListKind → Stage → LineStart → List ℕ → List Span → ℕ → List ItemValue → Result Macro ParseFault
 checked list_kind stage line_start name args at following = do
   row ← known at (row_named name)
   _ ← wants (takes row args) (ArgCount at)
@@ -185,14 +185,14 @@ call_of list_kind bodies c (A_question m) at args = asked_of (bodies (of_case li
 call_of list_kind bodies c A_check at args = check_of bodies c args
 
 -- The statements of an item between what precedes it and the items after it. (own)
-abbrev pub item_of : ListKind → (ListKind → Bodies) → declarations.Declarations → LineStart → Entry → List Entry → Result Script ParseFault
+abbrev pub item_of : ListKind → (ListKind → Bodies) → declarations.Declarations → LineStart → ItemValue → List ItemValue → Result Script ParseFault
 item_of list_kind bodies c line_start (bare text at) following = bare_of list_kind c.stage at text
 item_of list_kind bodies c line_start (call name args at) following = do
   m ← checked list_kind c.stage line_start name args at following
   call_of list_kind bodies c m at args
 
 -- The statements of items, one after another. (own)
-unfoldable pub items_of : ListKind → (ListKind → Bodies) → declarations.Declarations → LineStart → List Entry → Result Script ParseFault
+unfoldable pub items_of : ListKind → (ListKind → Bodies) → declarations.Declarations → LineStart → List ItemValue → Result Script ParseFault
 items_of list_kind bodies c line_start [] = Ok Done
 items_of list_kind bodies c line_start (item ∷ items) = do
   first ← item_of list_kind bodies c line_start item items

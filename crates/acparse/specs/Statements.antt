@@ -1,6 +1,6 @@
 -- Which statements items have. There is no order of reading: there is a case for each form of item.
 use Rattle.std.specs.Prelude.{◌≡◌, ℕ, zero, suc, true, List, [], ◌∷◌, drop, Some, Ok}
-use Rattle.m4quote.specs.Entry.{Span, Entry, call, bare}
+use Rattle.m4quote.specs.ItemValue.{Span, ItemValue, call, bare}
 use Rattle.m4quote.specs.Spelling.{IsSpelling}
 use Rattle.m4quote.specs.Used.{IsBareValue}
 use Rattle.shell_bare.specs.declared.assignments.Assignment.{Assignment}
@@ -46,7 +46,7 @@ abbrev pub Within : Type 1
 Within = declarations.Declarations → Span → Script → Type 0
 
 -- A call of the macro is a statement between what precedes it and the items after it, and the list may hold it. (own)
-pub record MayStand (list_kind : ListKind) (stage : Stage) (line_start : LineStart) (name : List ℕ) (args : List Span) (at : ℕ) (following : List Entry) (m : Macro) : Type 0 where
+pub record MayStand (list_kind : ListKind) (stage : Stage) (line_start : LineStart) (name : List ℕ) (args : List Span) (at : ℕ) (following : List ItemValue) (m : Macro) : Type 0 where
   pub row : Row
   pub known : row_named name ≡ Some row
   pub named : row.named ≡ Statement m
@@ -78,29 +78,29 @@ pub data IsAction (Inside : Within) (when : When) : declarations.Declarations �
   there : {c : declarations.Declarations} {arg : Span} {more : List Span} {body : Script} → Inside c arg body → IsAction Inside when c (arg ∷ more) (case_if when (is_given arg) body)
 
 -- An item has these statements. (own)
-pub data IsItem (list_kind : ListKind) (Inside : ListKind → Within) (c : declarations.Declarations) (line_start : LineStart) : Entry → List Entry → Script → Type 0 where
-  bare_text : {text : List ℕ} {at : ℕ} {following : List Entry} {s : Script} → IsBare list_kind c.stage text s → IsItem list_kind Inside c line_start (bare text at) following s
-  plain_call : {name : List ℕ} {args : List Span} {at : ℕ} {following : List Entry} {m : PlainMacro} {declares : Declares} {effect : Effect}
+pub data IsItem (list_kind : ListKind) (Inside : ListKind → Within) (c : declarations.Declarations) (line_start : LineStart) : ItemValue → List ItemValue → Script → Type 0 where
+  bare_text : {text : List ℕ} {at : ℕ} {following : List ItemValue} {s : Script} → IsBare list_kind c.stage text s → IsItem list_kind Inside c line_start (bare text at) following s
+  plain_call : {name : List ℕ} {args : List Span} {at : ℕ} {following : List ItemValue} {m : PlainMacro} {declares : Declares} {effect : Effect}
       → MayStand list_kind c.stage line_start name args at following (Plain m) → plain_of c m at args ≡ Ok (declares, effect)
       → IsItem list_kind Inside c line_start (call name args at) following (Then declares effect Done)
-  choice : {name : List ℕ} {args : List Span} {at : ℕ} {following : List Entry} {m : ChoiceMacro} {subject : Subject} {cases : Cases}
+  choice : {name : List ℕ} {args : List Span} {at : ℕ} {following : List ItemValue} {m : ChoiceMacro} {subject : Subject} {cases : Cases}
       → MayStand list_kind c.stage line_start name args at following (A_choice m) → subject_of m args ≡ Ok subject → AreCases (Inside (of_case list_kind)) m c (case_args m args) cases
       → IsItem list_kind Inside c line_start (call name args at) following (Choice Nothing subject cases Done)
-  question : {name : List ℕ} {args : List Span} {at : ℕ} {following : List Entry} {m : QuestionMacro} {declares : Declares} {q whole : Question} {first other : Cases}
+  question : {name : List ℕ} {args : List Span} {at : ℕ} {following : List ItemValue} {m : QuestionMacro} {declares : Declares} {q whole : Question} {first other : Cases}
       → MayStand list_kind c.stage line_start name args at following (A_question m) → question_of c m args ≡ Ok (declares, q)
       → IsAction (Inside (of_case list_kind)) Yes (after c declares) (action_args m args) first
       → IsAction (Inside (of_case list_kind)) No (after_cases (after c declares) first) (drop 1 (action_args m args)) other
       → completed_of q args ≡ Ok whole
       → IsItem list_kind Inside c line_start (call name args at) following (asked_by declares whole (followed first other))
-  check : {name : List ℕ} {args : List Span} {at : ℕ} {following : List Entry} {message : List Part} {variable : List ℕ} {commands : Script}
+  check : {name : List ℕ} {args : List Span} {at : ℕ} {following : List ItemValue} {message : List Part} {variable : List ℕ} {commands : Script}
       → MayStand list_kind c.stage line_start name args at following A_check → here_text (arg_at args 0) ≡ Ok message → cache_name (arg_at args 1) ≡ Ok variable
       → Inside (Commands variable (arg_at args 2).at) c (arg_at args 2) commands
       → IsItem list_kind Inside c line_start (call name args at) following (Check message variable commands Done)
 
 -- Items have these statements, one after another. (own)
-pub data AreStatements (list_kind : ListKind) (Inside : ListKind → Within) : declarations.Declarations → LineStart → List Entry → Script → Type 0 where
+pub data AreStatements (list_kind : ListKind) (Inside : ListKind → Within) : declarations.Declarations → LineStart → List ItemValue → Script → Type 0 where
   none : {c : declarations.Declarations} {line_start : LineStart} → AreStatements list_kind Inside c line_start [] Done
-  one : {c : declarations.Declarations} {line_start : LineStart} {item : Entry} {items : List Entry} {first rest : Script}
+  one : {c : declarations.Declarations} {line_start : LineStart} {item : ItemValue} {items : List ItemValue} {first rest : Script}
       → IsItem list_kind Inside c line_start item items first → AreStatements list_kind Inside (after_all c first) (line_start_of item) items rest
       → AreStatements list_kind Inside c line_start (item ∷ items) (joined first rest)
 
@@ -109,4 +109,4 @@ pub data AreStatements (list_kind : ListKind) (Inside : ListKind → Within) : d
 abbrev pub IsBody : ℕ → ListKind → Within
 IsBody zero list_kind c arg s = ⊥
 IsBody (suc room) list_kind c arg s =
-    (a : Span) × (inside arg ≡ Ok a) × ((items : List Entry) × IsSpelling a.at a.text items × AreStatements list_kind (IsBody room) c no_line_start items s)
+    (a : Span) × (inside arg ≡ Ok a) × ((items : List ItemValue) × IsSpelling a.at a.text items × AreStatements list_kind (IsBody room) c no_line_start items s)

@@ -1,7 +1,7 @@
 //! The statement of a macro that asks a question.
 
 ghost use Rattle.std.specs.Prelude.{◌≡◌, [], ◌∷◌, map, true};
-ghost use Rattle.m4quote.specs.Entry.{span};
+ghost use Rattle.m4quote.specs.ItemValue.{span};
 ghost use Rattle.ac_statement.specs.Reading.{Gives};
 ghost use Rattle.acparse.specs.Asked as asked;
 ghost use Rattle.ac_tree.specs.declared.statement.Question.TheVariants.{ChecksEach, Library};
@@ -29,7 +29,7 @@ fn asked_each(
         ≡ asked.asked_by declares (ChecksEach sought entries includes) (cases_of cases.items) }
 {
     match sought {
-        Sought::Entry(listed) => {
+        Sought::ListEntry(listed) => {
             if cases.is_empty() {
                 let effect = Effect::Batch {
                     listed,

@@ -1,7 +1,7 @@
 //! Lists of statements.
 
 ghost use Rattle.std.specs.Prelude.{◌≡◌, ◌≤◌, MatchResult, [], ◌∷◌, map, drop, length, option_to_list, IfOk, Ok};
-ghost use Rattle.m4quote.specs.Entry.{span, view, views};
+ghost use Rattle.m4quote.specs.ItemValue.{span, view, views};
 ghost use Rattle.ac_statement.specs.Reading.{Gives, Fails};
 ghost use Rattle.ac_statement.specs.Stand.{no_line_start};
 ghost use Rattle.acparse.specs.Profile as profile;

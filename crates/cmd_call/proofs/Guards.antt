@@ -9,7 +9,7 @@ use Rattle.file_texts.specs.Held.{Held, GuardsMore, IsGuarded}
 use Rattle.file_texts.specs.Names.{IsFileName}
 use Rattle.file_texts.specs.Places.{place_under}
 use Rattle.file_texts.specs.declared.places.Guard.{Guard}
-use Rattle.file_texts.specs.declared.places.Place.{Place}
+use Rattle.file_texts.specs.declared.places.FilePlace.{FilePlace}
 use Rattle.cmd_call.specs.Guarded.{AreGuarded, HasGuard, IsGuardedNow, inputs_of, paths_of}
 use Rattle.cmd_call.specs.Supplies.{path_of}
 

@@ -6,7 +6,7 @@ use Rattle.file_texts.specs.Held.{Held}
 use Rattle.file_texts.specs.Names.{IsFileName}
 use Rattle.file_texts.specs.Places.{place_under}
 use Rattle.file_texts.specs.declared.places.Guard.{Guard}
-use Rattle.file_texts.specs.declared.places.Place.{Place}
+use Rattle.file_texts.specs.declared.places.FilePlace.{FilePlace}
 use Rattle.cmd_call.specs.Supplies.{path_of}
 
 -- The names of the templates, below the source directory. (own)
@@ -19,7 +19,7 @@ inputs_of srcdir templates = codes "config.log" ∷ path_of srcdir (codes "confi
 
 -- The name is guarded, with the place that it has if these files are known. (own)
 pub record HasGuard (files : Option Known) (guards : List Guard) (name : List ℕ) : Type 0 where
-  pub place : Option Place
+  pub place : Option FilePlace
   pub at : IfSome files (λ k. place ≡ place_under k name)
   pub guarded : Contains guards (record { name = name; place = place })
 

@@ -15,7 +15,7 @@ use Rattle.file_texts.proofs.Unused.{unused_receipt}
 use Rattle.file_texts.specs.Lines.{AreLines}
 use Rattle.file_texts.specs.Steps.{IsReplaced}
 use Rattle.file_texts.specs.declared.places.Guard.{Guard}
-use Rattle.file_texts.specs.declared.places.Place.{Place}
+use Rattle.file_texts.specs.declared.places.FilePlace.{FilePlace}
 use Rattle.engine.specs.Configured.{IsAnswer, IfStarts, IfReport, IsMeant, artifacts}
 use Rattle.engine.specs.Remaking.{Remakes}
 use Rattle.engine_frame.specs.Faults.{◌>>=◌}
@@ -81,7 +81,7 @@ is_read a e source script found n read is kind = (source, read ∙ ap Ok (runs_a
 -- ---- a run that returned a report
 
 -- What is left in files by a run that handed over these artifacts, and by its log.
-left_by : (mid fin : Option Known) (guards : List Guard) (artifacts : List Artifact) (lines log : List ℕ) (places : List Place) → IfSome mid (λ k. IsDoneApart k guards artifacts 0 lines places)
+left_by : (mid fin : Option Known) (guards : List Guard) (artifacts : List Artifact) (lines log : List ℕ) (places : List FilePlace) → IfSome mid (λ k. IsDoneApart k guards artifacts 0 lines places)
     → Does mid fin (λ k deeds. IsReplaced k (codes "config.log") log deeds) → IfSome fin (λ k. IsLeft k guards artifacts lines log)
 left_by None None guards artifacts lines log places done logged = tt
 left_by None (Some new) guards artifacts lines log places done logged = absurd logged

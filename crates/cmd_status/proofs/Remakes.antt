@@ -6,7 +6,7 @@ use Rattle.file_texts.specs.Done.{IsDoneApart}
 use Rattle.file_texts.specs.Held.{Held, AreUnguarded, GuardsMore, IsGuarded, IsUnused, receipt_of, closings}
 use Rattle.file_texts.specs.Names.{IsFileName}
 use Rattle.file_texts.specs.declared.places.Guard.{Guard}
-use Rattle.file_texts.specs.declared.places.Place.{Place}
+use Rattle.file_texts.specs.declared.places.FilePlace.{FilePlace}
 use Rattle.file_texts.proofs.Unused.{unused_receipt}
 use Rattle.file_texts.specs.Lines.{AreLines}
 use Rattle.engine_frame.specs.Faults.{named, of_record, ◌>>=◌}
@@ -36,7 +36,7 @@ nothing_refused failures false is = (omega (arith, is), refl)
 nothing_refused failures true is = absurd (omega (arith, is))
 
 -- What was done is what was done for other names of the same artifacts and guards.
-pub done_apart : (known : Option Known) (guards lent : List Guard) (handed artifacts : List Artifact) (failures : ℕ) (said lines : List ℕ) (places : List Place) → guards ≡ lent → handed ≡ artifacts → failures ≡ 0 → said ≡ lines
+pub done_apart : (known : Option Known) (guards lent : List Guard) (handed artifacts : List Artifact) (failures : ℕ) (said lines : List ℕ) (places : List FilePlace) → guards ≡ lent → handed ≡ artifacts → failures ≡ 0 → said ≡ lines
     → IfSome known (λ k. IsDoneApart k guards handed failures said places) → IfSome known (λ k. IsDoneApart k lent artifacts 0 lines places)
 done_apart known guards lent handed artifacts failures said lines places same artifacts_are none lines_are h =
     subst (λ gs. IfSome known (λ k. IsDoneApart k gs artifacts 0 lines places)) same

@@ -6,7 +6,7 @@ use Rattle.file_texts.specs.Done.{AreDone}
 use Rattle.file_texts.specs.Held.{Held}
 use Rattle.file_texts.specs.Steps.{IsReplaced}
 use Rattle.file_texts.specs.declared.places.Guard.{Guard}
-use Rattle.file_texts.specs.declared.places.Place.{Place}
+use Rattle.file_texts.specs.declared.places.FilePlace.{FilePlace}
 use Rattle.engine_frame.specs.declared.report.Report.{Report}
 use Rattle.cmd_call.specs.Logged.{IsHeld, HasLogged}
 use Rattle.output_put.specs.declared.artifact.Artifact.{Artifact}
@@ -19,7 +19,7 @@ AreSameFiles old new = IfSome old (λ before. IfSome new (λ now. now.files ≡ 
 -- All that was done to files is what was done for these artifacts, none of which was refused, with
 -- these lines, while these names were guarded; and then the log was written, with this text. (own)
 pub record IsLeft (k : Known) (guards : List Guard) (artifacts : List Artifact) (lines log : List ℕ) : Type 0 where
-  pub places : List Place
+  pub places : List FilePlace
   pub before : List Deed
   pub logged : List Deed
   pub deeds : k.deeds ≡ before ++ logged

@@ -6,7 +6,7 @@ use Rattle.file_texts.specs.Done.{IsDoneApart}
 use Rattle.file_texts.specs.Held.{AreUnguarded}
 use Rattle.file_texts.specs.Lines.{AreLines}
 use Rattle.file_texts.specs.declared.places.Guard.{Guard}
-use Rattle.file_texts.specs.declared.places.Place.{Place}
+use Rattle.file_texts.specs.declared.places.FilePlace.{FilePlace}
 use Rattle.engine_frame.specs.Remade.{remade}
 use Rattle.cmd_call.specs.Guarded.{AreGuarded, inputs_of}
 use Rattle.cmd_call.specs.Supplies.{ReadsWhole, GivenAgain}
@@ -43,5 +43,5 @@ pub record IsMadeAgain (old new : Option Known) (tags : List (List ℕ)) (out : 
   pub guarded : GuardsAgain old guards (record_in text) templates
   pub unguarded : AreUnguarded guards made
   pub same : AreSameFiles old new
-  pub places : List Place
+  pub places : List FilePlace
   pub written : IfSome new (λ k. IsDoneApart k guards made 0 out places)

@@ -28,8 +28,8 @@ fn names_sought(alloc: Global, word: &[u8], sought: Sought, name: &[u8]) -> Resu
 fn names_entry(alloc: Global, word: &[u8], name: &[u8]) -> Result<bool, AllocError>
     ensures { IfOk result (λ b. b ≡ specs.is_among word.now (specs.names_of (Entry name.now))) }
 {
-    let header = names_sought(alloc, word, Sought::Entry(Listed::Header), name)?;
-    let function = names_sought(alloc, word, Sought::Entry(Listed::Function), name)?;
+    let header = names_sought(alloc, word, Sought::ListEntry(Listed::Header), name)?;
+    let function = names_sought(alloc, word, Sought::ListEntry(Listed::Function), name)?;
     let of_type = names_sought(alloc, word, Sought::Type, name)?;
     Ok(header || function || of_type)
 }
@@ -60,7 +60,7 @@ fn names_declaration(alloc: Global, word: &[u8], name: &[u8]) -> Result<bool, Al
     ensures { IfOk result (λ b.
         b ≡ specs.is_among word.now (specs.names_of (Declaration name.now))) }
 {
-    names_sought(alloc, word, Sought::Entry(Listed::Declaration), name)
+    names_sought(alloc, word, Sought::ListEntry(Listed::Declaration), name)
 }
 
 /// Returns whether the word is a name of the test of a subject.
@@ -113,7 +113,7 @@ fn put_sought_name(
 fn put_other_names(alloc: Global, out: &mut Vec<u8>, name: &[u8]) -> Result<(), AllocError>
     ensures { OnOk result (out.new.items ≡ out.old.items ++ specs.other_names name.now) }
 {
-    put_sought_name(alloc, out, Sought::Entry(Listed::Function), name)?;
+    put_sought_name(alloc, out, Sought::ListEntry(Listed::Function), name)?;
     out.extend_from_slice(b" or ")?;
     put_sought_name(alloc, out, Sought::Type, name)?;
     out.extend_from_slice(b" (of a program, ac_cv_prog_VARIABLE or ac_cv_path_VARIABLE)")
@@ -124,7 +124,7 @@ fn put_entry_names(alloc: Global, out: &mut Vec<u8>, name: &[u8]) -> Result<(), 
     ensures { OnOk result (out.new.items ≡ out.old.items ++ specs.entry_names name.now) }
 {
     if name.ends_with(b".h") {
-        return put_sought_name(alloc, out, Sought::Entry(Listed::Header), name);
+        return put_sought_name(alloc, out, Sought::ListEntry(Listed::Header), name);
     }
     put_other_names(alloc, out, name)
 }
@@ -162,7 +162,7 @@ pub(crate) fn put_cache_name(
     match about {
         Subject::Entry(name) => put_entry_names(alloc, out, name),
         Subject::Declaration(name) => {
-            put_sought_name(alloc, out, Sought::Entry(Listed::Declaration), name)
+            put_sought_name(alloc, out, Sought::ListEntry(Listed::Declaration), name)
         }
         Subject::Library(function, library) => put_library_name(alloc, out, function, library),
         Subject::Libraries(function) => put_libraries_name(alloc, out, function),
@@ -185,9 +185,9 @@ fn entry_cache_names(alloc: Global, name: &[u8]) -> Result<Vec<Bytes>, AllocErro
 {
     let mut names = one(
         alloc,
-        sought_name(alloc, Sought::Entry(Listed::Header), name)?,
+        sought_name(alloc, Sought::ListEntry(Listed::Header), name)?,
     )?;
-    names.push(sought_name(alloc, Sought::Entry(Listed::Function), name)?)?;
+    names.push(sought_name(alloc, Sought::ListEntry(Listed::Function), name)?)?;
     names.push(sought_name(alloc, Sought::Type, name)?)?;
     Ok(names)
 }
@@ -197,7 +197,7 @@ fn declaration_cache_names(alloc: Global, name: &[u8]) -> Result<Vec<Bytes>, All
 {
     one(
         alloc,
-        sought_name(alloc, Sought::Entry(Listed::Declaration), name)?,
+        sought_name(alloc, Sought::ListEntry(Listed::Declaration), name)?,
     )
 }
 

@@ -45,7 +45,7 @@ use Rattle.std.specs.Prelude.{codes}
 use Rattle.ac_tree.specs.Lists.{after}
 use Rattle.ac_tree.specs.Script.{Script, Done, Then, Choice, No_case, Case}
 use Rattle.ac_tree.specs.declared.listed.Listed.TheVariants.{Header, Function}
-use Rattle.ac_tree.specs.declared.listed.Sought.TheVariants.{Entry}
+use Rattle.ac_tree.specs.declared.listed.Sought.TheVariants.{ListEntry}
 use Rattle.ac_tree.specs.declared.statement.Declares.TheVariants as declares
 use Rattle.ac_tree.specs.declared.statement.Effect.TheVariants.{Nothing, Assign, Package, Complete}
 use Rattle.ac_tree.specs.declared.statement.Question.TheVariants.{Checks}
@@ -147,8 +147,8 @@ abbrev example : Script
 example =
     Then declares.Begin (Package (codes "a") (codes "1") [] (codes "a") [])
     (Then (declares.Precious (codes "ac_cv_env_X_value") (codes "help")) Nothing
-    (Choice declares.Nothing (Asked (Checks (Entry Header) (codes "a.h") None)) (Case Yes (sets (codes "x")) No_case)
-    (Choice declares.Nothing (Asked (Checks (Entry Function) (codes "f") None)) (Case Yes (sets (codes "y")) No_case) (Then declares.End Complete Done))))
+    (Choice declares.Nothing (Asked (Checks (ListEntry Header) (codes "a.h") None)) (Case Yes (sets (codes "x")) No_case)
+    (Choice declares.Nothing (Asked (Checks (ListEntry Function) (codes "f") None)) (Case Yes (sets (codes "y")) No_case) (Then declares.End Complete Done))))
 
 form : CanResume example
 unfolding after with_name has_name has_cv is_cache_name is_mark

@@ -26,7 +26,7 @@ use Rattle.file_texts.specs.Places.{is_at, is_place, is_place_guarded, place_und
 use Rattle.file_texts.specs.Reading.{IsReadWhole}
 use Rattle.file_texts.specs.Steps.{IsReplaced}
 use Rattle.file_texts.specs.declared.places.Guard.{Guard}
-use Rattle.file_texts.specs.declared.places.Place.{Place}
+use Rattle.file_texts.specs.declared.places.FilePlace.{FilePlace}
 use Rattle.engine.specs.Configured.{artifacts, record_after}
 use Rattle.engine.specs.Remaking.{Remakes, is_chosen, is_record, outputs_with}
 use Rattle.fallible.proofs.Binds.{bind_ok, ok_is}
@@ -79,16 +79,16 @@ is_started a cache templates script settings start e =
 
 -- ---- places that are guarded
 
-is_itself : (p : Place) → is_place p p ≡ true
+is_itself : (p : FilePlace) → is_place p p ≡ true
 is_itself p = and_from (p.directory == p.directory) ((p.device == p.device) && bytes_eq p.name p.name) (eq-eqb p.directory p.directory refl)
     (and_from (p.device == p.device) (bytes_eq p.name p.name) (eq-eqb p.device p.device refl) ((bytes_eq-Decides p.name p.name).1 refl))
 
-guarded_by : (guards : List Guard) (name : List ℕ) (place : Place) → Contains guards (record { name = name; place = Some place }) → is_place_guarded place guards ≡ true
+guarded_by : (guards : List Guard) (name : List ℕ) (place : FilePlace) → Contains guards (record { name = name; place = Some place }) → is_place_guarded place guards ≡ true
 guarded_by guards name place there =
     list_any-from_Any (λ guard. is_at place guard.place) guards (there.0, record { name = name; place = Some place }, there.1, there.2, is_itself place)
 
 -- A name that is guarded, with the place that it has.
-guarded_at : (k : Known) (guards : List Guard) (name : List ℕ) (place : Place) → HasGuard (Some k) guards name → place_under k name ≡ Some place → is_place_guarded place guards ≡ true
+guarded_at : (k : Known) (guards : List Guard) (name : List ℕ) (place : FilePlace) → HasGuard (Some k) guards name → place_under k name ≡ Some place → is_place_guarded place guards ≡ true
 guarded_at k guards name place has at =
     guarded_by guards name place (subst (λ o. Contains guards (record { name = name; place = o })) (has.at ∙ at) has.guarded)
 

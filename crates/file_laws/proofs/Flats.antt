@@ -9,7 +9,7 @@ use Rattle.file_texts.specs.Coherent.{after, IsCoherent, IsElsewhere}
 use Rattle.file_texts.specs.Links.{is_link, LeadsTo, itself, on}
 use Rattle.file_texts.specs.Names.{last_of}
 use Rattle.file_texts.specs.Places.{place_at, place_under}
-use Rattle.file_texts.specs.declared.places.Place.{Place}
+use Rattle.file_texts.specs.declared.places.FilePlace.{FilePlace}
 use Rattle.file_laws.specs.Flat.{Texts, after_deed, after_deeds, flat, kind_of}
 
 -- The last deed of several.
@@ -35,15 +35,15 @@ not_at : {A : Type 0} (own name : List ℕ) (x y : A) → bytes_eq own name ≡ 
 not_at own name x y is = ap (λ b. if b then x else y) is
 
 -- Names at other places differ in their last parts.
-differ : (name other : List ℕ) (place : Place) → Some (place_at other (0, 0)) ≢ Some place → Some (place_at name (0, 0)) ≡ Some place → bytes_eq (last_of name) (last_of other) ≡ false
+differ : (name other : List ℕ) (place : FilePlace) → Some (place_at other (0, 0)) ≢ Some place → Some (place_at name (0, 0)) ≡ Some place → bytes_eq (last_of name) (last_of other) ≡ false
 differ name other place apart at =
     false_from_ne_true (bytes_eq (last_of name) (last_of other))
     (λ is.
     let same : last_of name ≡ last_of other = (bytes_eq-Decides (last_of name) (last_of other)).0 is in
-    let one : Place → Option Place = λ p. Some p in
+    let one : FilePlace → Option FilePlace = λ p. Some p in
     apart (ap (λ (l : List ℕ). one (record { device = 0; directory = 0; name = l })) (sym same) ∙ at))
 
-elsewhere_same : (start : Texts) (d : List Deed) (deed : Deed) (name : List ℕ) (place : Place) → Some (place_at name (0, 0)) ≡ Some place → IsElsewhere (after (flat start) d) place deed
+elsewhere_same : (start : Texts) (d : List Deed) (deed : Deed) (name : List ℕ) (place : FilePlace) → Some (place_at name (0, 0)) ≡ Some place → IsElsewhere (after (flat start) d) place deed
     → after_deed deed (after_deeds start d) (last_of name) ≡ after_deeds start d (last_of name)
 elsewhere_same start d (MadeDirectories other) name place at apart = refl
 elsewhere_same start d (Made other) name place at apart = not_at (last_of name) (last_of other) (Some []) (after_deeds start d (last_of name)) (differ name other place apart at)
@@ -83,7 +83,7 @@ is_coherent start = record {
   directories_last = λ d made name directory is. is;
 }
   where
-    name_in : Option Place → List ℕ
+    name_in : Option FilePlace → List ℕ
     name_in None = []
     name_in (Some p) = p.name
 

@@ -13,7 +13,7 @@ use Rattle.file_texts.specs.Names.{directory_of, home_of, temporary}
 use Rattle.file_texts.specs.Places.{ArePlaced, alone, both, IsAdded, is_among, is_held_at, is_place, place_at, place_under}
 use Rattle.file_texts.specs.Steps.{IsWritten, written, making, directories_for}
 use Rattle.file_texts.specs.declared.places.Guard.{Guard}
-use Rattle.file_texts.specs.declared.places.Place.{Place}
+use Rattle.file_texts.specs.declared.places.FilePlace.{FilePlace}
 use Rattle.file_texts.specs.declared.writing.Keeps.{Keeps}
 use Rattle.output_put.specs.declared.artifact.Kind.{Kind}
 use Rattle.output_put.specs.declared.artifact.Kind.TheVariants.{Cache, Record, File, Header}
@@ -64,39 +64,39 @@ in_after_put f c d Header own file text line deeds name x never (header_put rest
 -- ---- places
 
 -- A place is that of a directory.
-pub directory_of_place : (name : List ℕ) (o : Option (ℕ × ℕ)) (place : Place) → option_map (place_at name) o ≡ Some place → (x : ℕ × ℕ) × (o ≡ Some x) × (place_at name x ≡ place)
+pub directory_of_place : (name : List ℕ) (o : Option (ℕ × ℕ)) (place : FilePlace) → option_map (place_at name) o ≡ Some place → (x : ℕ × ℕ) × (o ≡ Some x) × (place_at name x ≡ place)
 directory_of_place name None place is = absurd (cc)
 directory_of_place name (Some x) place is = (x, refl, cc)
 
 -- A place stays if its directory does.
-pub place_stays : (f : Files) (d e : List Deed) (name : List ℕ) (place : Place) → ((x : ℕ × ℕ) → IsIn f d (home_of name) x → IsIn f e (home_of name) x)
+pub place_stays : (f : Files) (d e : List Deed) (name : List ℕ) (place : FilePlace) → ((x : ℕ × ℕ) → IsIn f d (home_of name) x → IsIn f e (home_of name) x)
     → place_under (after f d) name ≡ Some place → place_under (after f e) name ≡ Some place
 place_stays f d e name place stays at =
     let found = directory_of_place name (f.directories d (home_of name)) place at in
     ap (option_map (place_at name)) (stays found.0 found.1) ∙ ap Some found.2
 
-pub place_after_made : (f : Files) → IsCoherent f → (d : List Deed) (kind : Kind) (own name : List ℕ) (place : Place) → place_under (after f d) name ≡ Some place
+pub place_after_made : (f : Files) → IsCoherent f → (d : List Deed) (kind : Kind) (own name : List ℕ) (place : FilePlace) → place_under (after f d) name ≡ Some place
     → place_under (after f (d ++ may_make kind own)) name ≡ Some place
 place_after_made f c d Cache own name place at = place_stays f d (d ++ []) name place (λ x is. in_after_none f d (home_of name) x is) at
 place_after_made f c d Record own name place at = place_stays f d (d ++ []) name place (λ x is. in_after_none f d (home_of name) x is) at
 place_after_made f c d File own name place at = place_stays f d (d ++ directories_for own) name place (λ x is. in_after_making f c d (directory_of own) (home_of name) x is) at
 place_after_made f c d Header own name place at = place_stays f d (d ++ directories_for own) name place (λ x is. in_after_making f c d (directory_of own) (home_of name) x is) at
 
-pub place_after_put : (f : Files) → IsCoherent f → (d : List Deed) (kind : Kind) (own file text line : List ℕ) (deeds : List Deed) (name : List ℕ) (place : Place)
+pub place_after_put : (f : Files) → IsCoherent f → (d : List Deed) (kind : Kind) (own file text line : List ℕ) (deeds : List Deed) (name : List ℕ) (place : FilePlace)
     → IsNeverLink f file → IsPut (after f d) own file text kind line deeds → place_under (after f d) name ≡ Some place → place_under (after f (d ++ deeds)) name ≡ Some place
 place_after_put f c d kind own file text line deeds name place never put at =
     place_stays f d (d ++ deeds) name place (λ x is. in_after_put f c d kind own file text line deeds (home_of name) x never put is) at
 
 -- A place is itself, and is among those to which it was added.
-same_place : (p : Place) → is_place p p ≡ true
+same_place : (p : FilePlace) → is_place p p ≡ true
 same_place p = and_from (p.directory == p.directory) _ (eq-eqb p.directory p.directory refl)
     (and_from (p.device == p.device) (bytes_eq p.name p.name) (eq-eqb p.device p.device refl) ((bytes_eq-Decides p.name p.name).1 refl))
 
-pub among_added : (p : Place) (places : List Place) → is_among p (places ++ p ∷ []) ≡ true
+pub among_added : (p : FilePlace) (places : List FilePlace) → is_among p (places ++ p ∷ []) ≡ true
 among_added p places =
     list_any-append (λ other. is_place p other) places (p ∷ []) ∙ or_right (is_among p places) (is_among p (p ∷ [])) (or_left (is_place p p) false (same_place p))
 
-pub among_more : (p : Place) (places more : List Place) → is_among p places ≡ true → is_among p (places ++ more) ≡ true
+pub among_more : (p : FilePlace) (places more : List FilePlace) → is_among p places ≡ true → is_among p (places ++ more) ≡ true
 among_more p places more is = list_any-append (λ other. is_place p other) places more ∙ or_left (is_among p places) (is_among p more) is
 
 -- An artifact whose name is that of no link is put to the file of its name.
@@ -111,15 +111,15 @@ end_is_name f d name File file never end = end
 end_is_name f d name Header file never end = end
 
 -- What was added for an artifact: the place of its file, which was free.
-pub record HasFree (k : Known) (guards : List Guard) (places new : List Place) (name file : List ℕ) : Type 0 where
-  pub own : Place
+pub record HasFree (k : Known) (guards : List Guard) (places new : List FilePlace) (name file : List ℕ) : Type 0 where
+  pub own : FilePlace
   pub at : place_under k file ≡ Some own
   pub free : is_held_at (Some own) guards places ≡ false
   pub among : is_among own new ≡ true
-  pub more : List Place
+  pub more : List FilePlace
   pub are : new ≡ places ++ more
 
-free_of : (k : Known) (guards : List Guard) (places new : List Place) (name file : List ℕ) → ArePlaced k guards places new name file → HasFree k guards places new name file
+free_of : (k : Known) (guards : List Guard) (places new : List FilePlace) (name file : List ℕ) → ArePlaced k guards places new name file → HasFree k guards places new name file
 free_of k guards places new name file (alone added) = record {
   own = added.place;
   at = added.at;
@@ -139,7 +139,7 @@ free_of k guards places new name file (both f middle first second) = record {
 }
 
 -- The same once its directories are made.
-pub free_made : (f : Files) → IsCoherent f → (d : List Deed) (guards : List Guard) (places new : List Place) (name file : List ℕ) (kind : Kind)
+pub free_made : (f : Files) → IsCoherent f → (d : List Deed) (guards : List Guard) (places new : List FilePlace) (name file : List ℕ) (kind : Kind)
     → HasPlaces (after f d) guards places new name file kind → HasFree (after f (d ++ may_make kind name)) guards places new name file
 free_made f c d guards places new name file kind (there placed) =
     let free = free_of (after f d) guards places new name file placed in
@@ -148,18 +148,18 @@ free_made f c d guards places new name file kind (made placed) = free_of (after 
 
 -- ---- the place of what was put
 
-after_none : (f : Files) (d : List Deed) (name : List ℕ) (place : Place) → place_under (after f (d ++ [])) name ≡ Some place → place_under (after f d) name ≡ Some place
+after_none : (f : Files) (d : List Deed) (name : List ℕ) (place : FilePlace) → place_under (after f (d ++ [])) name ≡ Some place → place_under (after f d) name ≡ Some place
 after_none f d name place at = subst (λ l. place_under (after f l) name ≡ Some place) (append-nil d) at
 
-before_none : (f : Files) (d : List Deed) (name : List ℕ) (place : Place) → place_under (after f d) name ≡ Some place → place_under (after f (d ++ [])) name ≡ Some place
+before_none : (f : Files) (d : List Deed) (name : List ℕ) (place : FilePlace) → place_under (after f d) name ≡ Some place → place_under (after f (d ++ [])) name ≡ Some place
 before_none f d name place at = subst (λ l. place_under (after f l) name ≡ Some place) (sym (append-nil d)) at
 
-stays_written : (f : Files) → IsCoherent f → (d : List Deed) (keeps : Keeps) (file text : List ℕ) (deeds : List Deed) (place : Place)
+stays_written : (f : Files) → IsCoherent f → (d : List Deed) (keeps : Keeps) (file text : List ℕ) (deeds : List Deed) (place : FilePlace)
     → IsNeverLink f file → IsWritten (after f d) keeps file text deeds → place_under (after f d) file ≡ Some place → place_under (after f (d ++ deeds)) file ≡ Some place
 stays_written f c d keeps file text deeds place never w at =
     place_stays f d (d ++ deeds) file place (λ x is. in_after_written f c d keeps file text deeds (home_of file) x never w is) at
 
-stays_both : (f : Files) → IsCoherent f → (d : List Deed) (keeps : Keeps) (own file text : List ℕ) (deeds : List Deed) (place : Place)
+stays_both : (f : Files) → IsCoherent f → (d : List Deed) (keeps : Keeps) (own file text : List ℕ) (deeds : List Deed) (place : FilePlace)
     → IsNeverLink f file → IsWritten (with_deeds (after f d) (directories_for own)) keeps file text deeds → place_under (after f (d ++ directories_for own)) file ≡ Some place
     → place_under (after f (d ++ (directories_for own ++ deeds))) file ≡ Some place
 stays_both f c d keeps own file text deeds place never w at =
@@ -167,13 +167,13 @@ stays_both f c d keeps own file text deeds place never w at =
     (stays_written f c (d ++ directories_for own) keeps file text deeds place never w at)
 
 -- What has a text is somewhere.
-somewhere_of : (f : Files) → IsCoherent f → (d : List Deed) (name text : List ℕ) → text_under (after f d) name ≡ Some text → (place : Place) × (place_under (after f d) name ≡ Some place)
+somewhere_of : (f : Files) → IsCoherent f → (d : List Deed) (name text : List ℕ) → text_under (after f d) name ≡ Some text → (place : FilePlace) × (place_under (after f d) name ≡ Some place)
 somewhere_of f c d name text is = c.somewhere d name (λ nothing. absurd (some_none (sym is ∙ c.nothing d name nothing)))
   where
     some_none : {t : List ℕ} → Some t ≡ None → ⊥
     some_none e = cc
 
-same_header : (f : Files) → IsCoherent f → (d : List Deed) (name file text : List ℕ) (place : Place) → file ≡ name → text_under (after f d) name ≡ Some text
+same_header : (f : Files) → IsCoherent f → (d : List Deed) (name file text : List ℕ) (place : FilePlace) → file ≡ name → text_under (after f d) name ≡ Some text
     → place_under (after f (d ++ directories_for name)) file ≡ Some place → place_under (after f (d ++ [])) file ≡ Some place
 same_header f c d name file text place same is at =
     let found = somewhere_of f c d name text is in
@@ -182,7 +182,7 @@ same_header f c d name file text place same is at =
     let one : found.0 ≡ place = cc in
     before_none f d file place (subst (λ n. place_under (after f d) n ≡ Some place) (sym same) (found.1 ∙ ap Some one))
 
-pub own_stays : (f : Files) → IsCoherent f → (d : List Deed) (kind : Kind) (name file text line : List ℕ) (deeds : List Deed) (place : Place)
+pub own_stays : (f : Files) → IsCoherent f → (d : List Deed) (kind : Kind) (name file text line : List ℕ) (deeds : List Deed) (place : FilePlace)
     → IsNeverLink f file → file ≡ name → IsPut (after f d) name file text kind line deeds → place_under (after f (d ++ may_make kind name)) file ≡ Some place
     → place_under (after f (d ++ deeds)) file ≡ Some place
 own_stays f c d Cache name file text line [] place never same (cache_same is) at = at

@@ -10,25 +10,25 @@ use Rattle.file_texts.specs.Links.{is_link, itself}
 use Rattle.file_texts.specs.Places.{is_among, is_held_at, is_place_guarded, place_under}
 use Rattle.file_texts.specs.Steps.{IsReplaced}
 use Rattle.file_texts.specs.declared.places.Guard.{Guard}
-use Rattle.file_texts.specs.declared.places.Place.{Place}
+use Rattle.file_texts.specs.declared.places.FilePlace.{FilePlace}
 use Rattle.output_put.specs.declared.artifact.Artifact.{Artifact}
 use Rattle.file_laws.proofs.Places.{among_more, end_is_name, free_made, own_stays, place_after_put}
 use Rattle.file_laws.specs.Rerun.{AreNeverLinks, InputsAreKept, IsNeverLink, IsOver, LastIsRead, OutputsAreRead}
 
 -- What the laws of `file_texts` say.
 abbrev PutsAreRead : Type 0
-PutsAreRead = (k : Known) (guards : List Guard) (places new : List Place) (artifact : Artifact) (line : List ℕ) (deeds : List Deed)
+PutsAreRead = (k : Known) (guards : List Guard) (places new : List FilePlace) (artifact : Artifact) (line : List ℕ) (deeds : List Deed)
     → IsCoherent k.files → IsTakenSo k guards places new artifact line deeds
     → text_under (with_deeds k deeds) artifact.name ≡ Some artifact.text
 
 abbrev PutsLeaveOthers : Type 0
-PutsLeaveOthers = (k : Known) (guards : List Guard) (places new : List Place) (artifact : Artifact) (line : List ℕ) (deeds : List Deed) (name : List ℕ) (place : Place) (text : List ℕ)
+PutsLeaveOthers = (k : Known) (guards : List Guard) (places new : List FilePlace) (artifact : Artifact) (line : List ℕ) (deeds : List Deed) (name : List ℕ) (place : FilePlace) (text : List ℕ)
     → IsCoherent k.files → (put : IsTakenSo k guards places new artifact line deeds)
     → IsPutApart k artifact put.file place → ReadsAt k name place text
     → ReadsAt (with_deeds k deeds) name place text
 
 abbrev LastLeavesOthers : Type 0
-LastLeavesOthers = (k : Known) (file written : List ℕ) (deeds : List Deed) (name : List ℕ) (place : Place) (text : List ℕ)
+LastLeavesOthers = (k : Known) (file written : List ℕ) (deeds : List Deed) (name : List ℕ) (place : FilePlace) (text : List ℕ)
     → IsCoherent k.files → IsReplaced k file written deeds → IsApart k file place
     → ReadsAt k name place text → ReadsAt (with_deeds k deeds) name place text
 
@@ -40,7 +40,7 @@ LastsAreRead = (k : Known) (file text : List ℕ) (deeds : List Deed)
 -- ---- one put
 
 -- A place that is held is not that of a put.
-put_apart : (f : Files) → IsCoherent f → (d : List Deed) (guards : List Guard) (places new : List Place) (artifact : Artifact) (line : List ℕ) (deeds : List Deed) (place : Place)
+put_apart : (f : Files) → IsCoherent f → (d : List Deed) (guards : List Guard) (places new : List FilePlace) (artifact : Artifact) (line : List ℕ) (deeds : List Deed) (place : FilePlace)
     → IsNeverLink f artifact.name → (so : IsTakenSo (after f d) guards places new artifact line deeds) → is_held_at (Some place) guards places ≡ true
     → IsPutApart (after f d) artifact so.file place
 put_apart f c d guards places new artifact line deeds place never so held =
@@ -55,9 +55,9 @@ put_apart f c d guards places new artifact line deeds place never so held =
 
 -- ---- what was read before
 
-inputs_by : (f : Files) → IsCoherent f → PutsLeaveOthers → (guards : List Guard) (artifacts : List Artifact) (failures : ℕ) (lines : List ℕ) (places : List Place) (deeds : List Deed)
+inputs_by : (f : Files) → IsCoherent f → PutsLeaveOthers → (guards : List Guard) (artifacts : List Artifact) (failures : ℕ) (lines : List ℕ) (places : List FilePlace) (deeds : List Deed)
     → AreDone f guards artifacts failures lines places deeds → failures ≡ 0 → AreNeverLinks f artifacts
-    → (name : List ℕ) (place : Place) (text : List ℕ) → is_place_guarded place guards ≡ true → ReadsAt (after f []) name place text → ReadsAt (after f deeds) name place text
+    → (name : List ℕ) (place : FilePlace) (text : List ℕ) → is_place_guarded place guards ≡ true → ReadsAt (after f []) name place text → ReadsAt (after f deeds) name place text
 inputs_by f c law guards artifacts failures lines places deeds none zero never name place text guarded r = r
 inputs_by f c law guards artifacts failures lines places deeds (taken earlier count before_lines before_places new before artifact line more done so) zero never name place text guarded r =
     let split = All-pop (λ a. IsNeverLink f a.name) (earlier ++ artifact ∷ []) earlier (Some artifact) refl never in
@@ -68,9 +68,9 @@ inputs_by f c law guards artifacts failures lines places deeds (refused earlier 
     absurd (omega (arith, zero))
 
 -- A place stays over all puts.
-place_by : (f : Files) → IsCoherent f → (guards : List Guard) (artifacts : List Artifact) (failures : ℕ) (lines : List ℕ) (places : List Place) (deeds : List Deed)
+place_by : (f : Files) → IsCoherent f → (guards : List Guard) (artifacts : List Artifact) (failures : ℕ) (lines : List ℕ) (places : List FilePlace) (deeds : List Deed)
     → AreDone f guards artifacts failures lines places deeds → failures ≡ 0 → AreNeverLinks f artifacts
-    → (name : List ℕ) (place : Place) → place_under (after f []) name ≡ Some place → place_under (after f deeds) name ≡ Some place
+    → (name : List ℕ) (place : FilePlace) → place_under (after f []) name ≡ Some place → place_under (after f deeds) name ≡ Some place
 place_by f c guards artifacts failures lines places deeds none zero never name place at = at
 place_by f c guards artifacts failures lines places deeds (taken earlier count before_lines before_places new before artifact line more done so) zero never name place at =
     let split = All-pop (λ a. IsNeverLink f a.name) (earlier ++ artifact ∷ []) earlier (Some artifact) refl never in
@@ -83,13 +83,13 @@ place_by f c guards artifacts failures lines places deeds (refused earlier count
 -- ---- what was written
 
 -- The artifact is read under its name, at a place that is that of an artifact, and isn't guarded.
-record IsRead (f : Files) (guards : List Guard) (places : List Place) (deeds : List Deed) (artifact : Artifact) : Type 0 where
-  place : Place
+record IsRead (f : Files) (guards : List Guard) (places : List FilePlace) (deeds : List Deed) (artifact : Artifact) : Type 0 where
+  place : FilePlace
   among : is_among place places ≡ true
   free : is_place_guarded place guards ≡ false
   reads : ReadsAt (after f deeds) artifact.name place artifact.text
 
-read_still : (f : Files) → IsCoherent f → PutsLeaveOthers → (d : List Deed) (guards : List Guard) (places new : List Place) (artifact : Artifact) (line : List ℕ) (deeds : List Deed)
+read_still : (f : Files) → IsCoherent f → PutsLeaveOthers → (d : List Deed) (guards : List Guard) (places new : List FilePlace) (artifact : Artifact) (line : List ℕ) (deeds : List Deed)
     → IsNeverLink f artifact.name → IsTakenSo (after f d) guards places new artifact line deeds
     → (other : Artifact) → IsRead f guards places d other → IsRead f guards new (d ++ deeds) other
 read_still f c law d guards places new artifact line deeds never so other is =
@@ -102,7 +102,7 @@ read_still f c law d guards places new artifact line deeds never so other is =
           (put_apart f c d guards places new artifact line deeds is.place never so (or_right (is_place_guarded is.place guards) (is_among is.place places) is.among)) is.reads;
     }
 
-read_now : (f : Files) → IsCoherent f → PutsAreRead → (d : List Deed) (guards : List Guard) (places new : List Place) (artifact : Artifact) (line : List ℕ) (deeds : List Deed)
+read_now : (f : Files) → IsCoherent f → PutsAreRead → (d : List Deed) (guards : List Guard) (places new : List FilePlace) (artifact : Artifact) (line : List ℕ) (deeds : List Deed)
     → IsNeverLink f artifact.name → IsTakenSo (after f d) guards places new artifact line deeds → IsRead f guards new (d ++ deeds) artifact
 read_now f c law d guards places new artifact line deeds never so =
     let named : so.file ≡ artifact.name = end_is_name f d artifact.name artifact.kind so.file never so.ends in
@@ -122,7 +122,7 @@ read_now f c law d guards places new artifact line deeds never so =
       };
     }
 
-reads_by : (f : Files) → IsCoherent f → PutsAreRead → PutsLeaveOthers → (guards : List Guard) (artifacts : List Artifact) (failures : ℕ) (lines : List ℕ) (places : List Place) (deeds : List Deed)
+reads_by : (f : Files) → IsCoherent f → PutsAreRead → PutsLeaveOthers → (guards : List Guard) (artifacts : List Artifact) (failures : ℕ) (lines : List ℕ) (places : List FilePlace) (deeds : List Deed)
     → AreDone f guards artifacts failures lines places deeds → failures ≡ 0 → AreNeverLinks f artifacts → All (IsRead f guards places deeds) artifacts
 reads_by f c own others guards artifacts failures lines places deeds none zero never = All-nil (IsRead f guards [] [])
 reads_by f c own others guards artifacts failures lines places deeds (taken earlier count before_lines before_places new before artifact line more done so) zero never =
@@ -137,13 +137,13 @@ reads_by f c own others guards artifacts failures lines places deeds (refused ea
 -- ---- the whole run
 
 -- The place of the last file, once all is put.
-last_at : (f : Files) → IsCoherent f → (guards : List Guard) (artifacts : List Artifact) (last text : List ℕ) (place : Place) (deeds : List Deed)
+last_at : (f : Files) → IsCoherent f → (guards : List Guard) (artifacts : List Artifact) (last text : List ℕ) (place : FilePlace) (deeds : List Deed)
     → AreNeverLinks f artifacts → (over : IsOver f guards artifacts last text place deeds) → place_under (after f over.before) last ≡ Some place
 last_at f c guards artifacts last text place deeds never over =
     place_by f c guards artifacts 0 over.lines over.places over.before over.done refl never last place over.at
 
 -- Another place is apart from that of the last file.
-last_apart : (f : Files) (d : List Deed) (last : List ℕ) (place other : Place) → IsNeverLink f last → place_under (after f d) last ≡ Some place → other ≢ place → IsApart (after f d) last other
+last_apart : (f : Files) (d : List Deed) (last : List ℕ) (place other : FilePlace) → IsNeverLink f last → place_under (after f d) last ≡ Some place → other ≢ place → IsApart (after f d) last other
 last_apart f d last place other never at differ = (never d, λ is. differ (cc))
 
 pub outputs_read : PutsAreRead → PutsLeaveOthers → LastLeavesOthers → OutputsAreRead

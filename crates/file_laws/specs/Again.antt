@@ -6,7 +6,7 @@ use Rattle.crew_trait.specs.Events.{Account}
 use Rattle.file_disk.specs.Known.{Known, Files}
 use Rattle.file_texts.specs.Coherent.{after, IsCoherent}
 use Rattle.file_texts.specs.Places.{place_under}
-use Rattle.file_texts.specs.declared.places.Place.{Place}
+use Rattle.file_texts.specs.declared.places.FilePlace.{FilePlace}
 use Rattle.engine.specs.Configured.{artifacts}
 use Rattle.engine.specs.Remaking.{is_chosen}
 use Rattle.file_laws.specs.Rerun.{AreNeverLinks, IsNeverLink}
@@ -29,14 +29,14 @@ handed_on k = record {
 }
 
 -- No link is ever under this name, and its place is another than that of the log. (own)
-pub record IsApartFrom (files : Files) (log : Place) (name : List ℕ) : Type 0 where
+pub record IsApartFrom (files : Files) (log : FilePlace) (name : List ℕ) : Type 0 where
   pub never : IsNeverLink files name
-  pub place : Place
+  pub place : FilePlace
   pub at : place_under (after files []) name ≡ Some place
   pub other : place ≢ log
 
 -- The same of these templates in a directory. (own)
-abbrev pub AreApartFrom : Files → Place → List ℕ → List (List ℕ × List ℕ) → Type 0
+abbrev pub AreApartFrom : Files → FilePlace → List ℕ → List (List ℕ × List ℕ) → Type 0
 AreApartFrom files log srcdir templates = All (λ template. IsApartFrom files log (path_of srcdir template.0)) templates
 
 -- No output of the run and no template is ever a link, nor is the log, and no template is at the place
@@ -44,7 +44,7 @@ AreApartFrom files log srcdir templates = All (λ template. IsApartFrom files lo
 pub record HasPlainFiles (files : Files) (srcdir : List ℕ) (templates : List (List ℕ × List ℕ)) (handed : List Artifact) : Type 0 where
   pub outputs : AreNeverLinks files handed
   pub log : IsNeverLink files (codes "config.log")
-  pub place : Place
+  pub place : FilePlace
   pub at : place_under (after files []) (codes "config.log") ≡ Some place
   pub inputs : AreApartFrom files place srcdir templates
 

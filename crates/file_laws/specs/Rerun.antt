@@ -7,7 +7,7 @@ use Rattle.file_texts.specs.Links.{is_link}
 use Rattle.file_texts.specs.Places.{is_place_guarded, place_under}
 use Rattle.file_texts.specs.Steps.{IsReplaced}
 use Rattle.file_texts.specs.declared.places.Guard.{Guard}
-use Rattle.file_texts.specs.declared.places.Place.{Place}
+use Rattle.file_texts.specs.declared.places.FilePlace.{FilePlace}
 use Rattle.output_put.specs.declared.artifact.Artifact.{Artifact}
 
 -- No link is under the name, whatever is done to the disk. (own)
@@ -21,9 +21,9 @@ AreNeverLinks files artifacts = All (λ artifact. IsNeverLink files artifact.nam
 -- A run on a disk that had no deeds: these artifacts were put, none was refused, and these names
 -- were guarded; and then the last file was written, which is such a log. Its place was known when the
 -- run began, and was guarded. (own)
-pub record IsOver (files : Files) (guards : List Guard) (artifacts : List Artifact) (last text : List ℕ) (place : Place) (deeds : List Deed) : Type 0 where
+pub record IsOver (files : Files) (guards : List Guard) (artifacts : List Artifact) (last text : List ℕ) (place : FilePlace) (deeds : List Deed) : Type 0 where
   pub lines : List ℕ
-  pub places : List Place
+  pub places : List FilePlace
   pub before : List Deed
   pub logged : List Deed
   pub are : deeds ≡ before ++ logged
@@ -35,21 +35,21 @@ pub record IsOver (files : Files) (guards : List Guard) (artifacts : List Artifa
 -- After such a run each artifact is read under its name, if none of these names is that of a link.
 -- (own)
 unfoldable pub OutputsAreRead : Type 0
-OutputsAreRead = (files : Files) (guards : List Guard) (artifacts : List Artifact) (last text : List ℕ) (place : Place) (deeds : List Deed)
+OutputsAreRead = (files : Files) (guards : List Guard) (artifacts : List Artifact) (last text : List ℕ) (place : FilePlace) (deeds : List Deed)
     → IsCoherent files → AreNeverLinks files artifacts → IsNeverLink files last
     → IsOver files guards artifacts last text place deeds
     → All (λ artifact. text_under (after files deeds) artifact.name ≡ Some artifact.text) artifacts
 
 -- After such a run the last file is read under its name. (own)
 unfoldable pub LastIsRead : Type 0
-LastIsRead = (files : Files) (guards : List Guard) (artifacts : List Artifact) (last text : List ℕ) (place : Place) (deeds : List Deed)
+LastIsRead = (files : Files) (guards : List Guard) (artifacts : List Artifact) (last text : List ℕ) (place : FilePlace) (deeds : List Deed)
     → IsCoherent files → IsOver files guards artifacts last text place deeds
     → text_under (after files deeds) last ≡ Some text
 
 -- After such a run what was read before under a name whose place was guarded is read again, if it is
 -- not the place of the last file. (own)
 unfoldable pub InputsAreKept : Type 0
-InputsAreKept = (files : Files) (guards : List Guard) (artifacts : List Artifact) (last written : List ℕ) (place : Place) (deeds : List Deed) (name : List ℕ) (own : Place) (text : List ℕ)
+InputsAreKept = (files : Files) (guards : List Guard) (artifacts : List Artifact) (last written : List ℕ) (place : FilePlace) (deeds : List Deed) (name : List ℕ) (own : FilePlace) (text : List ℕ)
     → IsCoherent files → AreNeverLinks files artifacts → IsNeverLink files last
     → IsOver files guards artifacts last written place deeds
     → is_place_guarded own guards ≡ true → own ≢ place → ReadsAt (after files []) name own text

@@ -11,7 +11,7 @@ use Rattle.file_texts.specs.Links.{is_link, IsNext, LeadsTo, itself, on}
 use Rattle.file_texts.specs.Names.{home_of, temporary}
 use Rattle.file_texts.specs.Places.{place_at, place_under}
 use Rattle.file_texts.specs.Steps.{IsWritten, written}
-use Rattle.file_texts.specs.declared.places.Place.{Place}
+use Rattle.file_texts.specs.declared.places.FilePlace.{FilePlace}
 use Rattle.file_texts.specs.declared.writing.Keeps.{Keeps}
 
 three : (d : List Deed) (a b c : Deed) → ((d ++ a ∷ []) ++ b ∷ []) ++ c ∷ [] ≡ d ++ a ∷ b ∷ c ∷ []
@@ -24,12 +24,12 @@ place_stays : (f : Files) → IsCoherent f → (d : List Deed) (e : Deed) (name 
 place_stays f c d e name keeps = ap (option_map (place_at name)) (c.directories_stay d e (home_of name) keeps)
 
 -- What a name is and has, if it is no link.
-record Stands (f : Files) (d : List Deed) (name : List ℕ) (place : Place) (text : Option (List ℕ)) : Type 0 where
+record Stands (f : Files) (d : List Deed) (name : List ℕ) (place : FilePlace) (text : Option (List ℕ)) : Type 0 where
   at : place_under (after f d) name ≡ Some place
   plain : is_link (kind_under (after f d) name) ≡ false
   has : text_under (after f d) name ≡ text
 
-stands_on : (f : Files) → IsCoherent f → (d : List Deed) (e : Deed) (name : List ℕ) (place : Place) (text : Option (List ℕ))
+stands_on : (f : Files) → IsCoherent f → (d : List Deed) (e : Deed) (name : List ℕ) (place : FilePlace) (text : Option (List ℕ))
     → KeepsDirectories (after f d) e → IsElsewhere (after f d) place e → Stands f d name place text
     → Stands f (d ++ e ∷ []) name place text
 stands_on f c d e name place text keeps elsewhere s =
@@ -38,12 +38,12 @@ stands_on f c d e name place text keeps elsewhere s =
     record { at = at; plain = same.0; has = same.1 ∙ s.has }
 
 -- What a name is and has, if it is a link.
-record Links (f : Files) (d : List Deed) (name : List ℕ) (place : Place) (target : Option (List ℕ)) : Type 0 where
+record Links (f : Files) (d : List Deed) (name : List ℕ) (place : FilePlace) (target : Option (List ℕ)) : Type 0 where
   at : place_under (after f d) name ≡ Some place
   link : is_link (kind_under (after f d) name) ≡ true
   has : f.targets d name ≡ target
 
-links_on : (f : Files) → IsCoherent f → (d : List Deed) (e : Deed) (name : List ℕ) (place : Place) (target : Option (List ℕ))
+links_on : (f : Files) → IsCoherent f → (d : List Deed) (e : Deed) (name : List ℕ) (place : FilePlace) (target : Option (List ℕ))
     → KeepsDirectories (after f d) e → IsElsewhere (after f d) place e → Links f d name place target
     → Links f (d ++ e ∷ []) name place target
 links_on f c d e name place target keeps elsewhere s =
@@ -71,12 +71,12 @@ keeps_last f c d t file text mode w =
     )
 
 -- They are elsewhere than a place that is neither the new file's nor the old one's.
-moved : (f : Files) → IsCoherent f → (d : List Deed) (e : Deed) (name : List ℕ) (place : Place)
+moved : (f : Files) → IsCoherent f → (d : List Deed) (e : Deed) (name : List ℕ) (place : FilePlace)
     → KeepsDirectories (after f d) e → place_under (after f d) name ≢ Some place
     → place_under (after f (d ++ e ∷ [])) name ≢ Some place
 moved f c d e name place keeps other is = other (sym (place_stays f c d e name keeps) ∙ is)
 
-stands_through : (f : Files) → IsCoherent f → (d : List Deed) (t file text : List ℕ) (mode : Option ℕ) (name : List ℕ) (place : Place) (has : Option (List ℕ))
+stands_through : (f : Files) → IsCoherent f → (d : List Deed) (t file text : List ℕ) (mode : Option ℕ) (name : List ℕ) (place : FilePlace) (has : Option (List ℕ))
     → Writable f d t file → place_under (after f d) t ≢ Some place
     → place_under (after f d) file ≢ Some place → Stands f d name place has
     → Stands f (d ++ Made t ∷ Filled t mode text ∷ Renamed t file ∷ []) name place has
@@ -93,7 +93,7 @@ stands_through f c d t file text mode name place has w not_new not_old s =
     subst (λ l. Stands f l name place has) (three d a b (Renamed t file))
     (stands_on f c d2 (Renamed t file) name place has (keeps_last f c d t file text mode w) (new2, old2) s2)
 
-links_through : (f : Files) → IsCoherent f → (d : List Deed) (t file text : List ℕ) (mode : Option ℕ) (name : List ℕ) (place : Place) (has : Option (List ℕ))
+links_through : (f : Files) → IsCoherent f → (d : List Deed) (t file text : List ℕ) (mode : Option ℕ) (name : List ℕ) (place : FilePlace) (has : Option (List ℕ))
     → Writable f d t file → place_under (after f d) t ≢ Some place
     → place_under (after f d) file ≢ Some place → Links f d name place has
     → Links f (d ++ Made t ∷ Filled t mode text ∷ Renamed t file ∷ []) name place has
@@ -114,7 +114,7 @@ links_through f c d t file text mode name place has w not_new not_old s =
 link_is_there : (k : Found) → is_link k ≡ true → k ≢ found.Nothing
 link_is_there k is none = true≢false (sym is ∙ free_plain k none)
 
-apart_from_link : (f : Files) → IsCoherent f → (d : List Deed) (name other : List ℕ) (place : Place)
+apart_from_link : (f : Files) → IsCoherent f → (d : List Deed) (name other : List ℕ) (place : FilePlace)
     → place_under (after f d) name ≡ Some place → is_link (kind_under (after f d) name) ≡ true
     → is_link (kind_under (after f d) other) ≡ false → place_under (after f d) other ≢ Some place
 apart_from_link f c d name other place at link plain same =
@@ -176,7 +176,7 @@ has_something : (f : Files) → IsCoherent f → (d : List Deed) (name text : Li
 has_something f c d name text has none = none_or_some (sym (c.nothing d name none) ∙ has)
 
 -- What is read under another name stays.
-pub other_text : (f : Files) → IsCoherent f → (d : List Deed) (keeps : Keeps) (file text : List ℕ) (deeds : List Deed) (name end : List ℕ) (place : Place) (has : List ℕ)
+pub other_text : (f : Files) → IsCoherent f → (d : List Deed) (keeps : Keeps) (file text : List ℕ) (deeds : List Deed) (name end : List ℕ) (place : FilePlace) (has : List ℕ)
     → is_link (kind_under (after f d) file) ≡ false → LeadsTo (after f d) name end
     → place_under (after f d) end ≡ Some place → place_under (after f d) file ≢ Some place
     → text_under (after f d) name ≡ Some has → IsWritten (after f d) keeps file text deeds
@@ -193,12 +193,12 @@ other_text f c d keeps file text deeds name end place has plain leads at apart r
     (c.linked _ name end leads_on ∙ s.has, leads_on, s.at)
 
 -- Directories that are made change no text.
-made_stays : (f : Files) → IsCoherent f → (d : List Deed) (made name : List ℕ) (place : Place)
+made_stays : (f : Files) → IsCoherent f → (d : List Deed) (made name : List ℕ) (place : FilePlace)
     → place_under (after f d) name ≡ Some place
     → place_under (after f (d ++ MadeDirectories made ∷ [])) name ≡ Some place
 made_stays f c d made name place at = in_place name _ _ place (λ x is. c.directories_last d made (home_of name) x is) at
   where
-    in_place : (name : List ℕ) (before now : Option (ℕ × ℕ)) (place : Place)
+    in_place : (name : List ℕ) (before now : Option (ℕ × ℕ)) (place : FilePlace)
         → ((x : ℕ × ℕ) → before ≡ Some x → now ≡ Some x)
         → option_map (place_at name) before ≡ Some place → option_map (place_at name) now ≡ Some place
     in_place name None now place keeps is = absurd (none_or_some is)
@@ -214,7 +214,7 @@ made_leads f c d made name end plain (on next last link is_next leads) =
     on next end same.0 (record { target = is_next.target; there = same.1 ∙ is_next.there; from = is_next.from })
     (made_leads f c d made next end plain leads)
 
-pub made_text : (f : Files) → IsCoherent f → (d : List Deed) (made name end : List ℕ) (place : Place) (has : List ℕ)
+pub made_text : (f : Files) → IsCoherent f → (d : List Deed) (made name end : List ℕ) (place : FilePlace) (has : List ℕ)
     → LeadsTo (after f d) name end → place_under (after f d) end ≡ Some place
     → text_under (after f d) name ≡ Some has
     → (text_under (after f (d ++ MadeDirectories made ∷ [])) name ≡ Some has)
@@ -239,7 +239,7 @@ own_last f c d file text cleared =
 -- A name leads to where it led after one deed, if nothing that is a link is at a place that the deed changes.
 leads_on : (f : Files) → IsCoherent f → (d : List Deed) (e : Deed) (name end : List ℕ)
     → KeepsDirectories (after f d) e
-    → ((place : Place) (link : List ℕ) → place_under (after f d) link ≡ Some place
+    → ((place : FilePlace) (link : List ℕ) → place_under (after f d) link ≡ Some place
     → is_link (kind_under (after f d) link) ≡ true → IsElsewhere (after f d) place e)
     → is_link (kind_under (after f (d ++ e ∷ [])) end) ≡ false
     → LeadsTo (after f d) name end → LeadsTo (after f (d ++ e ∷ [])) name end
@@ -252,16 +252,16 @@ leads_on f c d e name end keeps elsewhere plain (on next last link is_next leads
     (leads_on f c d e next end keeps elsewhere plain leads)
 
 -- What is read, where, and what is known of the file that is made anew.
-record Reads (f : Files) (d : List Deed) (file name end : List ℕ) (place : Place) (has : List ℕ) : Type 0 where
+record Reads (f : Files) (d : List Deed) (file name end : List ℕ) (place : FilePlace) (has : List ℕ) : Type 0 where
   plain : is_link (kind_under (after f d) file) ≡ false
   leads : LeadsTo (after f d) name end
   at : place_under (after f d) end ≡ Some place
   apart : place_under (after f d) file ≢ Some place
   read : text_under (after f d) name ≡ Some has
 
-reads_on : (f : Files) → IsCoherent f → (d : List Deed) (e : Deed) (file name end : List ℕ) (place : Place) (has : List ℕ)
+reads_on : (f : Files) → IsCoherent f → (d : List Deed) (e : Deed) (file name end : List ℕ) (place : FilePlace) (has : List ℕ)
     → KeepsDirectories (after f d) e
-    → ((p : Place) → place_under (after f d) file ≢ Some p → IsElsewhere (after f d) p e)
+    → ((p : FilePlace) → place_under (after f d) file ≢ Some p → IsElsewhere (after f d) p e)
     → is_link (kind_under (after f (d ++ e ∷ [])) file) ≡ false
     → Reads f d file name end place has → Reads f (d ++ e ∷ []) file name end place has
 reads_on f c d e file name end place has keeps elsewhere still r =
@@ -276,7 +276,7 @@ reads_on f c d e file name end place has keeps elsewhere still r =
       read = c.linked _ name end leads_still ∙ s.has;
     }
 
-reads_filled : (f : Files) → IsCoherent f → (d : List Deed) (file text name end : List ℕ) (place : Place) (has : List ℕ)
+reads_filled : (f : Files) → IsCoherent f → (d : List Deed) (file text name end : List ℕ) (place : FilePlace) (has : List ℕ)
     → Reads f d file name end place has
     → Reads f (d ++ Made file ∷ Filled file None text ∷ []) file name end place has
 reads_filled f c d file text name end place has r =
@@ -287,7 +287,7 @@ reads_filled f c d file text name end place has r =
     subst (λ l. Reads f l file name end place has) (append_assoc d (Made file ∷ []) (Filled file None text ∷ [])) r2
 
 -- The same after what was under the name is removed.
-other_removed : (f : Files) → IsCoherent f → (d : List Deed) (file text name end : List ℕ) (place : Place) (has : List ℕ)
+other_removed : (f : Files) → IsCoherent f → (d : List Deed) (file text name end : List ℕ) (place : FilePlace) (has : List ℕ)
     → is_link (kind_under (after f d) file) ≡ false → LeadsTo (after f d) name end
     → place_under (after f d) end ≡ Some place → place_under (after f d) file ≢ Some place
     → text_under (after f d) name ≡ Some has
@@ -302,7 +302,7 @@ other_removed f c d file text name end place has plain leads at apart read =
     (r.read, r.leads, r.at)
 
 -- What is read under another name stays after the last file is made anew.
-pub other_last : (f : Files) → IsCoherent f → (d : List Deed) (file text name end : List ℕ) (place : Place) (has : List ℕ) (seen : Found)
+pub other_last : (f : Files) → IsCoherent f → (d : List Deed) (file text name end : List ℕ) (place : FilePlace) (has : List ℕ) (seen : Found)
     → is_link (kind_under (after f d) file) ≡ false → LeadsTo (after f d) name end
     → place_under (after f d) end ≡ Some place → place_under (after f d) file ≢ Some place
     → text_under (after f d) name ≡ Some has

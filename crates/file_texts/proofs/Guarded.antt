@@ -10,7 +10,7 @@ use Rattle.file_disk.specs.Known.{Known}
 use Rattle.file_texts.specs.Held.{Held, IsGuarded, GuardsMore, AreUnguarded, with_guards}
 use Rattle.file_texts.specs.Places.{place_under, is_name_guarded}
 use Rattle.file_texts.specs.declared.places.Guard.{Guard}
-use Rattle.file_texts.specs.declared.places.Place.{Place}
+use Rattle.file_texts.specs.declared.places.FilePlace.{FilePlace}
 use Rattle.output_put.specs.declared.artifact.Artifact.{Artifact}
 
 pub guards_one : {D : Type 0} (known : D → Option Known) (old : Held D) (name path : List ℕ) (guard : Guard) (guards : List Guard)
@@ -27,7 +27,7 @@ guards_one known old name path guard guards same named there added =
     }
 
 -- It is guarded then.
-pub is_guarded : (guards : List Guard) (name : List ℕ) (place : Option Place) (new : List Guard)
+pub is_guarded : (guards : List Guard) (name : List ℕ) (place : Option FilePlace) (new : List Guard)
     → new ≡ guards ++ record { name = name; place = place } ∷ []
     → is_name_guarded name new ≡ true
 is_guarded guards name place new added =

@@ -7,11 +7,11 @@ use Rattle.file_texts.specs.Places.{IsAdded, ArePlaced, alone, both}
 use Rattle.file_texts.specs.Steps.{IsWritten, IsUndone, nothing}
 use Rattle.file_texts.specs.declared.lines.Saying.{Saying}
 use Rattle.file_texts.specs.declared.places.Guard.{Guard}
-use Rattle.file_texts.specs.declared.places.Place.{Place}
+use Rattle.file_texts.specs.declared.places.FilePlace.{FilePlace}
 use Rattle.file_texts.specs.declared.writing.Keeps.{Keeps}
 
 -- Directories were made, places were added, and then a text was written.
-pub stepped_on : (a b c : Option Known) (guards : List Guard) (places new_places : List Place) (saying : Saying) (keeps : Keeps) (name file text : List ℕ)
+pub stepped_on : (a b c : Option Known) (guards : List Guard) (places new_places : List FilePlace) (saying : Saying) (keeps : Keeps) (name file text : List ℕ)
     → Adds a b (made_for saying name)
     → IfSome b (λ k. ArePlaced k guards places new_places name file)
     → Does b c (λ k d. IsWritten k keeps file text d)
@@ -30,7 +30,7 @@ stepped_on a b c guards places new_places saying keeps name file text made place
     })
 
 -- Directories were made, places were added, and the file was left as it was.
-pub stepped_over : (a b : Option Known) (guards : List Guard) (places new_places : List Place) (saying : Saying) (keeps : Keeps) (name file text : List ℕ)
+pub stepped_over : (a b : Option Known) (guards : List Guard) (places new_places : List FilePlace) (saying : Saying) (keeps : Keeps) (name file text : List ℕ)
     → Adds a b (made_for saying name)
     → IfSome b (λ k. ArePlaced k guards places new_places name file)
     → Does a b (λ k d. IsStepped k guards places new_places saying true keeps name file text d)
@@ -49,14 +49,14 @@ stepped_over (Some a) (Some b) guards places new_places saying keeps name file t
 )
 
 -- The same, whether the file was left as it was or not.
-pub stepped_if_left : (a b : Option Known) (guards : List Guard) (places new_places : List Place) (saying : Saying) (left : Bool) (keeps : Keeps) (name file text : List ℕ)
+pub stepped_if_left : (a b : Option Known) (guards : List Guard) (places new_places : List FilePlace) (saying : Saying) (left : Bool) (keeps : Keeps) (name file text : List ℕ)
     → left ≡ true → Adds a b (made_for saying name)
     → IfSome b (λ k. ArePlaced k guards places new_places name file)
     → Does a b (λ k d. IsStepped k guards places new_places saying left keeps name file text d)
 stepped_if_left a b guards places new_places saying left keeps name file text is made placed =
     subst (λ l. Does a b (λ k d. IsStepped k guards places new_places saying l keeps name file text d)) (sym is) (stepped_over a b guards places new_places saying keeps name file text made placed)
 
-pub stepped_if_not : (a b c : Option Known) (guards : List Guard) (places new_places : List Place) (saying : Saying) (left : Bool) (keeps : Keeps) (name file text : List ℕ)
+pub stepped_if_not : (a b c : Option Known) (guards : List Guard) (places new_places : List FilePlace) (saying : Saying) (left : Bool) (keeps : Keeps) (name file text : List ℕ)
     → left ≡ false → Adds a b (made_for saying name)
     → IfSome b (λ k. ArePlaced k guards places new_places name file)
     → Does b c (λ k d. IsWritten k keeps file text d)
@@ -65,14 +65,14 @@ stepped_if_not a b c guards places new_places saying left keeps name file text i
     subst (λ l. Does a c (λ k d. IsStepped k guards places new_places saying l keeps name file text d)) (sym is) (stepped_on a b c guards places new_places saying keeps name file text made placed written)
 
 -- The places of a file and of a link that leads to it.
-pub placed_both : (known : Option Known) (guards : List Guard) (places middle new : List Place) (name file : List ℕ)
+pub placed_both : (known : Option Known) (guards : List Guard) (places middle new : List FilePlace) (name file : List ℕ)
     → IfSome known (λ k. IsAdded k guards places middle file)
     → IfSome known (λ k. IsAdded k guards middle new name)
     → IfSome known (λ k. ArePlaced k guards places new name file)
 placed_both None guards places middle new name file first second = tt
 placed_both (Some k) guards places middle new name file first second = both file middle first second
 
-pub placed_alone : (known : Option Known) (guards : List Guard) (places new : List Place) (name : List ℕ)
+pub placed_alone : (known : Option Known) (guards : List Guard) (places new : List FilePlace) (name : List ℕ)
     → IfSome known (λ k. IsAdded k guards places new name)
     → IfSome known (λ k. ArePlaced k guards places new name name)
 placed_alone None guards places new name is = tt

@@ -16,7 +16,7 @@ use Rattle.file_texts.specs.Places.{ArePlaced, is_name_guarded}
 use Rattle.file_texts.specs.Steps.{IsWritten, IsUndone}
 use Rattle.file_texts.specs.declared.lines.Saying.{Saying}
 use Rattle.file_texts.specs.declared.places.Guard.{Guard}
-use Rattle.file_texts.specs.declared.places.Place.{Place}
+use Rattle.file_texts.specs.declared.places.FilePlace.{FilePlace}
 use Rattle.file_texts.specs.declared.writing.Keeps.{Keeps}
 use Rattle.file_texts.proofs.Kept.{is_said, one_more}
 
@@ -25,7 +25,7 @@ no_directories : (k : Known) (keeps : Keeps) (file text : List ℕ) (deeds : Lis
     → IsWritten (with_deeds k []) keeps file text deeds → IsWritten k keeps file text deeds
 no_directories k keeps file text deeds is = subst (λ l. IsWritten l keeps file text deeds) (sym (with_none k)) is
 
-pub put_is : (k : Known) (guards : List Guard) (places new_places : List Place) (kind : Kind) (left : Bool) (name file text : List ℕ) (deeds : List Deed)
+pub put_is : (k : Known) (guards : List Guard) (places new_places : List FilePlace) (kind : Kind) (left : Bool) (name file text : List ℕ) (deeds : List Deed)
     → IsLeft kind k name text left
     → IsStepped k guards places new_places (saying_of kind left) left (keeps_of kind) name file text deeds
     → IsPut k name file text kind (said (saying_of kind left) name) deeds
@@ -45,7 +45,7 @@ put_is k guards places new_places Header false name file text deeds is s =
     let P : List Deed → Type 0 = λ d. IsPut k name file text Header (said (saying_of Header false) name) d in subst P (sym s.parts) (header_put s.rest is s.fills)
 
 -- the places of what was put
-has_places : (k : Known) (guards : List Guard) (places new_places : List Place) (kind : Kind) (left : Bool) (name file : List ℕ)
+has_places : (k : Known) (guards : List Guard) (places new_places : List FilePlace) (kind : Kind) (left : Bool) (name file : List ℕ)
     → ArePlaced (with_deeds k (made_for (saying_of kind left) name)) guards places new_places name file
     → HasPlaces k guards places new_places name file kind
 has_places k guards places new_places Cache left name file are = made.made are
@@ -69,7 +69,7 @@ both : (X Y : Known → Type 0) (a : Option Known) → IfSome a X → IfSome a Y
 both X Y None x y = tt
 both X Y (Some k) x y = (x, y)
 
-pub takes_is : {E : Type 0} (r : Result (Unit {0}) E) (a b : Option Known) (guards : List Guard) (places new_places : List Place) (artifacts : List Artifact) (lines : List ℕ) (new_artifacts : List Artifact) (new_lines : List ℕ)
+pub takes_is : {E : Type 0} (r : Result (Unit {0}) E) (a b : Option Known) (guards : List Guard) (places new_places : List FilePlace) (artifacts : List Artifact) (lines : List ℕ) (new_artifacts : List Artifact) (new_lines : List ℕ)
     (kind : Kind) (left : Bool) (name file text : List ℕ) (artifact : Artifact) (saying : Saying)
     → artifact ≡ record { kind = kind; name = name; text = text } → saying ≡ saying_of kind left
     → is_name_guarded name guards ≡ false
@@ -113,14 +113,14 @@ pub refused_before : (a : Option Known) (kind : Kind) (name : List ℕ)
 refused_before a kind name = does_none a (λ k deeds. IsRefused k name kind deeds) (λ k. made.nothing)
 
 -- The lines after a put that was taken.
-pub lines_after : (a b : Option Known) (guards : List Guard) (places new_places : List Place) (artifacts : List Artifact) (lines : List ℕ) (new_artifacts : List Artifact) (new_lines : List ℕ) (artifact : Artifact)
+pub lines_after : (a b : Option Known) (guards : List Guard) (places new_places : List FilePlace) (artifacts : List Artifact) (lines : List ℕ) (new_artifacts : List Artifact) (new_lines : List ℕ) (artifact : Artifact)
     → AreLines artifacts lines → Takes a b guards places new_places artifacts lines new_artifacts new_lines artifact
     → AreLines new_artifacts new_lines
 lines_after a b guards places new_places artifacts lines new_artifacts new_lines artifact are takes =
     rw (takes.kept.artifact_kept, takes.kept.line_kept) (one_more artifact takes.line are takes.said)
 
 -- The deeds after a put that was taken.
-pub done_after : (a b : Option Known) (guards lent : List Guard) (places new_places : List Place) (artifacts : List Artifact) (failures : ℕ) (lines : List ℕ) (new_artifacts : List Artifact) (new_lines : List ℕ) (artifact : Artifact)
+pub done_after : (a b : Option Known) (guards lent : List Guard) (places new_places : List FilePlace) (artifacts : List Artifact) (failures : ℕ) (lines : List ℕ) (new_artifacts : List Artifact) (new_lines : List ℕ) (artifact : Artifact)
     → lent ≡ guards → IfSome a (λ k. IsDoneApart k guards artifacts failures lines places)
     → Takes a b lent places new_places artifacts lines new_artifacts new_lines artifact
     → IfSome b (λ k. IsDoneApart k guards new_artifacts failures new_lines new_places)
@@ -131,7 +131,7 @@ done_after a b guards lent places new_places artifacts failures lines new_artifa
     (λ k d x p. taken artifacts failures lines places new_places k.deeds artifact takes.line d x (subst (λ gs. IsTakenSo k gs places new_places artifact takes.line d) same p)))
 
 -- The deeds after a put that was refused.
-pub done_refused : (a b : Option Known) (guards : List Guard) (places new_places : List Place) (artifacts : List Artifact) (failures : ℕ) (lines : List ℕ) (new_artifacts : List Artifact) (new_lines : List ℕ) (kind : Kind) (name : List ℕ)
+pub done_refused : (a b : Option Known) (guards : List Guard) (places new_places : List FilePlace) (artifacts : List Artifact) (failures : ℕ) (lines : List ℕ) (new_artifacts : List Artifact) (new_lines : List ℕ) (kind : Kind) (name : List ℕ)
     → IfSome a (λ k. IsDoneApart k guards artifacts failures lines places) → AreSame artifacts lines new_artifacts new_lines
     → new_places ≡ places
     → Does a b (λ k d. IsRefused k name kind d)
@@ -152,14 +152,14 @@ one_at_least : (xs : List Artifact) (x : Artifact) → xs ++ x ∷ [] ≡ [] →
 one_at_least [] x is = cc
 one_at_least (y ∷ xs) x is = cc
 
-regarded : (k : Known) (guards new_guards : List Guard) (artifacts : List Artifact) (failures : ℕ) (lines : List ℕ) (places : List Place) (deeds : List Deed)
+regarded : (k : Known) (guards new_guards : List Guard) (artifacts : List Artifact) (failures : ℕ) (lines : List ℕ) (places : List FilePlace) (deeds : List Deed)
     → AreDone k.files guards artifacts failures lines places deeds → artifacts ≡ [] → failures ≡ 0
     → AreDone k.files new_guards artifacts failures lines places deeds
 regarded k guards new_guards artifacts failures lines places deeds made.none unhanded unrefused = made.none
 regarded k guards new_guards artifacts failures lines places deeds (taken earlier f l p n d artifact line more are so) unhanded unrefused = absurd (one_at_least earlier artifact unhanded)
 regarded k guards new_guards artifacts failures lines places deeds (refused earlier f l p d kind name more are so) unhanded unrefused = absurd (omega (arith, unrefused))
 
-pub guarded_after : (a : Option Known) (guards new_guards : List Guard) (artifacts : List Artifact) (failures : ℕ) (lines : List ℕ) (places : List Place)
+pub guarded_after : (a : Option Known) (guards new_guards : List Guard) (artifacts : List Artifact) (failures : ℕ) (lines : List ℕ) (places : List FilePlace)
     → artifacts ≡ [] → failures ≡ 0
     → IfSome a (λ k. IsDoneApart k guards artifacts failures lines places)
     → IfSome a (λ k. IsDoneApart k new_guards artifacts failures lines places)
@@ -168,7 +168,7 @@ guarded_after (Some k) guards new_guards artifacts failures lines places unhande
     regarded k guards new_guards artifacts failures lines places k.deeds are unhanded unrefused
 
 -- What was done apart was done.
-pub all_of_apart : (a : Option Known) (guards : List Guard) (artifacts : List Artifact) (failures : ℕ) (lines : List ℕ) (places : List Place)
+pub all_of_apart : (a : Option Known) (guards : List Guard) (artifacts : List Artifact) (failures : ℕ) (lines : List ℕ) (places : List FilePlace)
     → IfSome a (λ k. IsDoneApart k guards artifacts failures lines places)
     → IfSome a (λ k. IsAllDone k artifacts failures lines)
 all_of_apart None guards artifacts failures lines places are = tt

@@ -15,7 +15,7 @@ use Rattle.file_texts.specs.Names.{directory_of}
 use Rattle.file_texts.specs.Places.{place_under}
 use Rattle.file_texts.specs.Steps.{IsWritten, IsReplaced, replaced, making, directories_for}
 use Rattle.file_texts.specs.declared.places.Guard.{Guard}
-use Rattle.file_texts.specs.declared.places.Place.{Place}
+use Rattle.file_texts.specs.declared.places.FilePlace.{FilePlace}
 use Rattle.file_texts.specs.declared.writing.Keeps.{Keeps}
 use Rattle.file_texts.proofs.Coherence.{own_text, linked_text, other_text, made_text, end_is_plain, own_last, other_last}
 
@@ -45,25 +45,25 @@ own_by k File name file text line deeds c end (file_put rest w) = made_then k _ 
 own_by k Header name file text line [] c end (header_same is) = none_read k name text is
 own_by k Header name file text line deeds c end (header_put rest other w) = made_then k _ name file text rest c end w
 
-pub own_is_read : (k : Known) (guards : List Guard) (places new : List Place) (artifact : Artifact) (line : List ℕ) (deeds : List Deed)
+pub own_is_read : (k : Known) (guards : List Guard) (places new : List FilePlace) (artifact : Artifact) (line : List ℕ) (deeds : List Deed)
     → IsCoherent k.files → IsTakenSo k guards places new artifact line deeds
     → text_under (with_deeds k deeds) artifact.name ≡ Some artifact.text
 own_is_read k guards places new artifact line deeds c so =
     own_by k artifact.kind artifact.name so.file artifact.text line deeds c so.ends so.put
 
 -- What is read elsewhere stays.
-reads_none : (k : Known) (name : List ℕ) (place : Place) (text : List ℕ) → ReadsAt k name place text
+reads_none : (k : Known) (name : List ℕ) (place : FilePlace) (text : List ℕ) → ReadsAt k name place text
     → ReadsAt (with_deeds k []) name place text
 reads_none k name place text r = subst (λ q. ReadsAt q name place text) (with_none k) r
 
-reads_written : (k : Known) (keeps : Keeps) (file written : List ℕ) (deeds : List Deed) (name : List ℕ) (place : Place) (text : List ℕ)
+reads_written : (k : Known) (keeps : Keeps) (file written : List ℕ) (deeds : List Deed) (name : List ℕ) (place : FilePlace) (text : List ℕ)
     → IsCoherent k.files → IsApart k file place → IsWritten k keeps file written deeds
     → ReadsAt k name place text → ReadsAt (with_deeds k deeds) name place text
 reads_written k keeps file written deeds name place text c apart w r =
     let s = other_text k.files c k.deeds keeps file written deeds name r.end place text apart.0 r.leads r.at apart.1 r.read w in
     record { end = r.end; leads = s.1; at = s.2; read = s.0 }
 
-reads_making : (k : Known) (directory : Option (List ℕ)) (name : List ℕ) (place : Place) (text : List ℕ)
+reads_making : (k : Known) (directory : Option (List ℕ)) (name : List ℕ) (place : FilePlace) (text : List ℕ)
     → IsCoherent k.files → ReadsAt k name place text
     → ReadsAt (with_deeds k (making directory)) name place text
 reads_making k None name place text c r = reads_none k name place text r
@@ -71,7 +71,7 @@ reads_making k (Some directory) name place text c r =
     let s = made_text k.files c k.deeds directory name r.end place text r.leads r.at r.read in
     record { end = r.end; leads = s.1; at = s.2; read = s.0 }
 
-reads_made_then : (k : Known) (keeps : Keeps) (own file written : List ℕ) (rest : List Deed) (name : List ℕ) (place : Place) (text : List ℕ)
+reads_made_then : (k : Known) (keeps : Keeps) (own file written : List ℕ) (rest : List Deed) (name : List ℕ) (place : FilePlace) (text : List ℕ)
     → IsCoherent k.files → IsApart (with_deeds k (directories_for own)) file place
     → IsWritten (with_deeds k (directories_for own)) keeps file written rest
     → ReadsAt k name place text → ReadsAt (with_deeds k (directories_for own ++ rest)) name place text
@@ -80,11 +80,11 @@ reads_made_then k keeps own file written rest name place text c apart w r =
     (reads_written (with_deeds k (directories_for own)) keeps file written rest name place text c apart w
     (reads_making k (directory_of own) name place text c r))
 
-apart_none : (k : Known) (file : List ℕ) (place : Place) → IsApart (with_deeds k []) file place
+apart_none : (k : Known) (file : List ℕ) (place : FilePlace) → IsApart (with_deeds k []) file place
     → IsApart k file place
 apart_none k file place a = subst (λ q. IsApart q file place) (sym (with_none k)) a
 
-other_by : (k : Known) (kind : Kind) (own file written line : List ℕ) (deeds : List Deed) (name : List ℕ) (place : Place) (text : List ℕ)
+other_by : (k : Known) (kind : Kind) (own file written line : List ℕ) (deeds : List Deed) (name : List ℕ) (place : FilePlace) (text : List ℕ)
     → IsCoherent k.files → IsApart (with_deeds k (may_make kind own)) file place
     → IsPut k own file written kind line deeds
     → ReadsAt k name place text → ReadsAt (with_deeds k deeds) name place text
@@ -99,7 +99,7 @@ other_by k Header own file written line [] name place text c apart (header_same 
 other_by k Header own file written line deeds name place text c apart (header_put rest other w) r =
     reads_made_then k _ own file written rest name place text c apart w r
 
-pub other_is_read : (k : Known) (guards : List Guard) (places new : List Place) (artifact : Artifact) (line : List ℕ) (deeds : List Deed) (name : List ℕ) (place : Place) (text : List ℕ)
+pub other_is_read : (k : Known) (guards : List Guard) (places new : List FilePlace) (artifact : Artifact) (line : List ℕ) (deeds : List Deed) (name : List ℕ) (place : FilePlace) (text : List ℕ)
     → IsCoherent k.files → (put : IsTakenSo k guards places new artifact line deeds)
     → IsPutApart k artifact put.file place → ReadsAt k name place text
     → ReadsAt (with_deeds k deeds) name place text
@@ -111,7 +111,7 @@ pub last_is_read : (k : Known) (file text : List ℕ) (deeds : List Deed) → Is
     → IsReplaced k file text deeds → text_under (with_deeds k deeds) file ≡ Some text
 last_is_read k file text deeds c replaced = own_last k.files c k.deeds file text (clearing file (kind_under k file))
 
-pub last_leaves_others : (k : Known) (file written : List ℕ) (deeds : List Deed) (name : List ℕ) (place : Place) (text : List ℕ)
+pub last_leaves_others : (k : Known) (file written : List ℕ) (deeds : List Deed) (name : List ℕ) (place : FilePlace) (text : List ℕ)
     → IsCoherent k.files → IsReplaced k file written deeds → IsApart k file place
     → ReadsAt k name place text → ReadsAt (with_deeds k deeds) name place text
 last_leaves_others k file written deeds name place text c replaced apart r =

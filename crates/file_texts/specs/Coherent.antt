@@ -6,14 +6,14 @@ use Rattle.output_put.specs.declared.artifact.Artifact.{Artifact}
 use Rattle.file_texts.specs.Done.{may_make}
 use Rattle.file_texts.specs.Links.{is_link, LeadsTo}
 use Rattle.file_texts.specs.Places.{place_under}
-use Rattle.file_texts.specs.declared.places.Place.{Place}
+use Rattle.file_texts.specs.declared.places.FilePlace.{FilePlace}
 
 -- What is known of these files after these deeds. (own)
 abbrev pub after : Files → List Deed → Known
 after files deeds = record { deeds = deeds; files = files }
 
 -- The deed changes nothing at the place. (own)
-abbrev pub IsElsewhere : Known → Place → Deed → Type 0
+abbrev pub IsElsewhere : Known → FilePlace → Deed → Type 0
 IsElsewhere k place (MadeDirectories name) = ⊤
 IsElsewhere k place (Made name) = place_under k name ≢ Some place
 IsElsewhere k place (Filled name mode text) = place_under k name ≢ Some place
@@ -58,22 +58,22 @@ pub record IsCoherent (files : Files) : Type 0 where
   pub nothing : (d : List Deed) (name : List ℕ) → kind_under (after files d) name ≡ found.Nothing
       → text_under (after files d) name ≡ None
   pub somewhere : (d : List Deed) (name : List ℕ) → kind_under (after files d) name ≢ found.Nothing
-      → (place : Place) × (place_under (after files d) name ≡ Some place)
+      → (place : FilePlace) × (place_under (after files d) name ≡ Some place)
   -- At one place is one thing, under whatever name.
-  pub one : (d : List Deed) (a b : List ℕ) (place : Place)
+  pub one : (d : List Deed) (a b : List ℕ) (place : FilePlace)
       → place_under (after files d) a ≡ Some place → place_under (after files d) b ≡ Some place
       → kind_under (after files d) a ≡ kind_under (after files d) b
   -- A link has the text of the file that it leads to.
   pub linked : (d : List Deed) (name end : List ℕ) → LeadsTo (after files d) name end
       → text_under (after files d) name ≡ text_under (after files d) end
   -- What is at another place than a deed changes stays as it was: a link, or else a text.
-  pub stays : (d : List Deed) (deed : Deed) (name : List ℕ) (place : Place)
+  pub stays : (d : List Deed) (deed : Deed) (name : List ℕ) (place : FilePlace)
       → place_under (after files d) name ≡ Some place
       → place_under (after files (d ++ deed ∷ [])) name ≡ Some place
       → IsElsewhere (after files d) place deed → is_link (kind_under (after files d) name) ≡ false
       → (is_link (kind_under (after files (d ++ deed ∷ [])) name) ≡ false)
       × (text_under (after files (d ++ deed ∷ [])) name ≡ text_under (after files d) name)
-  pub links_stay : (d : List Deed) (deed : Deed) (name : List ℕ) (place : Place)
+  pub links_stay : (d : List Deed) (deed : Deed) (name : List ℕ) (place : FilePlace)
       → place_under (after files d) name ≡ Some place
       → place_under (after files (d ++ deed ∷ [])) name ≡ Some place
       → IsElsewhere (after files d) place deed → is_link (kind_under (after files d) name) ≡ true
@@ -92,16 +92,16 @@ pub record IsCoherent (files : Files) : Type 0 where
       → files.directories (d ++ MadeDirectories made ∷ []) name ≡ Some directory
 
 -- A name leads to a file at this place, and what is read under the name is this text. (own)
-pub record ReadsAt (k : Known) (name : List ℕ) (place : Place) (text : List ℕ) : Type 0 where
+pub record ReadsAt (k : Known) (name : List ℕ) (place : FilePlace) (text : List ℕ) : Type 0 where
   pub end : List ℕ
   pub leads : LeadsTo k name end
   pub at : place_under k end ≡ Some place
   pub read : text_under k name ≡ Some text
 
 -- The file that is written has another place, and is no link. (own)
-abbrev pub IsApart : Known → List ℕ → Place → Type 0
+abbrev pub IsApart : Known → List ℕ → FilePlace → Type 0
 IsApart k file place = (is_link (kind_under k file) ≡ false) × (place_under k file ≢ Some place)
 
 -- This artifact is put to a file at another place, which is no link when it is written. (own)
-abbrev pub IsPutApart : Known → Artifact → List ℕ → Place → Type 0
+abbrev pub IsPutApart : Known → Artifact → List ℕ → FilePlace → Type 0
 IsPutApart k artifact file place = IsApart (with_deeds k (may_make artifact.kind artifact.name)) file place

@@ -9,7 +9,7 @@ use Rattle.file_texts.specs.Links.{LeadsTo}
 use Rattle.file_texts.specs.Places.{ArePlaced, is_name_guarded}
 use Rattle.file_texts.specs.Steps.{IsWritten, IsUndone, directories_for}
 use Rattle.file_texts.specs.declared.places.Guard.{Guard}
-use Rattle.file_texts.specs.declared.places.Place.{Place}
+use Rattle.file_texts.specs.declared.places.FilePlace.{FilePlace}
 use Rattle.file_texts.specs.declared.writing.Keeps.TheVariants.{Permissions, NoExecution}
 
 -- The file under the name doesn't have this text, unless the text has more than 64 MiB: such a text
@@ -53,14 +53,14 @@ may_make Header name = directories_for name
 
 -- The places of an artifact that was put, as they are before it is written: its directories may
 -- have been made. None is guarded, and no earlier artifact had it. (own)
-pub data HasPlaces (k : Known) (guards : List Guard) (places new : List Place) (name file : List ℕ) (kind : Kind) : Type 0 where
+pub data HasPlaces (k : Known) (guards : List Guard) (places new : List FilePlace) (name file : List ℕ) (kind : Kind) : Type 0 where
   there : ArePlaced k guards places new name file → HasPlaces k guards places new name file kind
   made : ArePlaced (with_deeds k (may_make kind name)) guards places new name file
       → HasPlaces k guards places new name file kind
 
 -- If this is known, an artifact was put in this way, to a file that is its own: not that of a name
 -- that is guarded, and not that of an earlier artifact. (own)
-pub record IsTakenSo (k : Known) (guards : List Guard) (places new : List Place) (artifact : Artifact) (line : List ℕ) (deeds : List Deed) : Type 0 where
+pub record IsTakenSo (k : Known) (guards : List Guard) (places new : List FilePlace) (artifact : Artifact) (line : List ℕ) (deeds : List Deed) : Type 0 where
   pub file : List ℕ
   pub ends : IsEnd k artifact.name artifact.kind file
   pub named : is_name_guarded artifact.name guards ≡ false
@@ -81,13 +81,13 @@ pub data IsRefused (k : Known) (name : List ℕ) : Kind → List Deed → Type 0
 -- On a disk with these files, if these names are guarded, these are the artifacts that were taken,
 -- in order, how many puts were refused, what was said of the artifacts, what places they have, and
 -- all that was done to files: for each put, in order, its deeds. (own)
-pub data AreDone (files : Files) (guards : List Guard) : List Artifact → ℕ → List ℕ → List Place → List Deed → Type 0 where
+pub data AreDone (files : Files) (guards : List Guard) : List Artifact → ℕ → List ℕ → List FilePlace → List Deed → Type 0 where
   none : AreDone files guards [] 0 [] [] []
-  taken : (artifacts : List Artifact) (failures : ℕ) (lines : List ℕ) (places new : List Place) (deeds : List Deed) (artifact : Artifact) (line : List ℕ) (more : List Deed)
+  taken : (artifacts : List Artifact) (failures : ℕ) (lines : List ℕ) (places new : List FilePlace) (deeds : List Deed) (artifact : Artifact) (line : List ℕ) (more : List Deed)
       → AreDone files guards artifacts failures lines places deeds
       → IsTakenSo (record { deeds = deeds; files = files }) guards places new artifact line more
       → AreDone files guards (artifacts ++ artifact ∷ []) failures (lines ++ line) new (deeds ++ more)
-  refused : (artifacts : List Artifact) (failures : ℕ) (lines : List ℕ) (places : List Place) (deeds : List Deed) (kind : Kind) (name : List ℕ) (more : List Deed)
+  refused : (artifacts : List Artifact) (failures : ℕ) (lines : List ℕ) (places : List FilePlace) (deeds : List Deed) (kind : Kind) (name : List ℕ) (more : List Deed)
       → AreDone files guards artifacts failures lines places deeds
       → IsRefused (record { deeds = deeds; files = files }) name kind more
       → AreDone files guards artifacts (failures + 1) lines places (deeds ++ more)
@@ -96,7 +96,7 @@ pub data AreDone (files : Files) (guards : List Guard) : List Artifact → ℕ �
 -- (own)
 abbrev pub IsDone : Files → List Artifact → ℕ → List ℕ → List Deed → Type 0
 IsDone files artifacts failures lines deeds =
-    (guards : List Guard) × (places : List Place) × AreDone files guards artifacts failures lines places deeds
+    (guards : List Guard) × (places : List FilePlace) × AreDone files guards artifacts failures lines places deeds
 
 -- All that was done to the disk is what was done for these artifacts, with so many puts refused, and
 -- these lines. (own)
@@ -104,5 +104,5 @@ abbrev pub IsAllDone : Known → List Artifact → ℕ → List ℕ → Type 0
 IsAllDone k artifacts failures lines = IsDone k.files artifacts failures lines k.deeds
 
 -- The same, if these names were guarded, and the artifacts have these places. (own)
-abbrev pub IsDoneApart : Known → List Guard → List Artifact → ℕ → List ℕ → List Place → Type 0
+abbrev pub IsDoneApart : Known → List Guard → List Artifact → ℕ → List ℕ → List FilePlace → Type 0
 IsDoneApart k guards artifacts failures lines places = AreDone k.files guards artifacts failures lines places k.deeds

@@ -3,7 +3,7 @@ use Rattle.std.specs.Prelude.{◌≡◌, ℕ, ◌+◌, Bool, true, false, List, 
 use Rattle.file_disk.specs.Known.{Known, Files}
 use Rattle.file_texts.specs.Places.{place_under, is_name_guarded}
 use Rattle.file_texts.specs.declared.places.Guard.{Guard}
-use Rattle.file_texts.specs.declared.places.Place.{Place}
+use Rattle.file_texts.specs.declared.places.FilePlace.{FilePlace}
 use Rattle.output_put.specs.Receipt.{Receipt}
 use Rattle.output_put.specs.declared.artifact.Artifact.{Artifact}
 
@@ -15,7 +15,7 @@ pub record Held (D : Type 0) : Type 0 where
   pub failures : ℕ
   pub lines : List ℕ
   pub guards : List Guard
-  pub places : List Place
+  pub places : List FilePlace
   pub closed : Bool
   pub disk : D
 
@@ -52,7 +52,7 @@ with_guards o guards = record { handed = o.handed; failures = o.failures; lines 
 -- The name is guarded now, with its place, if the directory of the name is there, and nothing else
 -- changed. (own)
 pub record IsGuarded {D : Type 0} (known : D → Option Known) (old new : Held D) (name : List ℕ) : Type 0 where
-  pub place : Option Place
+  pub place : Option FilePlace
   pub at : IfSome (known old.disk) (λ k. place ≡ place_under k name)
   pub guarded : new ≡ with_guards old (old.guards ++ record { name = name; place = place } ∷ [])
 

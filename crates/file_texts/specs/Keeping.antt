@@ -11,7 +11,7 @@ use Rattle.file_texts.specs.Steps.{IsWritten, IsUndone, directories_for}
 use Rattle.file_texts.specs.declared.lines.Saying.{Saying}
 use Rattle.file_texts.specs.declared.lines.Saying.TheVariants.{Nothing, Creating, Unchanged}
 use Rattle.file_texts.specs.declared.places.Guard.{Guard}
-use Rattle.file_texts.specs.declared.places.Place.{Place}
+use Rattle.file_texts.specs.declared.places.FilePlace.{FilePlace}
 use Rattle.file_texts.specs.declared.writing.Keeps.{Keeps}
 use Rattle.file_texts.specs.declared.writing.Keeps.TheVariants.{Permissions, NoExecution}
 
@@ -76,7 +76,7 @@ Fills false k keeps file text deeds = IsWritten k keeps file text deeds
 
 -- The artifact was appended to the artifacts, and a line to the lines, and if the deeds are known, they
 -- put it in this way. (own)
-pub record Takes (known new : Option Known) (guards : List Guard) (places new_places : List Place) (artifacts : List Artifact) (lines : List ℕ) (new_artifacts : List Artifact) (new_lines : List ℕ) (artifact : Artifact) : Type 0 where
+pub record Takes (known new : Option Known) (guards : List Guard) (places new_places : List FilePlace) (artifacts : List Artifact) (lines : List ℕ) (new_artifacts : List Artifact) (new_lines : List ℕ) (artifact : Artifact) : Type 0 where
   pub line : List ℕ
   pub kept : IsKept artifacts lines new_artifacts new_lines artifact line
   pub said : IsSaid artifact.kind artifact.name line
@@ -84,7 +84,7 @@ pub record Takes (known new : Option Known) (guards : List Guard) (places new_pl
 
 -- The directories were made, the places were added, and then the text was written, unless the file
 -- was left as it was. (own)
-pub record IsStepped (k : Known) (guards : List Guard) (places new_places : List Place) (saying : Saying) (left : Bool) (keeps : Keeps) (name file text : List ℕ) (deeds : List Deed) : Type 0 where
+pub record IsStepped (k : Known) (guards : List Guard) (places new_places : List FilePlace) (saying : Saying) (left : Bool) (keeps : Keeps) (name file text : List ℕ) (deeds : List Deed) : Type 0 where
   pub rest : List Deed
   pub parts : deeds ≡ made_for saying name ++ rest
   pub placed : ArePlaced (with_deeds k (made_for saying name)) guards places new_places name file

@@ -6,12 +6,12 @@ ghost use Rattle.file_texts.specs.Coherent.{IsCoherent, IsApart, IsPutApart, Rea
 ghost use Rattle.file_texts.specs.Done.{IsTakenSo};
 ghost use Rattle.file_texts.specs.Steps.{IsReplaced};
 ghost use Rattle.file_texts.specs.declared.places.Guard.{Guard};
-ghost use Rattle.file_texts.specs.declared.places.Place.{Place};
+ghost use Rattle.file_texts.specs.declared.places.FilePlace.{FilePlace};
 ghost use Rattle.output_put.specs.declared.artifact.Artifact.{Artifact};
 
 /// What is read under the name of an artifact, after it was put, is its text.
 pub fn puts_are_read()
-    ensures { (k : Known) (guards : List Guard) (places new : List Place) (artifact : Artifact)
+    ensures { (k : Known) (guards : List Guard) (places new : List FilePlace) (artifact : Artifact)
         (line : List ℕ) (deeds : List Deed) → IsCoherent k.files
         → IsTakenSo k guards places new artifact line deeds
         → text_under (with_deeds k deeds) artifact.name ≡ Some artifact.text }
@@ -19,8 +19,8 @@ pub fn puts_are_read()
 
 /// What is read under another name, at another place, is what was read before the put.
 pub fn puts_leave_others()
-    ensures { (k : Known) (guards : List Guard) (places new : List Place) (artifact : Artifact)
-        (line : List ℕ) (deeds : List Deed) (name : List ℕ) (place : Place) (text : List ℕ)
+    ensures { (k : Known) (guards : List Guard) (places new : List FilePlace) (artifact : Artifact)
+        (line : List ℕ) (deeds : List Deed) (name : List ℕ) (place : FilePlace) (text : List ℕ)
         → IsCoherent k.files → (put : IsTakenSo k guards places new artifact line deeds)
         → IsPutApart k artifact put.file place → ReadsAt k name place text
         → ReadsAt (with_deeds k deeds) name place text }
@@ -33,7 +33,7 @@ pub fn last_files_are_read()
         → IsCoherent k.files → IsReplaced k file text deeds
         → text_under (with_deeds k deeds) file ≡ Some text }
     ensures others { (k : Known) (file written : List ℕ) (deeds : List Deed) (name : List ℕ)
-        (place : Place) (text : List ℕ) → IsCoherent k.files → IsReplaced k file written deeds
+        (place : FilePlace) (text : List ℕ) → IsCoherent k.files → IsReplaced k file written deeds
         → IsApart k file place → ReadsAt k name place text
         → ReadsAt (with_deeds k deeds) name place text }
 {}

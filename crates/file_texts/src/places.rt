@@ -16,7 +16,7 @@ use std::io::{self, ErrorKind};
 /// The place of a file: its directory, by device and number, and the last part of its name. Two
 /// names are of one place exactly if their directories are one, and their last parts are equal.
 #[derive(Drop)]
-pub(crate) struct Place {
+pub(crate) struct FilePlace {
     device: u64,
     directory: u64,
     name: Bytes,
@@ -26,7 +26,7 @@ pub(crate) struct Place {
 #[derive(Drop)]
 pub(crate) struct Guard {
     name: Bytes,
-    place: Option<Place>,
+    place: Option<FilePlace>,
 }
 
 /// Returns the device and the number of the directory in which a name is.
@@ -40,11 +40,11 @@ fn home<D: Disk>(disk: &D, name: &str) -> io::Result<(u64, u64)>
 }
 
 /// Returns the place of a name in this directory.
-fn place_at(alloc: Global, name: &str, directory: (u64, u64)) -> Result<Place, AllocError>
+fn place_at(alloc: Global, name: &str, directory: (u64, u64)) -> Result<FilePlace, AllocError>
     ensures { IfOk result (λ place. place ≡ meant.place_at name.now directory) }
 {
     let name = Bytes::from_slice(alloc, last_of(name).as_bytes())?;
-    Ok(Place {
+    Ok(FilePlace {
         device: directory.0,
         directory: directory.1,
         name,
@@ -53,7 +53,7 @@ fn place_at(alloc: Global, name: &str, directory: (u64, u64)) -> Result<Place, A
 
 /// Returns the place of a name. Fails if there is no such directory, memory runs out, or the system
 /// refuses to look.
-fn place_of<D: Disk>(alloc: Global, disk: &D, name: &str) -> io::Result<Place>
+fn place_of<D: Disk>(alloc: Global, disk: &D, name: &str) -> io::Result<FilePlace>
     ensures { IfOk result
         (λ place. IfSome (D.known disk.now) (λ k. place_under k name.now ≡ Some place)) }
 {
@@ -64,7 +64,7 @@ fn place_of<D: Disk>(alloc: Global, disk: &D, name: &str) -> io::Result<Place>
 
 /// Returns the place of a name, or `None` if there is no such directory, or the system refuses to
 /// look. Fails only if memory runs out.
-fn place_if_there<D: Disk>(alloc: Global, disk: &D, name: &str) -> Result<Option<Place>, AllocError>
+fn place_if_there<D: Disk>(alloc: Global, disk: &D, name: &str) -> Result<Option<FilePlace>, AllocError>
     ensures { IfOk result
         (λ place. IfSome (D.known disk.now) (λ k. place ≡ place_under k name.now)) }
 {
@@ -78,9 +78,9 @@ fn place_if_there<D: Disk>(alloc: Global, disk: &D, name: &str) -> Result<Option
     }
 }
 
-impl Place {
+impl FilePlace {
     /// Returns whether two places are one.
-    fn is(&self, other: &Place) -> bool
+    fn is(&self, other: &FilePlace) -> bool
         ensures value { result ≡ meant.is_place self.now other.now }
     {
         self.directory == other.directory
@@ -91,7 +91,7 @@ impl Place {
 
 impl Guard {
     /// Returns whether the guarded name has this place.
-    fn is_at(&self, place: &Place) -> bool
+    fn is_at(&self, place: &FilePlace) -> bool
         ensures { result ≡ meant.is_at place.now self.now.place }
     {
         match &self.place {
@@ -102,7 +102,7 @@ impl Guard {
 }
 
 /// Returns whether the place is one of these.
-fn is_among(place: &Place, places: &[Place]) -> bool
+fn is_among(place: &FilePlace, places: &[FilePlace]) -> bool
     ensures { result ≡ meant.is_among place.now places.now }
 {
     places.iter().any(|other| place.is(other))
@@ -116,14 +116,14 @@ pub(crate) fn is_name_guarded(name: &[u8], guards: &[Guard]) -> bool
 }
 
 /// Returns whether the place is guarded.
-fn is_place_guarded(place: &Place, guards: &[Guard]) -> bool
+fn is_place_guarded(place: &FilePlace, guards: &[Guard]) -> bool
     ensures { result ≡ meant.is_place_guarded place.now guards.now }
 {
     guards.iter().any(|guard| guard.is_at(place))
 }
 
 /// Returns whether the place is guarded, or one of these.
-fn is_held_at(place: &Place, guards: &[Guard], places: &[Place]) -> bool
+fn is_held_at(place: &FilePlace, guards: &[Guard], places: &[FilePlace]) -> bool
     ensures { result ≡ meant.is_held_at (Some place.now) guards.now places.now }
 {
     is_place_guarded(place, guards) || is_among(place, places)
@@ -135,7 +135,7 @@ pub(crate) fn is_held<D: Disk>(
     alloc: Global,
     disk: &D,
     guards: &[Guard],
-    places: &[Place],
+    places: &[FilePlace],
     name: &str,
 ) -> Result<bool, AllocError>
     ensures named { IfOk result
@@ -169,7 +169,7 @@ pub(crate) fn held_error() -> io::Error {
 }
 
 /// Adds a place, unless it is guarded or added already.
-fn add(guards: &[Guard], places: &mut Vec<Place>, place: Place) -> io::Result<()>
+fn add(guards: &[Guard], places: &mut Vec<FilePlace>, place: FilePlace) -> io::Result<()>
     ensures free { OnOk result
         (meant.is_held_at (Some place) guards.now places.old.items ≡ false) }
     ensures added { OnOk result (places.new.items ≡ places.old.items ++ place ∷ []) }
@@ -187,7 +187,7 @@ pub(crate) fn add_place<D: Disk>(
     alloc: Global,
     disk: &D,
     guards: &[Guard],
-    places: &mut Vec<Place>,
+    places: &mut Vec<FilePlace>,
     name: &str,
 ) -> io::Result<()>
     ensures added { OnOk result (IfSome (D.known disk.now)

@@ -16,7 +16,7 @@ ghost use Rattle.file_texts.specs.Steps.{IsReplaced, IsBegun, directories_for};
 use crate::lines::{Saying, say, saying_of};
 use crate::links::end_of;
 use crate::names::{directory_of, file_name, no_name};
-use crate::places::{Guard, Place, add_place, guard_of, held_error, is_held};
+use crate::places::{Guard, FilePlace, add_place, guard_of, held_error, is_held};
 use crate::reading::read_text;
 use crate::writing::{Keeps, write_new, write_text};
 use crew_refusals::words_of;
@@ -42,7 +42,7 @@ pub struct FileOutputs<D: Disk> {
     alloc: Global,
     disk: D,
     guards: Vec<Guard>,
-    places: Vec<Place>,
+    places: Vec<FilePlace>,
     artifacts: Vec<Artifact>,
     failures: u64,
     lines: Vec<u8>,
@@ -113,7 +113,7 @@ fn add_places<D: Disk>(
     alloc: Global,
     disk: &D,
     guards: &[Guard],
-    places: &mut Vec<Place>,
+    places: &mut Vec<FilePlace>,
     name: &str,
     end: &Option<String>,
 ) -> io::Result<()>
@@ -133,7 +133,7 @@ fn add_both<D: Disk>(
     alloc: Global,
     disk: &D,
     guards: &[Guard],
-    places: &mut Vec<Place>,
+    places: &mut Vec<FilePlace>,
     name: &str,
     file: &str,
 ) -> io::Result<()>
@@ -175,7 +175,7 @@ fn write_placed<D: Disk>(
     alloc: Global,
     disk: &mut D,
     guards: &[Guard],
-    places: &mut Vec<Place>,
+    places: &mut Vec<FilePlace>,
     put: &Put<'_>,
     end: &Option<String>,
 ) -> io::Result<()>
@@ -274,7 +274,7 @@ fn keep_written<D: Disk>(
     alloc: Global,
     disk: &mut D,
     guards: &[Guard],
-    places: &mut Vec<Place>,
+    places: &mut Vec<FilePlace>,
     artifacts: &mut Vec<Artifact>,
     lines: &mut Vec<u8>,
     artifact: Artifact,
@@ -323,7 +323,7 @@ fn take<'a, D: Disk>(
     alloc: Global,
     disk: &mut D,
     guards: &[Guard],
-    places: &mut Vec<Place>,
+    places: &mut Vec<FilePlace>,
     artifacts: &mut Vec<Artifact>,
     lines: &mut Vec<u8>,
     is_closed: bool,
@@ -368,7 +368,7 @@ fn take_free<'a, D: Disk>(
     alloc: Global,
     disk: &mut D,
     guards: &[Guard],
-    places: &mut Vec<Place>,
+    places: &mut Vec<FilePlace>,
     artifacts: &mut Vec<Artifact>,
     lines: &mut Vec<u8>,
     kind: Kind,

@@ -98,7 +98,7 @@ fn add_effect(alloc: Global, list: &mut SubstList, effect: &Effect) -> Result<()
             listed,
             entries,
             ..
-        } => { add_entries(alloc, list, Sought::Entry(*listed), entries.as_slice()) }
+        } => { add_entries(alloc, list, Sought::ListEntry(*listed), entries.as_slice()) }
         _ => Ok(()),
     }
 }

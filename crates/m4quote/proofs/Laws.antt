@@ -3,7 +3,7 @@
 use Rattle.std.proofs.Common.{◌≡◌, ◌≢◌, ◌↔◌, ℕ, ◌⊎◌, inl, inr, List, Result, Ok, Err, refl, sym, ◌∙◌, arith}
 use Rattle.m4quote.specs.declared.fault.QuoteFault.{QuoteFault}
 use Rattle.m4quote.specs.declared.fault.QuoteFault.TheVariants.{UnclosedQuote, StrayClose, OutOfMemory}
-use Rattle.m4quote.specs.Entry.{Entry}
+use Rattle.m4quote.specs.ItemValue.{ItemValue}
 use Rattle.m4quote.specs.Spelling.{IsSpelling}
 use Rattle.m4quote.specs.Parts.{ArePartsOf}
 use Rattle.m4quote.specs.Faults.{IsFirstFault, IsBracketFault}
@@ -19,7 +19,7 @@ use Rattle.m4quote.proofs.FaultKinds.{first_fault-no_memory, use_breaks-kind, us
 -- ---- items
 
 -- the function gives these items if and only if the text spells them
-pub outcome_is_spelling : (at : ℕ) (text : List ℕ) (items : List Entry) → (outcome at text ≡ Ok items) ↔ IsSpelling at text items
+pub outcome_is_spelling : (at : ℕ) (text : List ℕ) (items : List ItemValue) → (outcome at text ≡ Ok items) ↔ IsSpelling at text items
 outcome_is_spelling at text items = (spelling-outcome at text items, outcome-spelling at text items)
 
 -- the function gives this error if and only if it is the first one
@@ -27,7 +27,7 @@ pub outcome_is_fault : (at : ℕ) (text : List ℕ) (f : QuoteFault) → (outcom
 outcome_is_fault at text f = (fault-outcome at text f, λ h. outcome-fault h)
 
 -- a text spells at most one list
-pub one_list : (at : ℕ) (text : List ℕ) (a b : List Entry) → IsSpelling at text a → IsSpelling at text b → a ≡ b
+pub one_list : (at : ℕ) (text : List ℕ) (a b : List ItemValue) → IsSpelling at text a → IsSpelling at text b → a ≡ b
 one_list at text a b h k = ok_is a b (sym (outcome-spelling at text a h) ∙ outcome-spelling at text b k)
 
 -- a text has at most one first error
@@ -35,18 +35,18 @@ pub one_fault : (at : ℕ) (text : List ℕ) (f g : QuoteFault) → IsFirstFault
 one_fault at text f g h k = err_is f g (sym (outcome-fault h) ∙ outcome-fault k)
 
 -- a text doesn't have both
-pub never_both : (at : ℕ) (text : List ℕ) (items : List Entry) (f : QuoteFault) → IsSpelling at text items → IsFirstFault at text f → ⊥
+pub never_both : (at : ℕ) (text : List ℕ) (items : List ItemValue) (f : QuoteFault) → IsSpelling at text items → IsFirstFault at text f → ⊥
 never_both at text items f h k = failed (sym (outcome-fault k) ∙ outcome-spelling at text items h)
 
 -- a text has one of the two
-pub one_of_both : (at : ℕ) (text : List ℕ) → ((items : List Entry) × IsSpelling at text items) ⊎ ((f : QuoteFault) × IsFirstFault at text f)
+pub one_of_both : (at : ℕ) (text : List ℕ) → ((items : List ItemValue) × IsSpelling at text items) ⊎ ((f : QuoteFault) × IsFirstFault at text f)
 one_of_both at text = by_outcome (outcome at text) refl where
-  by_outcome : (r : Result (List Entry) QuoteFault) → outcome at text ≡ r → ((items : List Entry) × IsSpelling at text items) ⊎ ((f : QuoteFault) × IsFirstFault at text f)
+  by_outcome : (r : Result (List ItemValue) QuoteFault) → outcome at text ≡ r → ((items : List ItemValue) × IsSpelling at text items) ⊎ ((f : QuoteFault) × IsFirstFault at text f)
   by_outcome (Ok items) e = inl (items, spelling-outcome at text items e)
   by_outcome (Err f) e = inr (f, fault-outcome at text f e)
 
 -- what is spelled is in the text
-pub spelling_parts : (at : ℕ) (text : List ℕ) (items : List Entry) → IsSpelling at text items → ArePartsOf at text items
+pub spelling_parts : (at : ℕ) (text : List ℕ) (items : List ItemValue) → IsSpelling at text items → ArePartsOf at text items
 spelling_parts at text items h = items-parts at text h.spells 0 (omega arith) refl (omega arith)
 
 -- no error of a text is out of memory

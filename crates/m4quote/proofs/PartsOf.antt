@@ -5,7 +5,7 @@ use Rattle.std.proofs.lemmas.Bool.{eqb-true}
 use Rattle.std.proofs.lemmas.List.{drop-drop, length-drop, length-take-le, length-append}
 use Rattle.std.proofs.lemmas.List.Elements.{All-nil, All-cons, All-head, All-tail}
 use Rattle.std.proofs.Math.Seq.{take-add}
-use Rattle.m4quote.specs.Entry.{Span, Entry, call, bare, bare_before}
+use Rattle.m4quote.specs.ItemValue.{Span, ItemValue, call, bare, bare_before}
 use Rattle.m4quote.specs.Text.{blank_len}
 use Rattle.m4quote.specs.Spelling.{AreArguments, last, more, argument_of, Spells, nothing, bare_text, dropped_line, bare_name, with_arguments}
 use Rattle.m4quote.specs.Parts.{IsPart, IsSpanOf, IsItemOf, ArePartsOf}
@@ -36,12 +36,12 @@ module _ (base : ℕ) (whole : List ℕ) where
         bytes = ap (λ m. take m (drop (at - base) whole)) (length-append a b) ∙ take-add (length a) (length b) (drop (at - base) whole) ∙ rw (there, first.bytes, second.bytes) refl;
       }
 
-  joined_or_not : (t : Bool) (at to : ℕ) (a b : List ℕ) (items : List Entry) → (t ≡ true → to ≡ at + length a) → IsPart base whole at a → IsPart base whole to b → ArePartsOf base whole items
+  joined_or_not : (t : Bool) (at to : ℕ) (a b : List ℕ) (items : List ItemValue) → (t ≡ true → to ≡ at + length a) → IsPart base whole at a → IsPart base whole to b → ArePartsOf base whole items
       → ArePartsOf base whole (cond t (bare (a ++ b) at ∷ items) (bare a at ∷ bare b to ∷ items))
   joined_or_not true at to a b items touch first second later = All-cons (IsItemOf base whole) (bare (a ++ b) at) items (part_joined at to a b (touch refl) first second) later
   joined_or_not false at to a b items touch first second later = All-cons (IsItemOf base whole) (bare a at) (bare b to ∷ items) first (All-cons (IsItemOf base whole) (bare b to) items second later)
 
-  bare_before-parts : (at : ℕ) (text : List ℕ) (items : List Entry) → IsPart base whole at text → ArePartsOf base whole items → ArePartsOf base whole (bare_before at text items)
+  bare_before-parts : (at : ℕ) (text : List ℕ) (items : List ItemValue) → IsPart base whole at text → ArePartsOf base whole items → ArePartsOf base whole (bare_before at text items)
   bare_before-parts at [] items first later = later
   bare_before-parts at (b ∷ bs) [] first later = All-cons (IsItemOf base whole) (bare (b ∷ bs) at) [] first later
   bare_before-parts at (b ∷ bs) (call name args to ∷ items) first later = All-cons (IsItemOf base whole) (bare (b ∷ bs) at) (call name args to ∷ items) first later
@@ -71,7 +71,7 @@ module _ (base : ℕ) (whole : List ℕ) where
       All-cons (IsSpanOf base whole) (argument_of at text n) args (argument_is at k n text place rest (omega (arith, len)) within)
       (arguments-parts later (k + (blank_len text + n + 1)) (omega arith) following (omega (arith, len, whole_len)))
 
-  pub items-parts : {at : ℕ} {text : List ℕ} {items : List Entry} → Spells at text items → (k : ℕ) → at ≡ base + k → text ≡ drop k whole → k ≤ length whole → ArePartsOf base whole items
+  pub items-parts : {at : ℕ} {text : List ℕ} {items : List ItemValue} → Spells at text items → (k : ℕ) → at ≡ base + k → text ≡ drop k whole → k ≤ length whole → ArePartsOf base whole items
   items-parts nothing k place rest within = All-nil (IsItemOf base whole)
   items-parts (bare_text {at} {n} {kind} {text} {items} front is later) k place rest within =
       let fits = front_fits front in

@@ -3,7 +3,7 @@
 ghost use Rattle.std.specs.Prelude.{◌≡◌, ◌≢◌, ◌⊎◌, ◌↔◌, ℕ, List, Ok, Err};
 ghost use Rattle.m4quote.specs.declared.fault.QuoteFault.{QuoteFault};
 ghost use Rattle.m4quote.specs.declared.fault.QuoteFault.TheVariants.{OutOfMemory, UnclosedQuote};
-ghost use Rattle.m4quote.specs.Entry.{Entry};
+ghost use Rattle.m4quote.specs.ItemValue.{ItemValue};
 ghost use Rattle.m4quote.specs.Spelling.{IsSpelling};
 ghost use Rattle.m4quote.specs.Parts.{ArePartsOf};
 ghost use Rattle.m4quote.specs.Faults.{IsFirstFault, IsBracketFault};
@@ -14,18 +14,18 @@ ghost use Rattle.m4quote.specs.Scan.{outcome, used, bare_value_of};
 /// both.
 #[tactic(auto, using(crate::proofs::Laws::one_list, crate::proofs::Laws::one_fault, crate::proofs::Laws::never_both))]
 pub fn one_reading()
-    ensures one_list { (at : ℕ) (text : List ℕ) (a b : List Entry) → IsSpelling at text a
+    ensures one_list { (at : ℕ) (text : List ℕ) (a b : List ItemValue) → IsSpelling at text a
         → IsSpelling at text b → a ≡ b }
     ensures one_fault { (at : ℕ) (text : List ℕ) (f g : QuoteFault) → IsFirstFault at text f
         → IsFirstFault at text g → f ≡ g }
-    ensures never_both { (at : ℕ) (text : List ℕ) (items : List Entry) (f : QuoteFault)
+    ensures never_both { (at : ℕ) (text : List ℕ) (items : List ItemValue) (f : QuoteFault)
         → IsSpelling at text items → IsFirstFault at text f → ⊥ }
 {}
 
 /// States that each text spells a list of items or has a first fault.
 pub fn some_reading()
     ensures { (at : ℕ) (text : List ℕ)
-        → ((items : List Entry) × IsSpelling at text items)
+        → ((items : List ItemValue) × IsSpelling at text items)
         ⊎ ((f : QuoteFault) × IsFirstFault at text f) }
 {}
 
@@ -33,11 +33,11 @@ pub fn some_reading()
 /// of a text.
 #[tactic(auto, using(crate::proofs::Laws::spelling_parts, crate::proofs::Laws::fault_is_not_memory))]
 pub fn reading_laws()
-    ensures items { (at : ℕ) (text : List ℕ) (items : List Entry)
+    ensures items { (at : ℕ) (text : List ℕ) (items : List ItemValue)
         → (outcome at text ≡ Ok items) ↔ IsSpelling at text items }
     ensures fault { (at : ℕ) (text : List ℕ) (f : QuoteFault)
         → (outcome at text ≡ Err f) ↔ IsFirstFault at text f }
-    ensures parts { (at : ℕ) (text : List ℕ) (items : List Entry) → IsSpelling at text items
+    ensures parts { (at : ℕ) (text : List ℕ) (items : List ItemValue) → IsSpelling at text items
         → ArePartsOf at text items }
     ensures no_memory { (at : ℕ) (text : List ℕ) (f : QuoteFault) → IsFirstFault at text f
         → f ≢ OutOfMemory }

@@ -9,7 +9,7 @@ use Rattle.shellword.specs.Value.{word_value}
 use Rattle.ac_tree.specs.declared.listed.Listed.{Listed}
 use Rattle.ac_tree.specs.declared.listed.Listed.TheVariants.{Header, Function, Declaration}
 use Rattle.ac_tree.specs.declared.listed.Sought.{Sought}
-use Rattle.ac_tree.specs.declared.listed.Sought.TheVariants.{Entry, «Type»}
+use Rattle.ac_tree.specs.declared.listed.Sought.TheVariants.{ListEntry, «Type»}
 pub use Rattle.ac_tree.specs.Definitions.{symbol_part}
 use Rattle.ac_tree.specs.TestNames.{type_name, library_name, libraries_name}
 pub use Rattle.ac_tree.specs.TestNames.{shell_part, entry_name}
@@ -39,7 +39,7 @@ pub data TestKind : Type 0 where
 
 -- The kind of test that a macro makes of an entry. (Autoconf's manual, "Generic Headers" to "Generic Types")
 abbrev pub kind_for : Sought → List ℕ → Option (List Part) → Bool → TestKind
-kind_for (Entry listed) entry includes defines = Single listed entry includes defines
+kind_for (ListEntry listed) entry includes defines = Single listed entry includes defines
 kind_for «Type» entry includes defines = Sized entry includes defines
 
 -- A variable's value, or the empty text if it isn't set. (POSIX shell, "Parameter Expansion")

@@ -6,14 +6,14 @@ use Rattle.shellword.specs.Value.{word_value}
 use Rattle.ac_tree.specs.declared.program.Try as kinds
 use Rattle.ac_tree.specs.declared.program.Try.TheVariants.{Compile, Link, Preproc, Run}
 use Rattle.ac_tree.specs.declared.program.Program as programs
-use Rattle.ac_tree.specs.declared.program.Program.TheVariants.{Program, Source}
+use Rattle.ac_tree.specs.declared.program.Program.TheVariants.{Program, Whole}
 use Rattle.meaning.specs.State as state
 use Rattle.meaning.specs.Asking.{child, compiled}
 
 -- The text of a program, with the values of the variables. (Autoconf's manual, "Generating Sources")
 abbrev pub text_of : programs.Program → List (List ℕ × List ℕ) → List ℕ
 text_of (Program prologue body) vars = program_source (word_value prologue vars) (word_value body vars)
-text_of (Source text) vars = word_value text vars
+text_of (Whole text) vars = word_value text vars
 
 -- The task of the first child; a program that is to be run is linked. (Autoconf's manual, "Runtime")
 abbrev pub first_probe : kinds.Try → List ℕ → probe.Probe

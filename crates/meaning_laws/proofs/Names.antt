@@ -53,7 +53,7 @@ unfolding is_cache_name has_cv
 type_cached name = ap (λ b. b && true) (all_sh name)
 
 pub sought_cached : (sought : Sought) (entry : List ℕ) → IsCached (sought_name sought entry)
-sought_cached (seeks.Entry listed) entry = entry_cached listed entry
+sought_cached (seeks.ListEntry listed) entry = entry_cached listed entry
 sought_cached seeks.«Type» entry = type_cached entry
 
 pub library_cached : (library function : List ℕ) → IsCached (library_name library function)

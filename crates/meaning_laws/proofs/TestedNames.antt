@@ -83,7 +83,7 @@ of_kind kind c st rs =
     (λ now left. of_both (left_set (name_of kind) (value_of st.vars (name_of kind)) (value_of now.vars (name_of kind))) _ (of_left (name_of kind) c _ _) (of_assigned kind (value_of now.vars (name_of kind))))
 
 of_sought : (sought : Sought) (entry : List ℕ) (includes : Option (List Part)) (defines : Bool) (st : State) (rs : List Reply) → HaveNames (kind_deeds (kind_for sought entry includes defines) st rs)
-of_sought (seeks.Entry listed) entry includes defines st rs = of_kind (Single listed entry includes defines) (entry_cached listed entry) st rs
+of_sought (seeks.ListEntry listed) entry includes defines st rs = of_kind (Single listed entry includes defines) (entry_cached listed entry) st rs
 of_sought seeks.«Type» entry includes defines st rs = of_kind (Sized entry includes defines) (type_cached entry) st rs
 
 -- Statements.

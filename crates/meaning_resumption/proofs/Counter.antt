@@ -12,8 +12,8 @@ use Rattle.shellword.specs.Truth.{single, truth}
 use Rattle.shellword.specs.Value.{word_value}
 use Rattle.text_cut.specs.Cuts.{fields, parts_by, parts}
 use Rattle.ac_tree.specs.declared.listed.Listed.TheVariants.{Function}
-use Rattle.ac_tree.specs.declared.listed.Sought.TheVariants.{Entry}
-use Rattle.ac_tree.specs.declared.program.Program.TheVariants.{Source}
+use Rattle.ac_tree.specs.declared.listed.Sought.TheVariants.{ListEntry}
+use Rattle.ac_tree.specs.declared.program.Program.TheVariants.{Whole}
 use Rattle.ac_tree.specs.declared.program.Try.TheVariants.{Compile}
 use Rattle.ac_tree.specs.declared.statement.Declares.TheVariants as declares
 use Rattle.ac_tree.specs.declared.statement.Effect.TheVariants.{Assign, Define, Search}
@@ -48,7 +48,7 @@ sets name t = Then declares.Nothing (Assign name (text t)) Done
 
 -- AC_CHECK_FUNC
 abbrev pub checks : List ℕ → Cases → Script → Script
-checks name cases rest = Choice declares.Nothing (Asked (Checks (Entry Function) name None)) cases rest
+checks name cases rest = Choice declares.Nothing (Asked (Checks (ListEntry Function) name None)) cases rest
 
 abbrev pub cut_here : Script
 cut_here = checks (codes "g") No_case Done
@@ -71,7 +71,7 @@ set_v = sets (codes "v_cv_x") (codes "1")
 
 -- A choice about whether a program is compiled.
 abbrev pub tries : Cases → Script → Script
-tries cases rest = Choice declares.Nothing (Asked (Tries Compile (Source (text (codes "p"))))) cases rest
+tries cases rest = Choice declares.Nothing (Asked (Tries Compile (Whole (text (codes "p"))))) cases rest
 
 -- AC_CACHE_CHECK that sets its name if a program is compiled.
 abbrev pub maybe : Script → Script
@@ -110,7 +110,7 @@ unfolding on_values
 read_after_case = (refl, refl)
 
 -- In the actions of a list the name of a later entry is read.
-read_later_entry : Differ (Choice declares.Nothing (Asked (ChecksEach (Entry Function) (codes "f" ∷ codes "h" ∷ []) None)) (Case Yes (if_set (codes "ac_cv_func_h") Done) No_case) cut_here)
+read_later_entry : Differ (Choice declares.Nothing (Asked (ChecksEach (ListEntry Function) (codes "f" ∷ codes "h" ∷ []) None)) (Case Yes (if_set (codes "ac_cv_func_h") Done) No_case) cut_here)
     (good ∷ bad ∷ StartRefused ∷ []) ((codes "ac_cv_func_f", codes "yes") ∷ (codes "ac_cv_func_h", codes "no") ∷ []) (good ∷ []) (variable (codes "x")) None (Some (codes "1"))
 unfolding on_values
 read_later_entry = (refl, refl)
@@ -134,7 +134,7 @@ unfolding on_values
 defines_inside = (refl, refl)
 
 -- Commands make a test.
-tests_inside : Differ (Check (text (codes "x")) (codes "v_cv_x") (Choice declares.Nothing (Asked (ChecksEach (Entry Function) (codes "f" ∷ []) None)) No_case set_v) cut_here)
+tests_inside : Differ (Check (text (codes "x")) (codes "v_cv_x") (Choice declares.Nothing (Asked (ChecksEach (ListEntry Function) (codes "f" ∷ []) None)) No_case set_v) cut_here)
     (good ∷ StartRefused ∷ []) ((codes "v_cv_x", codes "1") ∷ f_is) (good ∷ []) (definition (codes "HAVE_F")) (Some (codes "1")) None
 unfolding on_values
 tests_inside = (refl, refl)
@@ -152,7 +152,7 @@ unfolding on_values
 tests_twice = (refl, refl)
 
 -- Such a test in the actions of a list with two entries.
-tests_in_rounds : Differ (Choice declares.Nothing (Asked (ChecksEach (Entry Function) (codes "f" ∷ codes "h" ∷ []) None)) (Case Always (maybe (Choice declares.Nothing Nothing (Case (Holds (single (record { negated = false; condition = Nonempty (value (codes "v_cv_x")) }))) Done (Case Always set_x No_case)) Done)) No_case) cut_here)
+tests_in_rounds : Differ (Choice declares.Nothing (Asked (ChecksEach (ListEntry Function) (codes "f" ∷ codes "h" ∷ []) None)) (Case Always (maybe (Choice declares.Nothing Nothing (Case (Holds (single (record { negated = false; condition = Nonempty (value (codes "v_cv_x")) }))) Done (Case Always set_x No_case)) Done)) No_case) cut_here)
     (good ∷ bad ∷ good ∷ good ∷ StartRefused ∷ []) ((codes "ac_cv_func_f", codes "yes") ∷ (codes "ac_cv_func_h", codes "yes") ∷ v_is) (good ∷ []) (variable (codes "x")) (Some (codes "1")) None
 unfolding on_values
 tests_in_rounds = (refl, refl)

@@ -8,7 +8,7 @@ use Rattle.crew_trait.specs.declared.reply.Reply.TheVariants.{StartRefused}
 use Rattle.deftable.specs.CacheName.{is_cache_name, has_cv}
 use Rattle.deftable.specs.Table.{value_of}
 use Rattle.ac_tree.specs.declared.listed.Listed.TheVariants.{Header, Function}
-use Rattle.ac_tree.specs.declared.listed.Sought.TheVariants.{Entry}
+use Rattle.ac_tree.specs.declared.listed.Sought.TheVariants.{ListEntry}
 use Rattle.ac_tree.specs.declared.statement.Declares.TheVariants as declares
 use Rattle.ac_tree.specs.declared.statement.Effect.TheVariants.{Batch, DefineText}
 use Rattle.ac_tree.specs.declared.statement.Question.TheVariants.{Checks, ChecksEach}
@@ -30,7 +30,7 @@ use Rattle.meaning_resumption.proofs.Counter.{on_values, vars_with, good, bad, v
 
 abbrev example : Script
 example = Then declares.Nothing (Batch Function (codes "f" ∷ codes "g" ∷ codes "f" ∷ []) None)
-    (Choice declares.Nothing (Asked (ChecksEach (Entry Function) (codes "h" ∷ codes "k" ∷ []) None)) (Case Yes (if_set (codes "ac_cv_func_h") Done) No_case)
+    (Choice declares.Nothing (Asked (ChecksEach (ListEntry Function) (codes "h" ∷ codes "k" ∷ []) None)) (Case Yes (if_set (codes "ac_cv_func_h") Done) No_case)
     (maybe (Then declares.Nothing (DefineText (codes "A") (value (codes "v_cv_x"))) Done)))
 
 abbrev replies : List Reply
@@ -115,8 +115,8 @@ whole_premises = record {
 -- AC_CHECK_HEADER([a.h],[x=1]) and AC_CHECK_FUNC([f],[y=1]): the first run is cut at the function.
 abbrev two_tests : Script
 two_tests =
-    Choice declares.Nothing (Asked (Checks (Entry Header) (codes "a.h") None)) (Case Yes (sets (codes "x") (codes "1")) No_case)
-    (Choice declares.Nothing (Asked (Checks (Entry Function) (codes "f") None)) (Case Yes (sets (codes "y") (codes "1")) No_case) Done)
+    Choice declares.Nothing (Asked (Checks (ListEntry Header) (codes "a.h") None)) (Case Yes (sets (codes "x") (codes "1")) No_case)
+    (Choice declares.Nothing (Asked (Checks (ListEntry Function) (codes "f") None)) (Case Yes (sets (codes "y") (codes "1")) No_case) Done)
 
 abbrev header_is : List (List ℕ × List ℕ)
 header_is = (codes "ac_cv_header_a_h", codes "yes") ∷ []

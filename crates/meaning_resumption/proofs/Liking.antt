@@ -192,7 +192,7 @@ others_same at names (Some text) s t reads r h = text_same at names text s t rea
 program_same : (at : List ℕ → Type 0) (names : List (List ℕ)) (program : programs.Program) (s t : State) → Reads at names → ReadsAll names (program_texts program) → Alike at s t → text_of program s.vars ≡ text_of program t.vars
 program_same at names (texts.Program prologue body) s t reads r h =
     ap (λ l. program_source l (word_value body s.vars)) (text_same at names prologue s t reads r.0 h) ∙ ap (program_source (word_value prologue t.vars)) (text_same at names body s t reads r.1.0 h)
-program_same at names (texts.Source text) s t reads r h = text_same at names text s t reads r.0 h
+program_same at names (texts.Whole text) s t reads r h = text_same at names text s t reads r.0 h
 
 condition_same : (at : List ℕ → Type 0) (names : List (List ℕ)) (c : Condition) (s t : State) → Reads at names → ReadsCondition names c → Alike at s t → condition_truth c s.vars ≡ condition_truth c t.vars
 condition_same at names conditions.True s t reads r h = refl

@@ -71,7 +71,7 @@ kind_part tested_before known kind fits w a c r =
 sought_part : (tested_before known : List (List ℕ)) (sought : Sought) (entry : List ℕ) (includes : Option (List Part)) (defines : Bool) (fits : List (List ℕ) → Type 0) → Within tested_before known → ReadsAll tested_before (option_to_list includes)
     → IsPart known (sought_name sought entry ∷ known) (sought_name sought entry ∷ []) (begins_test (Some (kind_for sought entry includes defines))) (joint_one (begins_test (Some (kind_for sought entry includes defines))))
     (SameOne (name_of (kind_for sought entry includes defines)) (begins_test (Some (kind_for sought entry includes defines)))) fits
-sought_part tested_before known (seeks.Entry listed) entry includes defines fits w r = kind_part tested_before known (Single listed entry includes defines) fits w tt (sought_cached (seeks.Entry listed) entry) r
+sought_part tested_before known (seeks.ListEntry listed) entry includes defines fits w r = kind_part tested_before known (Single listed entry includes defines) fits w tt (sought_cached (seeks.ListEntry listed) entry) r
 sought_part tested_before known seeks.«Type» entry includes defines fits w r = kind_part tested_before known (Sized entry includes defines) fits w tt (sought_cached seeks.«Type» entry) r
 
 begin_part : (tested_before known : List (List ℕ)) (r : Subject) (fits : List (List ℕ) → Type 0) → Within tested_before known → IsRound r → ResumableSubject None tested_before r
@@ -97,7 +97,7 @@ begin_part tested_before known (Asked (questions.Libraries function libraries ot
 
 sought_same : (at : List ℕ → Type 0) (sought : Sought) (entry : List ℕ) (includes : Option (List Part)) (defines : Bool) (x y : State) → at (sought_name sought entry) → Alike at x y
     → is_found (kind_for sought entry includes defines) (value_of x.vars (name_of (kind_for sought entry includes defines))) ≡ is_found (kind_for sought entry includes defines) (value_of y.vars (name_of (kind_for sought entry includes defines)))
-sought_same at (seeks.Entry listed) entry includes defines x y own a = ap (is_found (Single listed entry includes defines)) (a.value _ own)
+sought_same at (seeks.ListEntry listed) entry includes defines x y own a = ap (is_found (Single listed entry includes defines)) (a.value _ own)
 sought_same at seeks.«Type» entry includes defines x y own a = ap (is_found (Sized entry includes defines)) (a.value _ own)
 
 scope_same : (at : List ℕ → Type 0) (names : List (List ℕ)) (r : Subject) (x y : State) → Reads at names → ((n : List ℕ) → Among n (tests_at r) → at n) → IsRound r → ResumableSubject None names r → Alike at x y → scope_at r x ≡ scope_at r y

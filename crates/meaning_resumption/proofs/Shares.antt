@@ -278,10 +278,10 @@ given_covered (Some value) kind st rs = refl
 question_covered : (q : Question) (st : State) (rs : List Reply) → shared_jobs (use_shares (uses_asked q) st (asked as_is q st yes_or_no) rs) ≡ jobs_asked (asked as_is q st yes_or_no) rs
 question_covered (Given kind variable) st rs = given_covered (value_of st.vars variable) kind st rs
 question_covered (Tries kind program) st rs = append-nil (jobs_asked (asked as_is (Tries kind program) st yes_or_no) rs)
-question_covered (Checks (seeks.Entry listed) entry includes) st rs = found_covered (kind_for (seeks.Entry listed) entry includes false) st rs
+question_covered (Checks (seeks.ListEntry listed) entry includes) st rs = found_covered (kind_for (seeks.ListEntry listed) entry includes false) st rs
 question_covered (Checks seeks.«Type» entry includes) st rs = found_covered (kind_for seeks.«Type» entry includes false) st rs
 question_covered (ChecksEach sought [] includes) st rs = refl
-question_covered (ChecksEach (seeks.Entry listed) (entry ∷ more) includes) st rs = found_covered (kind_for (seeks.Entry listed) entry includes true) st rs
+question_covered (ChecksEach (seeks.ListEntry listed) (entry ∷ more) includes) st rs = found_covered (kind_for (seeks.ListEntry listed) entry includes true) st rs
 question_covered (ChecksEach seeks.«Type» (entry ∷ more) includes) st rs = found_covered (kind_for seeks.«Type» entry includes true) st rs
 question_covered (questions.Library library function others adds) st rs = found_covered (Library library function others adds) st rs
 question_covered (questions.Libraries function libraries others) st rs = found_covered (Libraries function libraries others) st rs

@@ -77,10 +77,10 @@ their_kind q kind st rs e =
 their_question : (q : Question) (st : State) (rs : List Reply) → Each HasItsJobs (use_shares (uses_asked q) st (asked as_is q st yes_or_no) rs)
 their_question (Given kind variable) st rs = tt
 their_question (Tries kind program) st rs = (of_try kind program st rs, tt)
-their_question (Checks (seeks.Entry listed) entry includes) st rs = their_kind (Checks (seeks.Entry listed) entry includes) (kind_for (seeks.Entry listed) entry includes false) st rs refl
+their_question (Checks (seeks.ListEntry listed) entry includes) st rs = their_kind (Checks (seeks.ListEntry listed) entry includes) (kind_for (seeks.ListEntry listed) entry includes false) st rs refl
 their_question (Checks seeks.«Type» entry includes) st rs = their_kind (Checks seeks.«Type» entry includes) (kind_for seeks.«Type» entry includes false) st rs refl
 their_question (ChecksEach sought [] includes) st rs = tt
-their_question (ChecksEach (seeks.Entry listed) (entry ∷ more) includes) st rs = their_kind (ChecksEach (seeks.Entry listed) (entry ∷ more) includes) (kind_for (seeks.Entry listed) entry includes true) st rs refl
+their_question (ChecksEach (seeks.ListEntry listed) (entry ∷ more) includes) st rs = their_kind (ChecksEach (seeks.ListEntry listed) (entry ∷ more) includes) (kind_for (seeks.ListEntry listed) entry includes true) st rs refl
 their_question (ChecksEach seeks.«Type» (entry ∷ more) includes) st rs = their_kind (ChecksEach seeks.«Type» (entry ∷ more) includes) (kind_for seeks.«Type» entry includes true) st rs refl
 their_question (questions.Library library function others adds) st rs = their_kind (questions.Library library function others adds) (Library library function others adds) st rs refl
 their_question (questions.Libraries function libraries others) st rs = their_kind (questions.Libraries function libraries others) (Libraries function libraries others) st rs refl

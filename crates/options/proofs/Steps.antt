@@ -11,7 +11,7 @@ use Rattle.options_line.proofs.Lines.{alone_awaits, given_reads, Reads}
 use Rattle.options_line.proofs.Words.{option_said, setting_said}
 use Rattle.options_line.specs.Arguments.{Argument, Flag, OptionValue, OptionName, FeatureValue, VariableValue, read_argument, alone, awaited_by, and_then, given}
 use Rattle.options_line.specs.CommandLine as line
-use Rattle.options_line.specs.CommandLine.{Setting, Variable, Choice, Cache, Source, Switched, valued, GivesSettings}
+use Rattle.options_line.specs.CommandLine.{Setting, Variable, Choice, Cache, SourceDirectory, Switched, valued, GivesSettings}
 use Rattle.options_line.specs.Directories.{directories, variable_of, default_of}
 use Rattle.options.specs.Opening.{last_of, cache_named, caches_in, sources_in, source_directory, is_quiet, is_no_create, is_help, is_version, variables_in, default_entry, setters, with_variable, set_by, is_declared, undeclared_in, checking_in, run_settings, opened_by, opening}
 use Rattle.options_line.specs.Reading.{◌>>=◌}
@@ -34,7 +34,7 @@ abbrev after : List (List ℕ) → List (List ℕ) → Setting → Reader → Re
 after features packages (Variable name value) r = record r { vars = with_entry r.vars name value }
 after features packages (Choice i kind name value option) r = with_choice features packages i kind name value option r
 after features packages (Cache name) r = record r { cache_name = cache_named name }
-after features packages (Source directory) r = r
+after features packages (SourceDirectory directory) r = r
 after features packages (Switched switch) r = with_switch switch r
 
 unfoldable after_all : List (List ℕ) → List (List ℕ) → List Setting → Reader → Reader
@@ -216,7 +216,7 @@ vars_are environment settings =
 said_source : (i : ℕ) (said : Argument) (setting : Setting) (srcdir : List ℕ) → alone i said ≡ Ok setting → srcdir_said said srcdir ≡ last_of srcdir (sources_in setting)
 said_source i (Flag switch) setting srcdir e = ap (λ s. last_of srcdir (sources_in s)) (let same : Switched switch ≡ setting = cc in same)
 said_source i (OptionValue (InstallDirectory d) value) setting srcdir e = ap (λ s. last_of srcdir (sources_in s)) (let same : Variable (variable_of d) value ≡ setting = cc in same)
-said_source i (OptionValue Srcdir value) setting srcdir e = ap (λ s. last_of srcdir (sources_in s)) (let same : Source value ≡ setting = cc in same)
+said_source i (OptionValue Srcdir value) setting srcdir e = ap (λ s. last_of srcdir (sources_in s)) (let same : SourceDirectory value ≡ setting = cc in same)
 said_source i (OptionValue CacheFile value) setting srcdir e = ap (λ s. last_of srcdir (sources_in s)) (let same : Cache value ≡ setting = cc in same)
 said_source i (FeatureValue kind name value option) setting srcdir e = ap (λ s. last_of srcdir (sources_in s)) (let same : Choice i kind name value option ≡ setting = cc in same)
 said_source i (VariableValue name value) setting srcdir e = ap (λ s. last_of srcdir (sources_in s)) (let same : Variable name value ≡ setting = cc in same)
@@ -228,7 +228,7 @@ value_source Srcdir value srcdir = refl
 value_source CacheFile value srcdir = refl
 
 last_more : (setting : Setting) (srcdir : List ℕ) (rest : List (List ℕ)) → last_of (last_of srcdir (sources_in setting)) rest ≡ last_of srcdir (sources_in setting ++ rest)
-last_more (Source d) srcdir rest = refl
+last_more (SourceDirectory d) srcdir rest = refl
 last_more other srcdir rest = refl
 
 named_source : {i : ℕ} {arguments : List (List ℕ)} {settings : List Setting} → GivesSettings i arguments settings → (srcdir : List ℕ)

@@ -4,7 +4,7 @@ use Rattle.std.specs.List.{flat_map}
 use Rattle.std.proofs.Math.ListN.{replicate}
 use Rattle.text_cut.specs.Cuts.{is_blank}
 use Rattle.ac_tree.specs.declared.help.Help.{Help}
-use Rattle.ac_tree.specs.declared.help.Help.TheVariants.{Entry, Text}
+use Rattle.ac_tree.specs.declared.help.Help.TheVariants.{Columns, Text}
 
 -- A byte of a text in which each run of blanks becomes one space, after a blank or not. (own)
 abbrev pub squeezed_byte : Bool → ℕ → List ℕ
@@ -39,7 +39,7 @@ plain_lines (b ∷ bs) = (b ∷ bs) ++ codes "\n"
 
 -- The lines of one option or variable. (own)
 abbrev pub help_lines : Help → List ℕ
-help_lines (Entry left right) = entry_lines left right
+help_lines (Columns left right) = entry_lines left right
 help_lines (Text plain) = plain_lines plain
 
 -- The usage, and the lines of the entries in order. (own)

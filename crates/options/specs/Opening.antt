@@ -8,7 +8,7 @@ use Rattle.deftable.specs.ShellName.{is_shell_name_of}
 use Rattle.deftable.specs.Table.{value_of, with_entry}
 use Rattle.ac_tree.specs.Feature.{option_variable}
 use Rattle.options_line.specs.Arguments.{given}
-use Rattle.options_line.specs.CommandLine.{Setting, Variable, Choice, Cache, Source, Switched, GivesSettings, IsFirstFault}
+use Rattle.options_line.specs.CommandLine.{Setting, Variable, Choice, Cache, SourceDirectory, Switched, GivesSettings, IsFirstFault}
 use Rattle.options_line.specs.Directories.{directories, variable_of, default_of}
 use Rattle.options_line.specs.Reading.{◌>>=◌}
 use Rattle.options_line.specs.Slashes.{without_slashes}
@@ -38,7 +38,7 @@ caches_in other = []
 
 -- The directory of the source that a setting names. (own)
 abbrev pub sources_in : Setting → List (List ℕ)
-sources_in (Source directory) = directory ∷ []
+sources_in (SourceDirectory directory) = directory ∷ []
 sources_in other = []
 
 -- The directory of the source: the last one that is named, without final slashes, or the current one if none is. (own)

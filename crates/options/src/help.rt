@@ -89,7 +89,7 @@ fn put_help(text: &mut Vec<u8>, help: &Help) -> Result<(), AllocError>
     ensures { OnOk result (text.new.items ≡ text.old.items ++ words.help_lines help.now) }
 {
     match help {
-        Help::Entry { left, right } => put_entry(text, left.as_slice(), right.as_slice()),
+        Help::Columns { left, right } => put_entry(text, left.as_slice(), right.as_slice()),
         Help::Text { text: plain } => put_plain(text, plain.as_slice()),
     }
 }

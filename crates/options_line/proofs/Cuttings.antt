@@ -8,7 +8,7 @@ use Rattle.options_line.proofs.Words.{Means, option_said, option_given, switch_s
 use Rattle.options_line.proofs.Lines.{Word as Reading, gives, awaits, fails, word_of}
 use Rattle.options_line.specs.Arguments.{Argument, Flag, OptionValue, OptionName, FeatureValue, BadFeatureName, VariableValue, BadVariableName, Unrecognized, awaited_by, awaited_after, read_argument}
 use Rattle.options_line.specs.CommandLine as line
-use Rattle.options_line.specs.CommandLine.{Setting, Variable, Choice, Cache, Source, Switched, valued, IsSwitch, IsOption, GivesAlone}
+use Rattle.options_line.specs.CommandLine.{Setting, Variable, Choice, Cache, SourceDirectory, Switched, valued, IsSwitch, IsOption, GivesAlone}
 use Rattle.options_line.specs.Kept as kept
 use Rattle.options_line.specs.Kept.{KeptParts, IsKept, is_no_create, is_left_out, kept_of, kept_from, kept_args}
 use Rattle.options_line.specs.Parts as parts
@@ -74,7 +74,7 @@ no_option word never = at (word_of 0 word) where
 
 -- What gives a directory of the source alone.
 abbrev IsSource : List ℕ → Setting → Type 0
-IsSource word (Source directory) = word ≡ codes "--srcdir=" ++ directory
+IsSource word (SourceDirectory directory) = word ≡ codes "--srcdir=" ++ directory
 IsSource word other = Unit {0}
 
 source_is : {i : ℕ} {word : List ℕ} {setting : Setting} → GivesAlone i word setting → IsSource word setting

@@ -4,7 +4,7 @@ use Rattle.options_line.proofs.Words.{setting_said, option_said}
 use Rattle.options_line.proofs.Lines.{alone_awaits}
 use Rattle.options_line.specs.Arguments.{Argument, Flag, OptionValue, OptionName, FeatureValue, BadFeatureName, VariableValue, BadVariableName, Unrecognized, alone, awaited_by, read_argument}
 use Rattle.options_line.specs.CommandLine as line
-use Rattle.options_line.specs.CommandLine.{Setting, Variable, Choice, Cache, Source, Switched, valued, IsOption, GivesAlone, GivesSettings}
+use Rattle.options_line.specs.CommandLine.{Setting, Variable, Choice, Cache, SourceDirectory, Switched, valued, IsOption, GivesAlone, GivesSettings}
 use Rattle.options_line.specs.Kept.{is_no_create, kept_of, kept_from, kept_args}
 use Rattle.options_line.specs.KeptSettings as keeping
 use Rattle.options_line.specs.KeptSettings.{placed, AreKept, GivesKept}

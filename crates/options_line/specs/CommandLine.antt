@@ -25,14 +25,14 @@ pub data Setting : Type 0 where
   -- The name of the cache.
   Cache : (name : List ℕ) → Setting
   -- The directory of the source.
-  Source : (directory : List ℕ) → Setting
+  SourceDirectory : (directory : List ℕ) → Setting
   -- What an option without a value turns on.
   Switched : (switch : Switch) → Setting
 
 -- What an option sets to its value. (own)
 abbrev pub valued : Target → List ℕ → Setting
 valued (InstallDirectory directory) value = Variable (variable_of directory) value
-valued Srcdir value = Source value
+valued Srcdir value = SourceDirectory value
 valued CacheFile value = Cache value
 
 -- ---- words

@@ -3,7 +3,7 @@ use Rattle.std.proofs.Common.{◌≡◌, ◌*◌, ◌+◌, ℕ, ◌≤◌, List,
 use Rattle.std.proofs.lemmas.List.{append-nil, length-map}
 use Rattle.shellword.specs.declared.part.Part.{Part}
 use Rattle.ac_tree.specs.declared.listed.Sought.{Sought}
-use Rattle.ac_tree.specs.declared.listed.Sought.TheVariants.{Entry, «Type»}
+use Rattle.ac_tree.specs.declared.listed.Sought.TheVariants.{ListEntry, «Type»}
 use Rattle.ac_tree.specs.declared.statement.Question.TheVariants.{Tries, Checks, ChecksEach}
 use Rattle.ac_tree.specs.declared.program.Try.TheVariants as kinds_are
 use Rattle.ac_tree.specs.declared.statement.Effect.{Effect}
@@ -66,7 +66,7 @@ pub code_stays : (script : Script) → StaysInside (code_of script)
 code_stays script = subst StaysInside (append-nil (code_of script)) (code_inside script [] tt)
 
 find_asks : (sought : Sought) → asks_to_find sought ≤ 2
-find_asks (Entry listed) = omega arith
+find_asks (ListEntry listed) = omega arith
 find_asks «Type» = omega arith
 
 -- The beginning of a choice.

@@ -1,7 +1,7 @@
 -- Every jump of a plan goes forward and stays inside, and how many jobs a plan may ask for.
 use Rattle.std.specs.Prelude.{ℕ, zero, suc, ◌+◌, ◌≤◌, List, [], ◌∷◌, length}
 use Rattle.ac_tree.specs.declared.listed.Sought as sought
-use Rattle.ac_tree.specs.declared.listed.Sought.TheVariants.{Entry, «Type»}
+use Rattle.ac_tree.specs.declared.listed.Sought.TheVariants.{ListEntry, «Type»}
 use Rattle.ac_tree.specs.declared.statement.Effect.{Effect}
 use Rattle.ac_tree.specs.declared.statement.Effect.TheVariants.{Search, Batch}
 use Rattle.ac_tree.specs.declared.statement.Question.TheVariants.{Given, Tries, Checks, ChecksEach, Library, Libraries}
@@ -46,7 +46,7 @@ asks_to_try Run = 2
 
 -- How many jobs the test of an entry may ask for. (own)
 abbrev pub asks_to_find : sought.Sought → ℕ
-asks_to_find (Entry listed) = 1
+asks_to_find (ListEntry listed) = 1
 asks_to_find «Type» = 2
 
 -- How many jobs the beginning of a choice may ask for; of a list, the first entry alone is tested. A search for libraries

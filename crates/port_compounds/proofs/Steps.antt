@@ -1,7 +1,7 @@
 -- What a reader has found if it succeeds.
 use Rattle.std.proofs.Common.{◌≡◌, ◌∙◌, ap, sym, subst, ℕ, List, [], ◌∷◌, ◌++◌, map, Result, Ok, Err, Option, Some, None}
 use Rattle.std.specs.Prelude.{Bool, IfOk, IfSome, IsTrue, codes}
-use Rattle.m4quote.specs.Entry.{Entry}
+use Rattle.m4quote.specs.ItemValue.{ItemValue}
 use Rattle.m4quote.specs.Spelling.{IsSpelling}
 use Rattle.port_compounds.specs.Cases as cases
 use Rattle.port_compounds.specs.Guards as guards
@@ -25,7 +25,7 @@ begun_with view text start end old new o word none is pushed heads =
     (cases.AreBranches.begun (subst (λ o. IfSome o (λ v. cases.IsHead text start end (view v))) is heads))
 
 -- A text whose items are one command is one.
-pub called_by : {V : Type 0} (view : V → List Entry) (text : List ℕ) (items given : V) → given ≡ items → IsSpelling 0 text (view items)
+pub called_by : {V : Type 0} (view : V → List ItemValue) (text : List ℕ) (items given : V) → given ≡ items → IsSpelling 0 text (view items)
     → guards.AreOneCommand (view given) → guards.IsOneCommand text
 called_by view text items given same reads are = guards.IsOneCommand.called (view items) reads (subst (λ i. guards.AreOneCommand (view i)) same are)
 

@@ -2,7 +2,7 @@
 -- "OR Lists")
 use Rattle.std.specs.Prelude.{◌≡◌, ◌⊎◌, ℕ, ◌+◌, ◌≤◌, ◌==◌, ◌||◌, Bool, true, false, List, [], ◌∷◌, length, slice_range, slice_index, codes}
 use Rattle.std.specs.List.{list_any}
-use Rattle.m4quote.specs.Entry.{Span, Entry, call}
+use Rattle.m4quote.specs.ItemValue.{Span, ItemValue, call}
 use Rattle.m4quote.specs.Spelling.{IsSpelling}
 use Rattle.port_compounds.specs.Parts.{IsNotEscaped, IsPlainLine}
 use Rattle.port_compounds.specs.Places.{is_blank, AreBlank, AreSpaces, IsWord, BeginsStatement, EndsStatement}
@@ -45,22 +45,22 @@ IsMessage name =
     (name ≡ codes "AC_MSG_CHECKING") ⊎ (name ≡ codes "AC_MSG_RESULT") ⊎ (name ≡ codes "AC_MSG_NOTICE") ⊎ (name ≡ codes "AC_MSG_WARN") ⊎ (name ≡ codes "AC_MSG_ERROR")
 
 -- The item is a call of such a macro, at the start of its text.
-pub record IsCommandItem (item : Entry) : Type 0 where
+pub record IsCommandItem (item : ItemValue) : Type 0 where
   pub name : List ℕ
   pub args : List Span
   pub is : item ≡ call name args 0
   pub macro : IsDefinition name ⊎ IsMessage name
 
 -- The items are one such call. To a shell its text is one command. (own)
-pub record AreOneCommand (items : List Entry) : Type 0 where
-  pub item : Entry
+pub record AreOneCommand (items : List ItemValue) : Type 0 where
+  pub item : ItemValue
   pub one : items ≡ item ∷ []
   pub is : IsCommandItem item
 
 -- The text is one command: words on one line, or one call of such a macro.
 pub data IsOneCommand (statement : List ℕ) : Type 0 where
   words : IsPlainLine statement → list_any is_separator statement ≡ false → IsOneCommand statement
-  called : (items : List Entry) → IsSpelling 0 statement items → AreOneCommand items → IsOneCommand statement
+  called : (items : List ItemValue) → IsSpelling 0 statement items → AreOneCommand items → IsOneCommand statement
 
 -- ---- the whole
 

@@ -2,7 +2,7 @@
 -- body and so on, and the body after `else`. (POSIX shell, 2.9.4.1 "The if Conditional Construct")
 use Rattle.std.specs.Prelude.{◌≡◌, ◌⊎◌, ℕ, ◌<◌, ◌≤◌, true, false, List, [], ◌∷◌, ◌++◌, slice_range, slice_index, codes}
 use Rattle.std.specs.List.{list_any}
-use Rattle.m4quote.specs.Entry.{bare}
+use Rattle.m4quote.specs.ItemValue.{bare}
 use Rattle.m4quote.specs.Spelling.{IsSpelling}
 use Rattle.port_compounds.specs.Parts.{HasNoHash, is_newline, IsListEnd, IsAtLineStart, IsBeforeSemicolon, IsStatement}
 use Rattle.port_compounds.specs.Places.{is_blank, AreBlank, IsWord}

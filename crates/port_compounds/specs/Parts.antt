@@ -1,7 +1,7 @@
 -- What ends a part of a compound statement of a shell. The offsets are those of the text.
 use Rattle.std.specs.Prelude.{◌≡◌, ◌⊎◌, ℕ, ◌-◌, ◌+◌, ◌<◌, ◌≤◌, ◌==◌, Bool, false, List, [], ◌∷◌, slice_range, slice_index, codes}
 use Rattle.std.specs.List.{list_any}
-use Rattle.m4quote.specs.Entry.{bare}
+use Rattle.m4quote.specs.ItemValue.{bare}
 use Rattle.m4quote.specs.Spelling.{IsSpelling}
 use Rattle.port_compounds.specs.Places.{AreBlank, AreSpaces, IsWord, BeginsStatement, EndsStatement}
 

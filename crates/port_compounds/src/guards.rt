@@ -2,7 +2,7 @@
 
 ghost use Rattle.std.specs.Prelude.{◌≡◌, ◌⊎◌, [], map, length, codes, IfOk, IfSome, IsTrue};
 ghost use Rattle.std.specs.List.{list_any};
-ghost use Rattle.m4quote.specs.Entry.{view, views};
+ghost use Rattle.m4quote.specs.ItemValue.{view, views};
 ghost use Rattle.port_compounds.specs.Places.{BeginsStatement, EndsStatement};
 ghost use Rattle.port_compounds.specs.Guards as specs;
 

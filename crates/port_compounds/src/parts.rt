@@ -2,7 +2,7 @@
 
 ghost use Rattle.std.specs.Prelude.{◌≡◌, ◌≤◌, ◌+◌, [], ◌∷◌, length, IfOk, IfSome, IsTrue, false, slice_range, codes};
 ghost use Rattle.std.specs.List.{list_any};
-ghost use Rattle.m4quote.specs.Entry.{bare, view, views};
+ghost use Rattle.m4quote.specs.ItemValue.{bare, view, views};
 ghost use Rattle.m4quote.specs.Spelling.{IsSpelling};
 ghost use Rattle.port_compounds.specs.Ifs as ifs;
 ghost use Rattle.port_compounds.specs.Parts as specs;

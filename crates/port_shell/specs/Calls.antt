@@ -1,7 +1,7 @@
 -- The call of a macro that is put in the place of a statement of a shell. All of this is own.
 use Rattle.std.specs.Prelude.{◌≡◌, ℕ, ◌+◌, List, [], ◌∷◌, ◌++◌, map, slice_range, codes}
 use Rattle.std.specs.List.{flat_map}
-use Rattle.m4quote.specs.Entry.{Span, Entry, call}
+use Rattle.m4quote.specs.ItemValue.{Span, ItemValue, call}
 use Rattle.m4quote.specs.Spelling.{IsSpelling}
 use Rattle.lint_errors.specs.Errors.{IsAccepted}
 
@@ -27,21 +27,21 @@ abbrev pub text_of : Span → List ℕ
 text_of s = s.text
 
 -- The item is a call of this macro, and these are the texts of its arguments.
-pub record IsCallItem (item : Entry) (name : List ℕ) (args : List (List ℕ)) : Type 0 where
+pub record IsCallItem (item : ItemValue) (name : List ℕ) (args : List (List ℕ)) : Type 0 where
   pub spans : List Span
   pub at : ℕ
   pub is : item ≡ call name spans at
   pub are : map text_of spans ≡ args
 
 -- The items are one such call.
-pub record AreCall (items : List Entry) (name : List ℕ) (args : List (List ℕ)) : Type 0 where
-  pub item : Entry
+pub record AreCall (items : List ItemValue) (name : List ℕ) (args : List (List ℕ)) : Type 0 where
+  pub item : ItemValue
   pub one : items ≡ item ∷ []
   pub is : IsCallItem item name args
 
 -- The text, read alone, is one call of this macro, and these are the texts of its arguments.
 pub record IsOneCall (text name : List ℕ) (args : List (List ℕ)) : Type 0 where
-  pub items : List Entry
+  pub items : List ItemValue
   pub reads : IsSpelling 0 text items
   pub are : AreCall items name args
 

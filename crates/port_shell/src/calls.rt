@@ -2,7 +2,7 @@
 
 ghost use Rattle.std.specs.Prelude.{◌≡◌, ◌≤◌, ◌+◌, ◌++◌, ◌∷◌, [], false, length, slice_range, map, IfOk, IfSome, OnOk, IsTrue, codes};
 ghost use Rattle.std.specs.List.{flat_map};
-ghost use Rattle.m4quote.specs.Entry.{span, view, views};
+ghost use Rattle.m4quote.specs.ItemValue.{span, view, views};
 ghost use Rattle.lint_errors.specs.Errors.{IsAccepted};
 ghost use Rattle.port_shell.specs.Calls as specs;
 

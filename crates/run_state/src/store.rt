@@ -184,7 +184,7 @@ impl Store {
                 let body = self.here_text(alloc, body)?;
                 program_source(alloc, prologue.as_slice(), body.as_slice())
             }
-            Program::Source { text } => self.here_text(alloc, text),
+            Program::Whole { text } => self.here_text(alloc, text),
         }
     }
 

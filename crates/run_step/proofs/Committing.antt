@@ -12,7 +12,7 @@ use Rattle.deftable.specs.declared.note.Stream.TheVariants as streams
 use Rattle.shellword.specs.declared.part.Part.{Part}
 use Rattle.ac_tree.specs.declared.listed.Listed.{Listed}
 use Rattle.ac_tree.specs.declared.listed.Listed.TheVariants.{Header, Function, Declaration}
-use Rattle.ac_tree.specs.declared.listed.Sought.TheVariants.{Entry}
+use Rattle.ac_tree.specs.declared.listed.Sought.TheVariants.{ListEntry}
 use Rattle.meaning.specs.State.{State, told, with_child, with_variable, How, Goes_on, Stopped, Cut, Run, Ends, Asks, then_run, as_is}
 use Rattle.meaning.specs.Asking.{success, only_reply, heard, no_compiler, without_compiler}
 use Rattle.meaning.specs.Batches.{Batch, is_known, job_for, asking, jobs_in, asks_all, with_body, yes_or_no, replied, commits, committed, batched}
@@ -45,7 +45,7 @@ is_missing None = true
 is_missing (Some value) = false
 
 quiet_by : (batch : Batch) (entry : List ℕ) (reply : Reply) (first now : State) (o : Option (List ℕ)) → value_of now.vars (entry_name batch.listed entry) ≡ o → (o ≡ None → (row_at batch entry None reply first).ready ≡ true)
-    → tested (row_at batch entry None reply first) now ≡ Ends (how_if (is_missing o)) (known_end o (entry_test (Entry batch.listed) entry true) (begun (entry_test (Entry batch.listed) entry true) now))
+    → tested (row_at batch entry None reply first) now ≡ Ends (how_if (is_missing o)) (known_end o (entry_test (ListEntry batch.listed) entry true) (begun (entry_test (ListEntry batch.listed) entry true) now))
 quiet_by batch entry reply first now None e ready =
     let r = row_at batch entry None reply first in
     ap (λ o. tested_by (may_begin o r.ready) r now) e
@@ -59,7 +59,7 @@ quiet_by batch entry reply first now (Some value) e ready =
     ∙ ap (λ o. Ends Goes_on (r.after o last)) e
 
 asked_by : (batch : Batch) (entry : List ℕ) (job : Job) (reply : Reply) (first now : State) (s : Option Bool) → success reply ≡ s → value_of now.vars (entry_name batch.listed entry) ≡ None → (row_at batch entry (Some job) reply first).ready ≡ true
-    → tested (row_at batch entry (Some job) reply first) now ≡ Ends (how_if (refuses s)) (heard_end s (entry_test (Entry batch.listed) entry true) (with_child job reply (begun (entry_test (Entry batch.listed) entry true) now)))
+    → tested (row_at batch entry (Some job) reply first) now ≡ Ends (how_if (refuses s)) (heard_end s (entry_test (ListEntry batch.listed) entry true) (with_child job reply (begun (entry_test (ListEntry batch.listed) entry true) now)))
 asked_by batch entry job reply first now s h e ready =
     let r = row_at batch entry (Some job) reply first in
     let name = entry_name batch.listed entry in
@@ -73,7 +73,7 @@ asked_by batch entry job reply first now s h e ready =
     ends : (s : Option Bool)
         → (let name = entry_name batch.listed entry in let r = row_at batch entry (Some job) reply first in let st = with_child job reply (checking r.test.message now) in
         then_run (then_run (guarded name (heard as_is s st (λ found later. Ends Goes_on (with_variable name (yes_or_no found) later)))) (λ later. Ends Goes_on (with_result (r.test.shown (value_of later.vars name)) later))) (λ later. Ends Goes_on (r.after (value_of later.vars name) later)))
-        ≡ Ends (how_if (refuses s)) (heard_end s (entry_test (Entry batch.listed) entry true) (with_child job reply (begun (entry_test (Entry batch.listed) entry true) now)))
+        ≡ Ends (how_if (refuses s)) (heard_end s (entry_test (ListEntry batch.listed) entry true) (with_child job reply (begun (entry_test (ListEntry batch.listed) entry true) now)))
     ends None = refl
     ends (Some b) =
         let name = entry_name batch.listed entry in
@@ -184,20 +184,20 @@ unknown name earlier refused first now s k =
 
 -- The variables after an entry.
 quiet_vars : (listed : Listed) (entry : List ℕ) (now : State) (o : Option (List ℕ)) → value_of now.vars (entry_name listed entry) ≡ o
-    → (known_end o (entry_test (Entry listed) entry true) (begun (entry_test (Entry listed) entry true) now)).vars ≡ now.vars
+    → (known_end o (entry_test (ListEntry listed) entry true) (begun (entry_test (ListEntry listed) entry true) now)).vars ≡ now.vars
 quiet_vars listed entry now None e = without_unset now.vars (entry_name listed entry) e
-quiet_vars listed entry now (Some value) e = entry_vars true (Entry listed) entry (is_yes (Some value)) (with_result (codes "(cached) " ++ value) (begun (entry_test (Entry listed) entry true) now))
+quiet_vars listed entry now (Some value) e = entry_vars true (ListEntry listed) entry (is_yes (Some value)) (with_result (codes "(cached) " ++ value) (begun (entry_test (ListEntry listed) entry true) now))
 
 abbrev set_by : Option Bool → List ℕ → List (List ℕ × List ℕ) → List (List ℕ × List ℕ)
 set_by None name vars = vars
 set_by (Some b) name vars = with_entry vars name (yes_or_no b)
 
 heard_vars : (listed : Listed) (entry : List ℕ) (job : Job) (reply : Reply) (now : State) (s : Option Bool) → value_of now.vars (entry_name listed entry) ≡ None
-    → (heard_end s (entry_test (Entry listed) entry true) (with_child job reply (begun (entry_test (Entry listed) entry true) now))).vars ≡ set_by s (entry_name listed entry) now.vars
+    → (heard_end s (entry_test (ListEntry listed) entry true) (with_child job reply (begun (entry_test (ListEntry listed) entry true) now))).vars ≡ set_by s (entry_name listed entry) now.vars
 heard_vars listed entry job reply now None e = without_unset now.vars (entry_name listed entry) e
 heard_vars listed entry job reply now (Some b) e =
-    let t = entry_test (Entry listed) entry true in
-    entry_vars true (Entry listed) entry (is_yes (Some (yes_or_no b))) (with_result (yes_or_no b) (with_variable t.name (yes_or_no b) (with_child job reply (begun t now))))
+    let t = entry_test (ListEntry listed) entry true in
+    entry_vars true (ListEntry listed) entry (is_yes (Some (yes_or_no b))) (with_result (yes_or_no b) (with_variable t.name (yes_or_no b) (with_child job reply (begun t now))))
 
 after_quiet : (name : List ℕ) (earlier : List (List ℕ)) (refused : Bool) (first now s : State) → Stands earlier refused first now → is_known name earlier first ≡ true → s.vars ≡ now.vars → Stands (name ∷ earlier) refused first s
 after_quiet name earlier refused first now s stands k same = record {
@@ -262,7 +262,7 @@ missing_flag (Some v) refused h = refl
 
 -- An entry of a batch, and whether it asks.
 abbrev waiting_if : Batch → List ℕ → Bool → waiting.Waiting
-waiting_if batch entry asks = record { test = entry_test (Entry batch.listed) entry true; asks = asks }
+waiting_if batch entry asks = record { test = entry_test (ListEntry batch.listed) entry true; asks = asks }
 
 -- What holds of the entry without a job if it is known, and with its own otherwise, holds of it as the batch has it.
 by_known : (batch : Batch) (first : State) (place : ℕ) (earlier : List (List ℕ)) (entry : List ℕ) (tail : List (List ℕ × Option Job)) (more : List waiting.Waiting) (Holds : List (List ℕ × Option Job) → List waiting.Waiting → Type 0)
@@ -281,10 +281,10 @@ quiet_commits : (batch : Batch) (entry : List ℕ) (tail : List (List ℕ × Opt
     → (value_of now.vars (entry_name batch.listed entry) ≡ None → refused ≡ true)
     → ((s : State) → s.vars ≡ now.vars → committed batch first tail replies refused s ≡ ends s)
     → committed batch first ((entry, None) ∷ tail) replies refused now
-    ≡ ends (known_end (value_of now.vars (entry_name batch.listed entry)) (entry_test (Entry batch.listed) entry true) (begun (entry_test (Entry batch.listed) entry true) now))
+    ≡ ends (known_end (value_of now.vars (entry_name batch.listed entry)) (entry_test (ListEntry batch.listed) entry true) (begun (entry_test (ListEntry batch.listed) entry true) now))
 quiet_commits batch entry tail replies refused first now ends ready known rest =
     let o = value_of now.vars (entry_name batch.listed entry) in
-    let t = entry_test (Entry batch.listed) entry true in
+    let t = entry_test (ListEntry batch.listed) entry true in
     let s = known_end o t (begun t now) in
     commit_one (is_missing o) refused _ s (committed batch first tail replies) (quiet_by batch entry (only_reply replies) first now o refl ready)
     ∙ ap (λ b. committed batch first tail replies b s) (missing_flag o refused known)
@@ -305,7 +305,7 @@ asked_comes : (batch : Batch) (entry : List ℕ) (job : Job) (tail : List (List 
     → Comes batch first ((entry, Some job) ∷ tail) (waiting_if batch entry true ∷ more) replies refused now
 asked_comes batch entry job tail more replies refused first now has unset rest =
     let reply = only_reply replies in
-    let t = entry_test (Entry batch.listed) entry true in
+    let t = entry_test (ListEntry batch.listed) entry true in
     let s = heard_end (success reply) t (with_child job reply (begun t now)) in
     commit_one (refuses (success reply)) refused _ s (committed batch first tail (drop 1 replies)) (asked_by batch entry job reply first now (success reply) refl unset (is_ready batch entry (Some job) reply first has))
     ∙ rest s (heard_vars batch.listed entry job reply now (success reply) unset)

@@ -10,7 +10,7 @@ use Rattle.crew_trait.specs.declared.reply.Reply.{Reply}
 use Rattle.crew_trait.specs.declared.reply.Reply.TheVariants.{StartRefused}
 use Rattle.shellword.specs.declared.part.Part.{Part}
 use Rattle.ac_tree.specs.declared.listed.Listed.{Listed}
-use Rattle.ac_tree.specs.declared.listed.Sought.TheVariants.{Entry}
+use Rattle.ac_tree.specs.declared.listed.Sought.TheVariants.{ListEntry}
 use Rattle.deftable.specs.Table.{value_of}
 use Rattle.meaning.specs.State.{State, with_child, Cut, Run, Ends}
 use Rattle.plan.specs.Broken.{broken_all}
@@ -48,14 +48,14 @@ names_more entries e = ap reverse (names_map entries (e ∷ [])) ∙ reverse-app
 -- ---- the tests and their jobs
 
 pub waiting_more : (listed : Listed) (all : List waiting.Waiting) (entries : List (List ℕ)) (i : ℕ) (entry : List ℕ) (st : State) (test : EntryTest) (asks : Bool) (whole : List waiting.Waiting) → i < length entries
-    → entry ≡ get_or entries i entry → test ≡ entry_test (Entry listed) entry true → asks ≡ not (is_known test.name (names_before all) st)
+    → entry ≡ get_or entries i entry → test ≡ entry_test (ListEntry listed) entry true → asks ≡ not (is_known test.name (names_before all) st)
     → all ++ waiting_for listed (names_before all) (drop i entries) st ≡ whole
     → (all ++ record { test = test; asks = asks } ∷ []) ++ waiting_for listed (names_before (all ++ record { test = test; asks = asks } ∷ [])) (drop (i + 1) entries) st ≡ whole
 waiting_more listed all entries i entry st test asks whole lt is t a so_far =
     let w : waiting.Waiting = record { test = test; asks = asks } in
     let name = entry_name listed entry in
     let asks_is : asks ≡ not (is_known name (names_before all) st) = a ∙ ap (λ (x : EntryTest). not (is_known x.name (names_before all) st)) t in
-    let w_is : w ≡ waiting_at listed (names_before all) entry st = ap (λ (x : EntryTest). the_waiting x asks) t ∙ ap (the_waiting (entry_test (Entry listed) entry true)) asks_is in
+    let w_is : w ≡ waiting_at listed (names_before all) entry st = ap (λ (x : EntryTest). the_waiting x asks) t ∙ ap (the_waiting (entry_test (ListEntry listed) entry true)) asks_is in
     let rest = drop (i + 1) entries in
     append_assoc all (w ∷ []) (waiting_for listed (names_before (all ++ w ∷ [])) rest st)
     ∙ ap (λ names. all ++ w ∷ waiting_for listed names rest st) (names_more all w)

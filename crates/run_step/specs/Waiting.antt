@@ -6,7 +6,7 @@ use Rattle.deftable.specs.Table.{value_of}
 use Rattle.deftable.specs.declared.note.Stream.TheVariants as streams
 use Rattle.shellword.specs.declared.part.Part.{Part}
 use Rattle.ac_tree.specs.declared.listed.Listed.{Listed}
-use Rattle.ac_tree.specs.declared.listed.Sought.TheVariants.{Entry}
+use Rattle.ac_tree.specs.declared.listed.Sought.TheVariants.{ListEntry}
 use Rattle.meaning.specs.State.{State, Run, Ends, Stopped, told}
 use Rattle.meaning.specs.Asking.{no_compiler}
 use Rattle.meaning.specs.Batches.{is_known}
@@ -27,7 +27,7 @@ names_before entries = reverse (map (λ e. e.test.name) entries)
 -- The test of an entry, given the names of earlier ones. (own)
 abbrev pub waiting_at : Listed → List (List ℕ) → List ℕ → State → waiting.Waiting
 waiting_at listed earlier entry st =
-    record { test = entry_test (Entry listed) entry true; asks = not (is_known (entry_name listed entry) earlier st) }
+    record { test = entry_test (ListEntry listed) entry true; asks = not (is_known (entry_name listed entry) earlier st) }
 
 -- The tests of entries, of which each asks for a child if its name is unset, and is not that of an earlier one. (own)
 abbrev pub waiting_for : Listed → List (List ℕ) → List (List ℕ) → State → List waiting.Waiting

@@ -53,7 +53,7 @@ pub(crate) fn waiting_for(
 {
     let mut all = Vec::new(alloc);
     for i in 0..entries.len() {
-        let test = entry_test(alloc, Sought::Entry(listed), &entries[i], true)?;
+        let test = entry_test(alloc, Sought::ListEntry(listed), &entries[i], true)?;
         let asks = !is_known(store, all.as_slice(), test.name.as_slice());
         all.push(Waiting { test, asks })?;
     }

@@ -28,7 +28,7 @@ mapped_length f [] = refl
 mapped_length f (x ∷ xs) = ap suc (mapped_length f xs)
 
 entry_length : (what : Sought) (entry includes : List ℕ) (vars defs : Table) → length (entry_attempts what entry includes vars defs) ≡ asks_to_find what
-entry_length (sought.Entry listed) entry includes vars defs = refl
+entry_length (sought.ListEntry listed) entry includes vars defs = refl
 entry_length sought.«Type» entry includes vars defs = refl
 
 pub count_is : CountsAreOfAttempts
@@ -77,7 +77,7 @@ question_found (rows.Library library function others adds) scope st tests next a
 question_found (rows.Libraries function libraries others) scope st tests next asks = refl
 
 pub entry_asks : (what : Sought) (entry : List ℕ) (includes : Option (List Part)) (defines : Bool) → is_question (kind_for what entry includes defines) ≡ true
-entry_asks (sought.Entry listed) entry includes defines = refl
+entry_asks (sought.ListEntry listed) entry includes defines = refl
 entry_asks sought.«Type» entry includes defines = refl
 
 -- ---- a value that is used leaves the name of the test, if the scope is made of it
@@ -108,13 +108,13 @@ have_vars Declaration entry found st = refl
 
 pub entry_vars : (defines : Bool) (what : Sought) (entry : List ℕ) (found : Bool) (st : State) → (entry_defined defines what entry found st).vars ≡ st.vars
 entry_vars false what entry found st = refl
-entry_vars true (sought.Entry listed) entry found st = have_vars listed entry found st
+entry_vars true (sought.ListEntry listed) entry found st = have_vars listed entry found st
 entry_vars true sought.«Type» entry found st = defined_vars found _ st
 
 pub leaves : (kind : TestKind) (st : State) → LeavesScope (course_of kind st)
 leaves (rows.Program s own) st value scope now = refl
 leaves (rows.Single listed entry includes defines) st value scope now =
-    ap (λ vars. scope_in (course_of (rows.Single listed entry includes defines) st) (value_of vars (name_of (rows.Single listed entry includes defines))) scope) (entry_vars defines (sought.Entry listed) entry (is_yes value) now)
+    ap (λ vars. scope_in (course_of (rows.Single listed entry includes defines) st) (value_of vars (name_of (rows.Single listed entry includes defines))) scope) (entry_vars defines (sought.ListEntry listed) entry (is_yes value) now)
 leaves (rows.Sized name includes defines) st value scope now =
     ap (λ vars. scope_in (course_of (rows.Sized name includes defines) st) (value_of vars (name_of (rows.Sized name includes defines))) scope) (entry_vars defines sought.«Type» name (is_yes value) now)
 leaves (rows.Library library function others adds) st value scope now =

@@ -5,7 +5,7 @@ use Rattle.crew_jobs.specs.Probe.{Compile, Link, job_of}
 use Rattle.conftest_source.specs.Sources.{type_source, second_type_source}
 use Rattle.ac_tree.specs.declared.listed.Listed.{Listed}
 use Rattle.ac_tree.specs.declared.listed.Sought.{Sought}
-use Rattle.ac_tree.specs.declared.listed.Sought.TheVariants.{Entry, «Type»}
+use Rattle.ac_tree.specs.declared.listed.Sought.TheVariants.{ListEntry, «Type»}
 use Rattle.ac_tree.specs.declared.program.Try.{Try}
 use Rattle.meaning.specs.State.{State}
 use Rattle.meaning.specs.Asking as asking
@@ -35,7 +35,7 @@ entry_tries what entry includes st = entry_attempts what entry includes st.vars 
 
 -- The attempts of an entry. (own)
 abbrev pub listed_tries : Listed → List ℕ → List ℕ → State → List asking.Attempt
-listed_tries listed entry includes st = entry_tries (Entry listed) entry includes st
+listed_tries listed entry includes st = entry_tries (ListEntry listed) entry includes st
 
 -- The attempts of a type. (own)
 abbrev pub type_tries : List ℕ → List ℕ → State → List asking.Attempt

@@ -32,7 +32,7 @@ name_in (Libraries name function after libraries) = name
 
 -- What is checked of an entry or a type. (Autoconf's manual, "Printing Messages")
 abbrev pub sought_message : Sought → List ℕ → List ℕ
-sought_message (sought.Entry listed) entry = entry_message listed entry
+sought_message (sought.ListEntry listed) entry = entry_message listed entry
 sought_message sought.«Type» entry = codes "for " ++ entry
 
 -- What AC_CHECK_LIB checks. (Autoconf's manual, "Library Files")
@@ -65,7 +65,7 @@ includes_in (Some text) = text
 
 -- The attempts of an entry or a type. (Autoconf's manual, "Generic Headers" to "Generic Types")
 abbrev pub entry_attempts : Sought → List ℕ → List ℕ → Table → Table → List Attempt
-entry_attempts (sought.Entry listed) entry includes vars defs =
+entry_attempts (sought.ListEntry listed) entry includes vars defs =
     record { job = job_of (entry_probe listed entry includes) 0 vars defs; ends_on = true; value = Some (codes "yes") } ∷ []
 entry_attempts sought.«Type» entry includes vars defs =
     record { job = job_of (Compile (type_source includes entry)) 0 vars defs; ends_on = false; value = Some (codes "no") }
@@ -108,7 +108,7 @@ count_in (Libraries name function after libraries) = suc (length libraries)
 
 -- The value of an entry or a type if no attempt ends its test. (Autoconf's manual, "Generic Headers" to "Generic Types")
 abbrev pub entry_otherwise : Sought → List ℕ
-entry_otherwise (sought.Entry listed) = codes "no"
+entry_otherwise (sought.ListEntry listed) = codes "no"
 entry_otherwise sought.«Type» = codes "yes"
 
 -- The value if no attempt ends the test. (Autoconf's manual, "Generic Programs")
@@ -128,7 +128,7 @@ shown_in (Libraries name function after libraries) value = unwrap_or value []
 -- What the result of an entry or a type defines. (Autoconf's manual, "Generic Headers" to "Generic Types")
 abbrev pub entry_defined : Bool → Sought → List ℕ → Bool → State → State
 entry_defined false what entry found st = st
-entry_defined true (sought.Entry listed) entry found st = with_entry_defined listed entry found st
+entry_defined true (sought.ListEntry listed) entry found st = with_entry_defined listed entry found st
 entry_defined true sought.«Type» entry found st = defined_if found (codes "HAVE_" ++ symbol_part entry) st
 
 -- What is done with the value of an entry or a type. (Autoconf's manual, "Generic Headers" to "Generic Types")
@@ -170,7 +170,7 @@ value_in text st = option_map (λ t. word_value t st.vars) text
 abbrev pub course_of : TestKind → State → Course
 course_of (rows.Program s own) st = Program (record s { otherwise = first_of own s.otherwise }) (directories_for own st)
 course_of (rows.Single listed entry includes defines) st =
-    Entry (entry_test (sought.Entry listed) entry defines) (value_in includes st)
+    Entry (entry_test (sought.ListEntry listed) entry defines) (value_in includes st)
 course_of (rows.Sized name includes defines) st = Entry (entry_test sought.«Type» name defines) (value_in includes st)
 course_of (rows.Library library function others adds) st =
     Library (name_of (rows.Library library function others adds)) function library (libraries_after others st) adds
@@ -180,7 +180,7 @@ course_of (rows.Libraries function libraries others) st =
 -- The course of a test whose name is set: it needs none of the values that attempts are made of. (own)
 abbrev pub bare_of : TestKind → Course
 bare_of (rows.Program s own) = Program s []
-bare_of (rows.Single listed entry includes defines) = Entry (entry_test (sought.Entry listed) entry defines) None
+bare_of (rows.Single listed entry includes defines) = Entry (entry_test (sought.ListEntry listed) entry defines) None
 bare_of (rows.Sized name includes defines) = Entry (entry_test sought.«Type» name defines) None
 bare_of (rows.Library library function others adds) = Library (name_of (rows.Library library function others adds)) function library [] adds
 bare_of (rows.Libraries function libraries others) = Libraries (name_of (rows.Libraries function libraries others)) function [] []

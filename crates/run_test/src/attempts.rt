@@ -164,7 +164,7 @@ fn entry_at(
     ensures { IfOk result (IsAt (entry_tries sought entry.now includes.now store.now) place) }
 {
     match sought {
-        Sought::Entry(listed) => listed_at(alloc, store, listed, entry, includes, place),
+        Sought::ListEntry(listed) => listed_at(alloc, store, listed, entry, includes, place),
         Sought::Type => type_at(alloc, store, entry, includes, place),
     }
 }

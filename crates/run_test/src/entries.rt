@@ -75,10 +75,10 @@ pub fn begin_entry(alloc: Global, store: &mut Store, test: &EntryTest) -> Result
     ensures { OnOk result (store.new ≡ begun test.now store.old) }
 {
     match test.sought {
-        Sought::Entry(Listed::Declaration) => {
+        Sought::ListEntry(Listed::Declaration) => {
             begin_declaration(alloc, store, test.entry.as_slice())
         }
-        Sought::Entry(Listed::Header | Listed::Function) | Sought::Type => {
+        Sought::ListEntry(Listed::Header | Listed::Function) | Sought::Type => {
             begin_search(alloc, store, test.entry.as_slice())
         }
     }
@@ -118,7 +118,7 @@ fn define_declared(
 ) -> Result<(), AllocError>
     ensures { OnOk result (store.new ≡ with_declaration entry.now found store.old) }
 {
-    let symbol = sought_definition(alloc, Sought::Entry(Listed::Declaration), entry)?;
+    let symbol = sought_definition(alloc, Sought::ListEntry(Listed::Declaration), entry)?;
     store.define(symbol.as_slice(), one_or_zero(found))
 }
 
@@ -135,10 +135,10 @@ fn define_result(
         return Ok(());
     }
     match test.sought {
-        Sought::Entry(Listed::Declaration) => {
+        Sought::ListEntry(Listed::Declaration) => {
             define_declared(alloc, store, test.entry.as_slice(), found)
         }
-        Sought::Entry(Listed::Header | Listed::Function) | Sought::Type => {
+        Sought::ListEntry(Listed::Header | Listed::Function) | Sought::Type => {
             define_have(alloc, store, test.entry.as_slice(), found)
         }
     }

@@ -87,7 +87,7 @@ fn entry_otherwise(sought: Sought) -> &'static [u8]
     ensures { result.now ≡ entry_otherwise sought }
 {
     match sought {
-        Sought::Entry(_) => b"no",
+        Sought::ListEntry(_) => b"no",
         Sought::Type => b"yes",
     }
 }

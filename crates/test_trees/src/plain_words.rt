@@ -21,7 +21,7 @@ pub fn put_files(page: &mut Page, files: &OutputList) {
 /// Puts help: an entry's two texts, or one text.
 pub fn put_help(page: &mut Page, help: &Help) {
     match help {
-        Help::Entry { left, right } => {
+        Help::Columns { left, right } => {
             put_bracketed(page, left.as_slice());
             put_bracketed(page, right.as_slice());
         }

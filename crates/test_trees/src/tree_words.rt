@@ -19,7 +19,7 @@ fn put_program(page: &mut Page, program: &Program) {
             put_here(page, prologue);
             put_here(page, body);
         }
-        Program::Source { text } => {
+        Program::Whole { text } => {
             page.put(b" source");
             put_here(page, text);
         }
@@ -29,9 +29,9 @@ fn put_program(page: &mut Page, program: &Program) {
 /// Puts the word for what a macro looks for.
 pub fn put_sought(page: &mut Page, sought: Sought) {
     page.put(match sought {
-        Sought::Entry(Listed::Header) => b"header",
-        Sought::Entry(Listed::Function) => b"function",
-        Sought::Entry(Listed::Declaration) => b"declaration",
+        Sought::ListEntry(Listed::Header) => b"header",
+        Sought::ListEntry(Listed::Function) => b"function",
+        Sought::ListEntry(Listed::Declaration) => b"declaration",
         Sought::Type => b"type",
     });
 }

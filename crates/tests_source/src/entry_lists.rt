@@ -20,11 +20,11 @@ enum Reads {
 /// A reader of entries of a kind.
 struct Reader(Sought, Reads);
 
-const HEADER: Sought = Sought::Entry(Listed::Header);
+const HEADER: Sought = Sought::ListEntry(Listed::Header);
 
-const FUNCTION: Sought = Sought::Entry(Listed::Function);
+const FUNCTION: Sought = Sought::ListEntry(Listed::Function);
 
-const DECLARATION: Sought = Sought::Entry(Listed::Declaration);
+const DECLARATION: Sought = Sought::ListEntry(Listed::Declaration);
 
 const TYPE: Sought = Sought::Type;
 

@@ -198,7 +198,7 @@ impl Told for Patterns {
 impl Told for Help {
     fn tell(&self, page: &mut Page) {
         match self {
-            Help::Entry { left, right } => {
+            Help::Columns { left, right } => {
                 page.put_text(left.as_slice());
                 page.put(b" ");
                 page.put_text(right.as_slice());

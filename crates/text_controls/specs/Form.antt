@@ -21,8 +21,8 @@ continues w b = nat_le w.low b && nat_le b w.high
 -- What is lacking after the first byte of a character of UTF-8. The characters 0x80 to 0x9f, which are control
 -- characters, are none here. (The Unicode Standard, table 3-7, "Well-Formed UTF-8 Byte Sequences"; that control
 -- characters are none is own).
-unfoldable pub begun : ℕ → Awaited
-begun b =
+unfoldable pub after_first : ℕ → Awaited
+after_first b =
     if nat_le 194 b && nat_le b 223
     then record { low = if b == 194 then 160 else 128; high = 191; more = 0 }
     else (if nat_le 224 b && nat_le b 239
@@ -36,7 +36,7 @@ unfoldable pub after : Awaited → ℕ → Awaited
 after w b =
     if continues w b
     then (if w.more == 0 then nothing else record { low = 128; high = 191; more = w.more - 1 })
-    else begun b
+    else after_first b
 
 -- The control bytes, but newline and tab. (ECMA-48, 5.2 and 5.3).
 abbrev pub is_control : ℕ → Bool

@@ -30,9 +30,9 @@ fn either(is_first: bool, first: u8, second: u8) -> u8
 }
 
 /// Returns what is lacking after the first byte of a character, or that nothing is.
-#[tactic(auto, unfolding(crate::specs::Form::begun))]
-fn begun(byte: u8) -> Awaited
-    ensures { result ≡ form.begun byte }
+#[tactic(auto, unfolding(crate::specs::Form::after_first))]
+fn after_first(byte: u8) -> Awaited
+    ensures { result ≡ form.after_first byte }
 {
     if byte >= 0xc2 && byte <= 0xdf {
         let low = either(byte == 0xc2, 0xa0, 0x80);
@@ -67,7 +67,7 @@ fn after(awaited: Awaited, byte: u8) -> Awaited
     ensures { result ≡ form.after awaited byte }
 {
     if !continues(awaited, byte) {
-        return begun(byte);
+        return after_first(byte);
     }
     if awaited.more == 0 {
         return nothing();

@@ -1,5 +1,5 @@
 use Rattle.std.proofs.Common.{◌≡◌, drop}
-use Rattle.m4quote.specs.Entry.{views}
+use Rattle.m4quote.specs.ItemValue.{views}
 use Rattle.ac_args.specs.Help.{has_call}
 use Rattle.ac_args.proofs.helping.has_call.Given as goal
 

@@ -1,5 +1,5 @@
 use Rattle.std.proofs.Common.{◌≡◌, drop}
-use Rattle.m4quote.specs.Entry.{views}
+use Rattle.m4quote.specs.ItemValue.{views}
 use Rattle.ac_args.specs.Help.{sole_call}
 use Rattle.ac_args.proofs.helping.sole_call.Given as goal
 

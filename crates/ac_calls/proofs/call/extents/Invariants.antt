@@ -1,5 +1,5 @@
 use Rattle.std.proofs.Common.{◌≡◌, map, take}
-use Rattle.m4quote.specs.Entry.{span}
+use Rattle.m4quote.specs.ItemValue.{span}
 use Rattle.ac_calls.specs.Calls.{extent_of}
 use Rattle.ac_calls.proofs.call.extents.Given as goal
 

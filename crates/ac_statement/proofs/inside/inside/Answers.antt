@@ -1,4 +1,4 @@
-use Rattle.m4quote.specs.Entry.{views}
+use Rattle.m4quote.specs.ItemValue.{views}
 use Rattle.ac_statement.proofs.InsideLemmas.{placed}
 use Rattle.ac_statement.proofs.inside.inside.Goals as goal
 

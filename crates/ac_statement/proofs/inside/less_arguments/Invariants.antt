@@ -1,5 +1,5 @@
 use Rattle.std.proofs.Common.{◌≡◌, drop, map}
-use Rattle.m4quote.specs.Entry.{span}
+use Rattle.m4quote.specs.ItemValue.{span}
 use Rattle.ac_statement.specs.Inside.{less_arguments}
 use Rattle.ac_statement.proofs.inside.less_arguments.Given as goal
 

@@ -1,5 +1,5 @@
 use Rattle.std.proofs.Common.{◌≡◌, drop}
-use Rattle.m4quote.specs.Entry.{views}
+use Rattle.m4quote.specs.ItemValue.{views}
 use Rattle.ac_statement.specs.Inside.{less_calls}
 use Rattle.ac_statement.proofs.inside.less_calls.Given as goal
 

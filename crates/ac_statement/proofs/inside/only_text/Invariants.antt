@@ -1,5 +1,5 @@
 use Rattle.std.proofs.Common.{◌≡◌, drop}
-use Rattle.m4quote.specs.Entry.{views}
+use Rattle.m4quote.specs.ItemValue.{views}
 use Rattle.ac_statement.specs.Inside.{only_text}
 use Rattle.ac_statement.proofs.inside.only_text.Given as goal
 

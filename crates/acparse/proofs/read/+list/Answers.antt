@@ -5,7 +5,7 @@ use Rattle.ac_statement.specs.Reading.{Gives}
 use Rattle.ac_macros.specs.ListKind.{list_kind_of}
 use Rattle.std.proofs.lemmas.Result.{err_from_is_err_and}
 use Rattle.std.proofs.Math.ListN.{drop_of_length-le}
-use Rattle.m4quote.specs.Entry.{span, view, views}
+use Rattle.m4quote.specs.ItemValue.{span, view, views}
 use Rattle.acparse.specs.Profile.{body_of}
 use Rattle.acparse.proofs.Steps.{views_drop, slice_from, call_adds, bare_adds, spans_drop, items_step, items_stop, items_done, cases_step, cases_fail, case_is, case_fails, cases_done, default_known, asked_rest, asked_fails, asked_with_known}
 use Rattle.acparse.proofs.read.+list.Goals as goal

@@ -1,5 +1,5 @@
 use Rattle.std.proofs.Common.{◌≤◌, ◌-◌, ◌+◌, ◌*◌, length, drop, map}
-use Rattle.m4quote.specs.Entry.{span, views}
+use Rattle.m4quote.specs.ItemValue.{span, views}
 use Rattle.ac_tree.specs.Script.{script_of, cases_of}
 use Rattle.ac_macros.specs.ListKind.{list_kind_of}
 use Rattle.acparse.specs.Profile.{body_of}

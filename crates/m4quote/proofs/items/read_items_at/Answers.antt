@@ -1,4 +1,4 @@
-use Rattle.m4quote.specs.Entry.{views}
+use Rattle.m4quote.specs.ItemValue.{views}
 use Rattle.m4quote.specs.Spelling.{IsSpelling}
 use Rattle.m4quote.specs.Parts.{ArePartsOf}
 use Rattle.m4quote.specs.Faults.{IsFirstFault}

@@ -1,4 +1,4 @@
-use Rattle.m4quote.specs.Entry.{views}
+use Rattle.m4quote.specs.ItemValue.{views}
 use Rattle.port_compounds.proofs.Steps.{called_by}
 use Rattle.port_compounds.proofs.guards.is_call.Goals as goal
 

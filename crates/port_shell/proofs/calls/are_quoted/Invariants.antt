@@ -1,5 +1,5 @@
 use Rattle.std.proofs.Common.{◌≡◌, map, take}
-use Rattle.m4quote.specs.Entry.{span}
+use Rattle.m4quote.specs.ItemValue.{span}
 use Rattle.port_shell.specs.Calls.{quoted, text_of}
 use Rattle.port_shell.proofs.calls.are_quoted.Given as goal
 
