@@ -52,7 +52,7 @@ help_string args at = do
   _ ← wants (length args == 2) (ArgCount at)
   left ← text (arg_at args 0)
   right ← text (arg_at args 1)
-  Ok (helps.ItemValue left right)
+  Ok (helps.Columns left right)
 
 -- The help of an argument that calls no macro: its used text. (own)
 abbrev pub own_text : Span → Result Help ParseFault

@@ -47,7 +47,7 @@ use Rattle.ac_tree.specs.declared.statement.ProgramValue.TheVariants.{FullName}
 use Rattle.ac_tree.specs.declared.statement.Question.{Question}
 use Rattle.ac_tree.specs.Limits.{IsWithinLimits}
 use Rattle.ac_macros.specs.Room.{has_room}
-use Rattle.ac_macros.specs.Rows.{plain_of, act_of, declaring_of, undeclared, init, tarname, outputs_of, config_outputs, subst as subst_row, assigned, arg_var, question_of, given, options_of}
+use Rattle.ac_macros.specs.Rows.{plain_of, act_of, declaring_of, undeclared, init, tarname, outputs_of, config_outputs, subst as subst_row, assigned, arg_var, question_of, option_question, options_of}
 use Rattle.ac_tree.specs.Lists.{start, after, with_outputs, with_option, with_tool}
 use Rattle.ac_macros.specs.Searches.{growth, output_variable, optional_text, searched, compilers, check_prog, check_progs, path_prog, prog_cc}
 
@@ -314,8 +314,8 @@ plain_keeps c (plain.Declares m) at args s e h = declaring_keeps c m at args s e
 
 -- ---- questions
 
-given_keeps : (c : declarations.Declarations) (kind : OptionKind) (args : List Span) (s : Declares × Question) → given c kind args ≡ Ok s → IsWithinLimits c → Keeps c s
-unfolding given after
+given_keeps : (c : declarations.Declarations) (kind : OptionKind) (args : List Span) (s : Declares × Question) → option_question c kind args ≡ Ok s → IsWithinLimits c → Keeps c s
+unfolding option_question after
 given_keeps c kind args s e h =
     let v = bind_ok (feature_variable kind (arg_at args 0)) _ _ e in
     let w = bind_ok _ _ _ v.2 in

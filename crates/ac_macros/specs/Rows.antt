@@ -189,8 +189,8 @@ options_of c options.Package = c.packages
 
 -- AC_ARG_ENABLE(feature, help, ..) and AC_ARG_WITH(package, help, ..), given the earlier options of the source.
 -- (Autoconf's manual, "Choosing Package Options" and "External Software")
-unfoldable pub given : declarations.Declarations → OptionKind → List Span → Result (Declares × Question) ParseFault
-given c kind args = do
+unfoldable pub option_question : declarations.Declarations → OptionKind → List Span → Result (Declares × Question) ParseFault
+option_question c kind args = do
   variable ← feature_variable kind (arg_at args 0)
   _ ← wants (has_room (options_of c kind) variable) (TooMany (arg_at args 0).at)
   h ← help (arg_at args 1)
@@ -199,7 +199,7 @@ given c kind args = do
 -- What a macro declares, and its question before its includes or other libraries are read, given what has been declared.
 -- (own)
 abbrev pub question_of : declarations.Declarations → QuestionMacro → List Span → Result (Declares × Question) ParseFault
-question_of c (questions.Given kind) args = given c kind args
+question_of c (questions.Given kind) args = option_question c kind args
 question_of c (questions.Tries kind) args = undeclared (tries kind args)
 question_of c (questions.Checks sought) args = undeclared (checks sought args)
 question_of c (questions.ChecksEach sought) args = undeclared (checks_each sought args)

@@ -302,14 +302,14 @@ fn options_of(known: &Declarations, kind: OptionKind) -> &SubstList
 }
 
 /// AC_ARG_ENABLE(feature, help, ..) and AC_ARG_WITH(package, help, ..)
-#[tactic(auto, unfolding(crate::specs::Rows::given))]
-fn given(
+#[tactic(auto, unfolding(crate::specs::Rows::option_question))]
+fn option_question(
     alloc: Global,
     known: &Declarations,
     kind: OptionKind,
     args: &[Arg<'_>],
 ) -> Result<(Declares, Question), ParseFault>
-    ensures { Gives (λ q. q) result (rows.given known.now kind (map span args.now)) }
+    ensures { Gives (λ q. q) result (rows.option_question known.now kind (map span args.now)) }
 {
     let arg = arg_at(args, 0);
     let variable = feature_variable(alloc, kind, arg)?;
@@ -352,7 +352,7 @@ pub fn question(
     ensures { Gives (λ q. q) result (rows.question_of known.now m (map span args.now)) }
 {
     match m {
-        QuestionMacro::Given(kind) => given(alloc, known, kind, args),
+        QuestionMacro::Given(kind) => option_question(alloc, known, kind, args),
         QuestionMacro::Tries(kind) => undeclared(tries(alloc, kind, args)),
         QuestionMacro::Checks(sought) => undeclared(checks(alloc, sought, args)),
         QuestionMacro::ChecksEach(sought) => undeclared(checks_each(alloc, sought, args)),

@@ -16,8 +16,14 @@ pub fn sought_name(alloc: Global, sought: Sought, entry: &[u8]) -> Result<Bytes,
 {
     let part = sh_name(alloc, entry)?;
     match sought {
-        Sought::ListEntry(Listed::Header) => Bytes::concat(alloc, &[b"ac_cv_header_", part.as_slice()]),
-        Sought::ListEntry(Listed::Function) => Bytes::concat(alloc, &[b"ac_cv_func_", part.as_slice()]),
+        Sought::ListEntry(Listed::Header) => Bytes::concat(
+            alloc,
+            &[b"ac_cv_header_", part.as_slice()],
+        ),
+        Sought::ListEntry(Listed::Function) => Bytes::concat(
+            alloc,
+            &[b"ac_cv_func_", part.as_slice()],
+        ),
         Sought::ListEntry(Listed::Declaration) => Bytes::concat(
             alloc,
             &[b"ac_cv_have_decl_", part.as_slice()],

@@ -229,7 +229,12 @@ pub fn uses_of<'a>(
             listed,
             entries,
             includes,
-        } => testing_each(alloc, Sought::ListEntry(*listed), entries.as_slice(), includes),
+        } => testing_each(
+            alloc,
+            Sought::ListEntry(*listed),
+            entries.as_slice(),
+            includes,
+        ),
         Effect::Define { .. } | Effect::Package { .. } | Effect::Complete => {
             Ok(reading(alloc, Reads::Nothing))
         }

@@ -2,7 +2,7 @@
 use Rattle.std.proofs.Common.{◌≡◌, ℕ, ◌+◌, Bool, true, false, not, List, [], ◌∷◌, Option, Some, None, Result, Ok, Err, refl, sym, ap, ◌∙◌}
 use Rattle.std.specs.Prelude.{◌||◌, IsTrue}
 use Rattle.std.specs.List.{list_any}
-use Rattle.options_line.specs.Arguments.{Argument, Flag, OptionValue, OptionName, FeatureValue, BadFeatureName, VariableValue, BadVariableName, Unrecognized, alone, and_then, awaited_by, given, read_argument}
+use Rattle.options_line.specs.Arguments.{Argument, Flag, OptionValue, OptionName, FeatureValue, BadFeatureName, VariableValue, BadVariableName, Unrecognized, alone, and_then, awaited_by, settings_from, read_argument}
 use Rattle.options_line.specs.CommandLine.{Setting, valued}
 use Rattle.options_line.specs.Reading.{◌>>=◌}
 use Rattle.options_line.specs.declared.argument.Switch.TheVariants.{ConfigCache, Quiet, NoCreate, Help, Version, Ignored}
@@ -60,18 +60,18 @@ or_second false b e = e
 -- What follows an argument with this reading.
 abbrev after_said : Argument → ℕ → List (List ℕ) → Result (List Setting) OptionFault
 after_said said i more = elim (awaited_by said) [
-  | Some target ↦ given (Some target) (i + 1) more
-  | None ↦ and_then (alone (i + 1) said) (given None (i + 1) more)
+  | Some target ↦ settings_from (Some target) (i + 1) more
+  | None ↦ and_then (alone (i + 1) said) (settings_from None (i + 1) more)
 ]
 
-by_itself : (i : ℕ) (said : Argument) (more : List (List ℕ)) → (any_quiet (given None (i + 1) more) ≡ true → list_any is_quiet more ≡ true)
-    → any_quiet (and_then (alone (i + 1) said) (given None (i + 1) more)) ≡ true → (turns_quiet said || list_any is_quiet more) ≡ true
+by_itself : (i : ℕ) (said : Argument) (more : List (List ℕ)) → (any_quiet (settings_from None (i + 1) more) ≡ true → list_any is_quiet more ≡ true)
+    → any_quiet (and_then (alone (i + 1) said) (settings_from None (i + 1) more)) ≡ true → (turns_quiet said || list_any is_quiet more) ≡ true
 by_itself i said more later e =
     or_mono (turns_quiet said) _ _ later
-    (sym (ap (λ b. b || any_quiet (given None (i + 1) more)) (alone_quiet (i + 1) said)) ∙ one_more (alone (i + 1) said) (given None (i + 1) more) e)
+    (sym (ap (λ b. b || any_quiet (settings_from None (i + 1) more)) (alone_quiet (i + 1) said)) ∙ one_more (alone (i + 1) said) (settings_from None (i + 1) more) e)
 
-by_reading : (said : Argument) (i : ℕ) (more : List (List ℕ)) → (any_quiet (given None (i + 1) more) ≡ true → list_any is_quiet more ≡ true)
-    → ((target : Target) → any_quiet (given (Some target) (i + 1) more) ≡ true → list_any is_quiet more ≡ true)
+by_reading : (said : Argument) (i : ℕ) (more : List (List ℕ)) → (any_quiet (settings_from None (i + 1) more) ≡ true → list_any is_quiet more ≡ true)
+    → ((target : Target) → any_quiet (settings_from (Some target) (i + 1) more) ≡ true → list_any is_quiet more ≡ true)
     → any_quiet (after_said said i more) ≡ true → (turns_quiet said || list_any is_quiet more) ≡ true
 by_reading (OptionName target) i more later awaited e = awaited target e
 by_reading (Flag switch) i more later awaited e = by_itself i (Flag switch) more later e
@@ -83,14 +83,14 @@ by_reading BadVariableName i more later awaited e = by_itself i BadVariableName 
 by_reading Unrecognized i more later awaited e = by_itself i Unrecognized more later e
 
 -- If the settings of arguments turn quiet on, one of the arguments is `--quiet`.
-quiet_given : (arguments : List (List ℕ)) (awaited : Option Target) (i : ℕ) → any_quiet (given awaited i arguments) ≡ true → list_any is_quiet arguments ≡ true
-unfolding given
+quiet_given : (arguments : List (List ℕ)) (awaited : Option Target) (i : ℕ) → any_quiet (settings_from awaited i arguments) ≡ true → list_any is_quiet arguments ≡ true
+unfolding settings_from
 quiet_given [] None i e = e
 quiet_given [] (Some target) i e = e
 quiet_given (value ∷ more) (Some target) i e =
-    let rest = one_more (Ok (valued target value)) (given None (i + 1) more) e in
+    let rest = one_more (Ok (valued target value)) (settings_from None (i + 1) more) e in
     or_second (is_quiet value) (list_any is_quiet more)
-    (quiet_given more None (i + 1) (sym (ap (λ b. b || any_quiet (given None (i + 1) more)) (value_quiet target value)) ∙ rest))
+    (quiet_given more None (i + 1) (sym (ap (λ b. b || any_quiet (settings_from None (i + 1) more)) (value_quiet target value)) ∙ rest))
 quiet_given (word ∷ more) None i e = by_reading (read_argument word) i more (quiet_given more None (i + 1)) (λ target. quiet_given more (Some target) (i + 1)) e
 
 -- The settings of a run are quiet if those of its arguments turn quiet on.
@@ -118,7 +118,7 @@ quiet_opening : (features packages precious arguments : List (List ℕ)) (enviro
     → quiet_with (opening features packages precious arguments environment) ≡ true → list_any is_quiet arguments ≡ true
 unfolding opening
 quiet_opening features packages precious arguments environment e =
-    quiet_given arguments None 0 (quiet_opened features packages precious environment (given None 0 arguments) e)
+    quiet_given arguments None 0 (quiet_opened features packages precious environment (settings_from None 0 arguments) e)
 
 not_true : (a b : Bool) → (a ≡ true → b ≡ true) → b ≡ false → a ≡ false
 not_true true b h e = sym (h refl) ∙ e

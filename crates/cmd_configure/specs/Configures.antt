@@ -12,7 +12,7 @@ use Rattle.file_texts.specs.Lines.{AreLines}
 use Rattle.file_texts.specs.declared.places.Guard.{Guard}
 use Rattle.engine.specs.Configured.{IsMeant, artifacts}
 use Rattle.engine.specs.Remaking.{Remakes}
-use Rattle.engine_frame.specs.Given.{asked, shows, started}
+use Rattle.engine_frame.specs.Given.{source_settings, shows, started}
 use Rattle.engine_frame.specs.Handing.{IfCompleted}
 use Rattle.engine_frame.specs.Rechecked as again
 use Rattle.engine_frame.specs.Shown.{shown_text}
@@ -35,7 +35,7 @@ ReadsSource files arguments source = ReadsLimited files (path_of (srcdir_of argu
 -- settings. (own)
 pub record IsAsked (arguments : List (List ℕ)) (environment : List (List ℕ × List ℕ)) (source : List ℕ) (script : Script) (settings : Settings) : Type 0 where
   pub read : source_of source ≡ Ok script
-  pub settles : asked arguments environment script ≡ Ok settings
+  pub settles : source_settings arguments environment script ≡ Ok settings
 
 -- The statements are run with these settings, with the cache and the templates as they are in
 -- files. The crew made the run in this way. What it hands over and its log are written, and nothing

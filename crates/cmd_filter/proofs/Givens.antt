@@ -1,11 +1,11 @@
 -- What follows from a source without arguments, environment and cache.
 use Rattle.std.proofs.Common.{◌≡◌, ℕ, Bool, true, false, List, [], Result, Ok, Err, None, refl, sym, ap, ◌∙◌, subst}
 use Rattle.std.specs.Prelude.{IfOk, IfErr, IsErrAnd, nat_le, if◌then◌else◌}
-use Rattle.options_line.specs.Arguments.{given}
+use Rattle.options_line.specs.Arguments.{settings_from}
 use Rattle.engine.specs.Configured.{artifacts}
 use Rattle.engine_frame.specs.Faults.{Fails, ◌>>=◌, wants}
 use Rattle.engine.specs.Judged.{IsRead, going}
-use Rattle.engine_frame.specs.Given.{Accepted, Shows, Starts, answered, asked, shows, started}
+use Rattle.engine_frame.specs.Given.{Accepted, Shows, Starts, accepted_after, source_settings, shows, started}
 use Rattle.engine_frame.specs.Judging.{judged_with, judgement, judged_of}
 use Rattle.engine_frame.specs.Needed.{Needed, script_in}
 use Rattle.engine_frame.specs.declared.judging.Judged.{Judged as Found}
@@ -34,27 +34,27 @@ abbrev bare : Script → Settings
 bare s = run_settings (lists_of s).precious (set_by (setters [] [])) [] []
 
 -- without arguments no text is shown
-asked_alone : (s : Script) → asked [] [] s ≡ (wants (nat_le (weight s) heaviest) (Plan TooLong) >>= λ _. Ok (bare s))
-unfolding asked opening given opened_by notes_of run_settings
+asked_alone : (s : Script) → source_settings [] [] s ≡ (wants (nat_le (weight s) heaviest) (Plan TooLong) >>= λ _. Ok (bare s))
+unfolding source_settings opening settings_from opened_by notes_of run_settings
 asked_alone s = refl
 
-answered_alone : (templates : List (List ℕ × List ℕ)) (s : Script) → answered [] None templates s (bare s) ≡ (started [] None templates s (bare s) >>= λ start. Ok (Starts s start))
-unfolding answered run_settings
+answered_alone : (templates : List (List ℕ × List ℕ)) (s : Script) → accepted_after [] None templates s (bare s) ≡ (started [] None templates s (bare s) >>= λ start. Ok (Starts s start))
+unfolding accepted_after run_settings
 answered_alone templates s = refl
 
 first_is : (templates : List (List ℕ × List ℕ)) (s : Script) (fits : Result (Unit {0}) Fault)
-    → ((fits >>= λ _. Ok (bare s)) >>= λ settings. answered [] None templates s settings) ≡ (fits >>= λ _. answered [] None templates s (bare s))
+    → ((fits >>= λ _. Ok (bare s)) >>= λ settings. accepted_after [] None templates s settings) ≡ (fits >>= λ _. accepted_after [] None templates s (bare s))
 first_is templates s (Ok u) = refl
 first_is templates s (Err f) = refl
 
-alone_by : (templates : List (List ℕ × List ℕ)) (s : Script) → judged_alone s templates ≡ (asked [] [] s >>= λ settings. answered [] None templates s settings)
+alone_by : (templates : List (List ℕ × List ℕ)) (s : Script) → judged_alone s templates ≡ (source_settings [] [] s >>= λ settings. accepted_after [] None templates s settings)
 unfolding judged_alone
 alone_by templates s = refl
 
 judged_is : (templates : List (List ℕ × List ℕ)) (s : Script)
     → judged_alone s templates ≡ (wants (nat_le (weight s) heaviest) (Plan TooLong) >>= λ _. (started [] None templates s (bare s) >>= λ start. Ok (Starts s start)))
 judged_is templates s =
-    alone_by templates s ∙ ap (λ r. r >>= λ settings. answered [] None templates s settings) (asked_alone s)
+    alone_by templates s ∙ ap (λ r. r >>= λ settings. accepted_after [] None templates s settings) (asked_alone s)
     ∙ first_is templates s (wants (nat_le (weight s) heaviest) (Plan TooLong))
     ∙ ap (λ a. wants (nat_le (weight s) heaviest) (Plan TooLong) >>= λ _. a) (answered_alone templates s)
 
@@ -63,15 +63,15 @@ answers : (templates : List (List ℕ × List ℕ)) (s : Script) (settings : Set
 answers templates s settings true is = absurd cc
 answers templates s settings false is = refl
 
-going_on : (templates : List (List ℕ × List ℕ)) (s : Script) (settings : Settings) → shows settings ≡ false → answered [] None templates s settings ≡ (started [] None templates s settings >>= λ start. Ok (Starts s start))
-unfolding answered
+going_on : (templates : List (List ℕ × List ℕ)) (s : Script) (settings : Settings) → shows settings ≡ false → accepted_after [] None templates s settings ≡ (started [] None templates s settings >>= λ start. Ok (Starts s start))
+unfolding accepted_after
 going_on templates s settings is = answers templates s settings (shows settings) is
 
 -- What was judged of the statements is what they are run by.
 pub alone_going : (templates : List (List ℕ × List ℕ)) (s : Script) (found : Found) (n : Needed) → judgement [] [] s ≡ Ok (judged_of found) → found ≡ founds.Runs n → judged_alone s templates ≡ going n None templates
 alone_going templates s found n is kind =
     let runs = runs_as [] [] s found n is kind in
-    alone_by templates s ∙ ap (λ r. r >>= λ settings. answered [] None templates s settings) runs.asks ∙ going_on templates s n.settings runs.runs
+    alone_by templates s ∙ ap (λ r. r >>= λ settings. accepted_after [] None templates s settings) runs.asks ∙ going_on templates s n.settings runs.runs
     ∙ ap (λ x. started x None templates s n.settings >>= λ start. Ok (Starts s start)) runs.arguments
     ∙ ap (λ x. started n.arguments None templates x n.settings >>= λ start. Ok (Starts x start)) runs.script_is
 
@@ -80,8 +80,8 @@ answers_shown : (templates : List (List ℕ × List ℕ)) (s : Script) (settings
 answers_shown templates s settings true is = refl
 answers_shown templates s settings false is = absurd cc
 
-shown_by : (templates : List (List ℕ × List ℕ)) (s : Script) (settings : Settings) → shows settings ≡ true → answered [] None templates s settings ≡ Ok (Shows s settings)
-unfolding answered
+shown_by : (templates : List (List ℕ × List ℕ)) (s : Script) (settings : Settings) → shows settings ≡ true → accepted_after [] None templates s settings ≡ Ok (Shows s settings)
+unfolding accepted_after
 shown_by templates s settings is = answers_shown templates s settings (shows settings) is
 
 -- A text that is shown.
@@ -89,7 +89,7 @@ pub shown_alone : (templates : List (List ℕ × List ℕ)) (s : Script) (found 
 shown_alone templates s found report is kind =
     let told = shows_as [] [] s found report is kind in
     subst (λ j. IsReported j templates report [])
-    (sym (alone_by templates s ∙ ap (λ r. r >>= λ settings. answered [] None templates s settings) told.asks ∙ shown_by templates s told.settings told.shows_it)) told.is
+    (sym (alone_by templates s ∙ ap (λ r. r >>= λ settings. accepted_after [] None templates s settings) told.asks ∙ shown_by templates s told.settings told.shows_it)) told.is
 
 -- What is taken of a run is what is taken of its statements.
 pub taken_alone : {A : Type 0} (templates : List (List ℕ × List ℕ)) (s : Script) (found : Found) (n : Needed) (r : Result A FilterFault) (text errors : A → List ℕ) (status : A → ℕ) → judgement [] [] s ≡ Ok (judged_of found) → found ≡ founds.Runs n
@@ -106,13 +106,13 @@ not_run_alone templates s found n (Err e) is kind h = subst (λ j. IsNotRun j e)
 pub alone_read : (s : Script) (found : Found) (n : Needed) → judgement [] [] s ≡ Ok (judged_of found) → found ≡ founds.Runs n → IsRead s → IsRead (script_in n)
 alone_read s found n is kind read = subst IsRead (runs_as [] [] s found n is kind).script_is read
 
-unasked : (templates : List (List ℕ × List ℕ)) (s : Script) (f : Fault) (r : Result Settings Fault) → (r >>= λ settings. Ok (judged_with [] s settings)) ≡ Err f → (r >>= λ settings. answered [] None templates s settings) ≡ Err f
+unasked : (templates : List (List ℕ × List ℕ)) (s : Script) (f : Fault) (r : Result Settings Fault) → (r >>= λ settings. Ok (judged_with [] s settings)) ≡ Err f → (r >>= λ settings. accepted_after [] None templates s settings) ≡ Err f
 unasked templates s f (Ok settings) is = absurd cc
 unasked templates s f (Err g) is = let same : g ≡ f = cc in ap Err same
 
 not_alone : (templates : List (List ℕ × List ℕ)) (s : Script) (f : Fault) → judgement [] [] s ≡ Err f → judged_alone s templates ≡ Err f
 unfolding judgement
-not_alone templates s f is = alone_by templates s ∙ unasked templates s f (asked [] [] s) is
+not_alone templates s f is = alone_by templates s ∙ unasked templates s f (source_settings [] [] s) is
 
 fails_alone : (templates : List (List ℕ × List ℕ)) (s : Script) (f : Fault) → Fails f (judgement [] [] s) → Fails f (judged_alone s templates)
 fails_alone templates s OutOfMemory h = tt

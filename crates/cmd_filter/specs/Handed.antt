@@ -4,7 +4,7 @@ use Rattle.cfglog.specs.Texts.{messages_of}
 use Rattle.deftable.specs.declared.note.Stream.TheVariants as streams
 use Rattle.engine.specs.Configured.{artifacts}
 use Rattle.engine_frame.specs.Faults.{◌>>=◌}
-use Rattle.engine_frame.specs.Given.{Accepted, Shows, Starts, asked, answered}
+use Rattle.engine_frame.specs.Given.{Accepted, Shows, Starts, source_settings, accepted_after}
 use Rattle.engine_frame.specs.Shown.{shown_report}
 use Rattle.engine_frame.specs.Told.{status_of}
 use Rattle.engine_frame.specs.declared.fault.Fault.{Fault}
@@ -31,8 +31,8 @@ templates_of s template = templates_for (lists_of s).files template
 -- What follows from statements with these templates, without arguments, environment and cache. (own)
 unfoldable pub judged_alone : Script → List (List ℕ × List ℕ) → Result Accepted Fault
 judged_alone s templates = do
-  settings ← asked [] [] s
-  answered [] None templates s settings
+  settings ← source_settings [] [] s
+  accepted_after [] None templates s settings
 
 -- Why there is no report: what is given has a fault, or memory runs out. (own)
 pub data IsNotRun (judged : Result Accepted Fault) : FilterFault → Type 0 where

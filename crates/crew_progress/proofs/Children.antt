@@ -6,7 +6,7 @@ use Rattle.std.proofs.lemmas.Grind.{flat_map-append}
 use Rattle.std.proofs.lemmas.List.{take_more}
 use Rattle.crew_jobs.specs.declared.job.Job.{Job}
 use Rattle.crew_progress.specs.Screen.{shown_byte, fitting, IsShowing}
-use Rattle.crew_progress.specs.Subject.{told_by, words_of}
+use Rattle.crew_progress.specs.Subject.{subject_of_file, words_of}
 use Rattle.crew_progress.specs.Child.{purpose, child_text, mark, row, child_line}
 use Rattle.crew_progress.proofs.Cutting.{showing_is}
 
@@ -74,15 +74,15 @@ pub words_all : (line text : List ℕ) (is_cut : Bool) (words : List (List ℕ))
 words_all line text is_cut words i le h = subst (λ ws. IsShowing 396 line is_cut (text ++ words_of ws)) (take_all i words le) h
 
 -- A line that five texts were put on, one after the other.
-pub child_is : (line : List ℕ) (is_cut : Bool) (text a b c d e : List ℕ) (number : ℕ) (job : Job) → a ≡ codes "acrun: child " → b ≡ decimal number → c ≡ purpose (told_by job.file)
+pub child_is : (line : List ℕ) (is_cut : Bool) (text a b c d e : List ℕ) (number : ℕ) (job : Job) → a ≡ codes "acrun: child " → b ≡ decimal number → c ≡ purpose (subject_of_file job.file)
     → d ≡ codes ":" → e ≡ words_of job.words → IsShowing 396 line is_cut (((((text ++ a) ++ b) ++ c) ++ d) ++ e) → IsShowing 396 line is_cut (text ++ child_text number job)
 unfolding child_text
 child_is line is_cut text a b c d e number job a_is b_is c_is d_is e_is h =
     let flat : ((((text ++ a) ++ b) ++ c) ++ d) ++ e ≡ text ++ (a ++ b ++ c ++ d ++ e) =
     ap (λ x. ((x ++ c) ++ d) ++ e) (append_assoc text a b) ∙ ap (λ x. (x ++ d) ++ e) (append_assoc text (a ++ b) c) ∙ ap (λ x. x ++ e) (append_assoc text (a ++ b ++ c) d)
     ∙ append_assoc text (a ++ b ++ c ++ d) e in
-    let told : a ++ b ++ c ++ d ++ e ≡ codes "acrun: child " ++ decimal number ++ purpose (told_by job.file) ++ codes ":" ++ words_of job.words =
+    let told : a ++ b ++ c ++ d ++ e ≡ codes "acrun: child " ++ decimal number ++ purpose (subject_of_file job.file) ++ codes ":" ++ words_of job.words =
     ap (λ x. x ++ b ++ c ++ d ++ e) a_is ∙ ap (λ x. codes "acrun: child " ++ x ++ c ++ d ++ e) b_is ∙ ap (λ x. codes "acrun: child " ++ decimal number ++ x ++ d ++ e) c_is
-    ∙ ap (λ x. codes "acrun: child " ++ decimal number ++ purpose (told_by job.file) ++ x ++ e) d_is
-    ∙ ap (λ x. codes "acrun: child " ++ decimal number ++ purpose (told_by job.file) ++ codes ":" ++ x) e_is in
+    ∙ ap (λ x. codes "acrun: child " ++ decimal number ++ purpose (subject_of_file job.file) ++ x ++ e) d_is
+    ∙ ap (λ x. codes "acrun: child " ++ decimal number ++ purpose (subject_of_file job.file) ++ codes ":" ++ x) e_is in
     subst (IsShowing 396 line is_cut) (flat ∙ ap (λ v. text ++ v) told) h

@@ -26,30 +26,30 @@ unfoldable pub named : List ℕ → List ℕ → List ℕ → List ℕ → Optio
 named kind front back text = option_map (λ name. kind ++ name) (between front back text)
 
 -- The type whose size a text takes. In the second test of a type it is in parentheses. (own)
-abbrev pub type_told : List ℕ → Option (List ℕ)
-type_told text =
+abbrev pub type_in : List ℕ → Option (List ℕ)
+type_in text =
     option_or (named (codes " type ") (codes "if (sizeof ((") (codes "))) return 0;\n  ;\n  return 0;\n}\n") text)
     (named (codes " type ") (codes "if (sizeof (") (codes ")) return 0;\n  ;\n  return 0;\n}\n") text)
 
 -- The function that a text calls. (own)
-abbrev pub function_told : List ℕ → Option (List ℕ)
-function_told text = named (codes " function ") (codes "return ") (codes " ();\n  ;\n  return 0;\n}\n") text
+abbrev pub function_in : List ℕ → Option (List ℕ)
+function_in text = named (codes " function ") (codes "return ") (codes " ();\n  ;\n  return 0;\n}\n") text
 
 -- The name that a text uses if it is no macro. (own)
-abbrev pub declaration_told : List ℕ → Option (List ℕ)
-declaration_told text = named (codes " declaration ") (codes "  (void) ") (codes ";\n#endif\n  ;\n  return 0;\n}\n") text
+abbrev pub declaration_in : List ℕ → Option (List ℕ)
+declaration_in text = named (codes " declaration ") (codes "  (void) ") (codes ";\n#endif\n  ;\n  return 0;\n}\n") text
 
 -- What the text of a conftest tests: the header that it includes last, the function that it calls, the name that it uses if that is no
 -- macro, or the type whose size it takes. (own)
-abbrev pub told : List ℕ → Option (List ℕ)
-told text =
+abbrev pub subject_of : List ℕ → Option (List ℕ)
+subject_of text =
     option_or (named (codes " header ") (codes "#include <") (codes ">\n") text)
-    (option_or (function_told text) (option_or (declaration_told text) (type_told text)))
+    (option_or (function_in text) (option_or (declaration_in text) (type_in text)))
 
 -- What the conftest of a job tests. (own)
-abbrev pub told_by : Option (List ℕ × List ℕ) → Option (List ℕ)
-told_by None = None
-told_by (Some file) = told file.1
+abbrev pub subject_of_file : Option (List ℕ × List ℕ) → Option (List ℕ)
+subject_of_file None = None
+subject_of_file (Some file) = subject_of file.1
 
 -- The words of a command, each after a blank. (own)
 unfoldable pub words_of : List (List ℕ) → List ℕ
@@ -61,4 +61,4 @@ line_front text = take 79 text
 
 -- What the line of a terminal says of a job: what its conftest tests if the text shows that, and otherwise the words of the command. (own)
 unfoldable pub subject_of : Job → List ℕ
-subject_of job = line_front (unwrap_or (told_by job.file) (words_of job.words))
+subject_of job = line_front (unwrap_or (subject_of_file job.file) (words_of job.words))

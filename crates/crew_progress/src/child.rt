@@ -6,7 +6,7 @@ ghost use Rattle.crew_progress.specs.Screen.{IsShowing};
 ghost use Rattle.crew_progress.specs.Subject.{words_of};
 
 use crate::screen::{Screen, Text, empty, put};
-use crate::subject::told_by;
+use crate::subject::subject_of_file;
 use crew_jobs::Job;
 use deftable::Bytes;
 use itoa::Buffer;
@@ -55,7 +55,7 @@ fn put_child(row: &mut Row, number: u64, job: &Job)
     let mut digits = Buffer::new();
     put(row, b"acrun: child ");
     put(row, digits.format(number).as_bytes());
-    put_purpose(row, told_by(&job.file));
+    put_purpose(row, subject_of_file(&job.file));
     put(row, b":");
     put_words(row, job.words.as_slice());
 }

@@ -59,33 +59,33 @@ fn named<'a>(
 }
 
 /// Returns what the text of a conftest tests.
-fn told(text: &[u8]) -> Option<(&[u8], &[u8])>
-    ensures { option_map (λ t. t.0.now ++ t.1.now) result ≡ subject.told text.now }
+fn subject_of(text: &[u8]) -> Option<(&[u8], &[u8])>
+    ensures { option_map (λ t. t.0.now ++ t.1.now) result ≡ subject.subject_of text.now }
 {
-    named(b" header ", b"#include <", b">\n", text).or(function_told(text).or(declaration_told(
-        text,
-    ).or(type_told(text))))
+    named(b" header ", b"#include <", b">\n", text).or(function_in(text).or(declaration_in(text).or(
+        type_in(text),
+    )))
 }
 
 /// Returns the function that a text calls.
-fn function_told(text: &[u8]) -> Option<(&[u8], &[u8])>
-    ensures { option_map (λ t. t.0.now ++ t.1.now) result ≡ subject.function_told text.now }
+fn function_in(text: &[u8]) -> Option<(&[u8], &[u8])>
+    ensures { option_map (λ t. t.0.now ++ t.1.now) result ≡ subject.function_in text.now }
 {
     let end = b" ();\n  ;\n  return 0;\n}\n";
     named(b" function ", b"return ", end, text)
 }
 
 /// Returns the name that a text uses if it is no macro.
-fn declaration_told(text: &[u8]) -> Option<(&[u8], &[u8])>
-    ensures { option_map (λ t. t.0.now ++ t.1.now) result ≡ subject.declaration_told text.now }
+fn declaration_in(text: &[u8]) -> Option<(&[u8], &[u8])>
+    ensures { option_map (λ t. t.0.now ++ t.1.now) result ≡ subject.declaration_in text.now }
 {
     let end = b";\n#endif\n  ;\n  return 0;\n}\n";
     named(b" declaration ", b"  (void) ", end, text)
 }
 
 /// Returns the type whose size a text takes. In the second test of a type it is in parentheses.
-fn type_told(text: &[u8]) -> Option<(&[u8], &[u8])>
-    ensures { option_map (λ t. t.0.now ++ t.1.now) result ≡ subject.type_told text.now }
+fn type_in(text: &[u8]) -> Option<(&[u8], &[u8])>
+    ensures { option_map (λ t. t.0.now ++ t.1.now) result ≡ subject.type_in text.now }
 {
     let second = named(
         b" type ",
@@ -102,11 +102,11 @@ fn type_told(text: &[u8]) -> Option<(&[u8], &[u8])>
 }
 
 /// Returns what the conftest of a job tests.
-pub(crate) fn told_by(file: &Option<(Bytes, Bytes)>) -> Option<(&[u8], &[u8])>
-    ensures { option_map (λ t. t.0.now ++ t.1.now) result ≡ subject.told_by file.now }
+pub(crate) fn subject_of_file(file: &Option<(Bytes, Bytes)>) -> Option<(&[u8], &[u8])>
+    ensures { option_map (λ t. t.0.now ++ t.1.now) result ≡ subject.subject_of_file file.now }
 {
     match file {
-        Some((_, text)) => told(text.as_slice()),
+        Some((_, text)) => subject_of(text.as_slice()),
         None => None,
     }
 }
@@ -156,7 +156,7 @@ fn joined(kind: &[u8], name: &[u8]) -> Line
 pub(crate) fn subject_of(job: &Job) -> Line
     ensures { result.items ≡ subject.subject_of job.now }
 {
-    match told_by(&job.file) {
+    match subject_of_file(&job.file) {
         Some((kind, name)) => joined(kind, name),
         None => command_of(job.words.as_slice()),
     }

@@ -9,8 +9,8 @@ use Rattle.ac_tree.specs.Commands.{HasCommands}
 use Rattle.ac_tree.specs.Script.{Script}
 use Rattle.ac_tree.specs.TestNames.{HasTestNames}
 use Rattle.engine_frame.specs.Faults.{Fails, ◌>>=◌, named, of_parse}
-use Rattle.engine.specs.Judged.{going, judged}
-use Rattle.engine_frame.specs.Given.{Accepted, Shows, Starts, answered, asked, shows, started}
+use Rattle.engine.specs.Judged.{going, acceptance}
+use Rattle.engine_frame.specs.Given.{Accepted, Shows, Starts, accepted_after, source_settings, shows, started}
 use Rattle.engine_frame.specs.Needed.{Needed, script_in}
 use Rattle.engine_frame.specs.Judging.{judged_with, judgement, judged_of}
 use Rattle.engine_frame.proofs.Judgements.{runs_as, shows_as}
@@ -32,13 +32,13 @@ use Rattle.engine_frame.specs.declared.report.Report.{Report}
 
 -- after the source
 abbrev pub after_source : List (List ℕ) → List (List ℕ × List ℕ) → Option (List ℕ) → List (List ℕ × List ℕ) → Script → Result Accepted Fault
-after_source a e c t script = asked a e script >>= answered a c t script
+after_source a e c t script = source_settings a e script >>= accepted_after a c t script
 
-pub judged_first : (s : List ℕ) (a : List (List ℕ)) (e : List (List ℕ × List ℕ)) (c : Option (List ℕ)) (t : List (List ℕ × List ℕ)) → judged s a e c t ≡ (named of_parse (source_of s) >>= after_source a e c t)
-unfolding judged
+pub judged_first : (s : List ℕ) (a : List (List ℕ)) (e : List (List ℕ × List ℕ)) (c : Option (List ℕ)) (t : List (List ℕ × List ℕ)) → acceptance s a e c t ≡ (named of_parse (source_of s) >>= after_source a e c t)
+unfolding acceptance
 judged_first s a e c t = refl
 
-judged_second : (s : List ℕ) (a : List (List ℕ)) (e : List (List ℕ × List ℕ)) (c : Option (List ℕ)) (t : List (List ℕ × List ℕ)) (script : Script) → named of_parse (source_of s) ≡ Ok script → judged s a e c t ≡ after_source a e c t script
+judged_second : (s : List ℕ) (a : List (List ℕ)) (e : List (List ℕ × List ℕ)) (c : Option (List ℕ)) (t : List (List ℕ × List ℕ)) (script : Script) → named of_parse (source_of s) ≡ Ok script → acceptance s a e c t ≡ after_source a e c t script
 judged_second s a e c t script is = judged_first s a e c t ∙ ap (λ r. r >>= after_source a e c t) is
 
 bind_ok : {A B F : Type 0} (r : Result A F) (f : A → Result B F) (y : B) → (r >>= f) ≡ Ok y → (x : A) × ((r ≡ Ok x) × (f x ≡ Ok y))
@@ -52,8 +52,8 @@ named_ok fault (Err f) x e = absurd cc
 abbrev chosen : List (List ℕ) → Option (List ℕ) → List (List ℕ × List ℕ) → Script → Settings → Bool → Result Accepted Fault
 chosen a c t script settings b = if b then Ok (Shows script settings) else (started a c t script settings >>= λ start. Ok (Starts script start))
 
-is_answered : (a : List (List ℕ)) (c : Option (List ℕ)) (t : List (List ℕ × List ℕ)) (script : Script) (settings : Settings) → answered a c t script settings ≡ chosen a c t script settings (shows settings)
-unfolding answered
+is_answered : (a : List (List ℕ)) (c : Option (List ℕ)) (t : List (List ℕ × List ℕ)) (script : Script) (settings : Settings) → accepted_after a c t script settings ≡ chosen a c t script settings (shows settings)
+unfolding accepted_after
 is_answered a c t script settings = refl
 
 same_begun : (a : List (List ℕ)) (c : Option (List ℕ)) (t : List (List ℕ × List ℕ)) (read script : Script) (settings : Settings) (start : Start) → (started a c t read settings >>= λ at. Ok (Starts read at)) ≡ Ok (Starts script start) → read ≡ script
@@ -66,10 +66,10 @@ same_chosen a c t read script settings start true is = absurd cc
 same_chosen a c t read script settings start false is = same_begun a c t read script settings start is
 
 -- The statements of a run are those of the source.
-source_is : (s : List ℕ) (a : List (List ℕ)) (e : List (List ℕ × List ℕ)) (c : Option (List ℕ)) (t : List (List ℕ × List ℕ)) (script : Script) (start : Start) → judged s a e c t ≡ Ok (Starts script start) → source_of s ≡ Ok script
+source_is : (s : List ℕ) (a : List (List ℕ)) (e : List (List ℕ × List ℕ)) (c : Option (List ℕ)) (t : List (List ℕ × List ℕ)) (script : Script) (start : Start) → acceptance s a e c t ≡ Ok (Starts script start) → source_of s ≡ Ok script
 source_is s a e c t script start is =
     let read = bind_ok (named of_parse (source_of s)) (after_source a e c t) (Starts script start) (sym (judged_first s a e c t) ∙ is) in
-    let asks = bind_ok (asked a e read.0) (answered a c t read.0) (Starts script start) read.1.1 in
+    let asks = bind_ok (source_settings a e read.0) (accepted_after a c t read.0) (Starts script start) read.1.1 in
     named_ok of_parse (source_of s) read.0 read.1.0
     ∙ ap Ok (same_chosen a c t read.0 script asks.0 start (shows asks.0) (sym (is_answered a c t read.0 asks.0) ∙ asks.1.1))
 
@@ -80,7 +80,7 @@ pub record Forms (script : Script) : Type 0 where
 
 pub judged_forms : (s : List ℕ) (a : List (List ℕ)) (e : List (List ℕ × List ℕ)) (c : Option (List ℕ)) (t : List (List ℕ × List ℕ))
     → ((script : Script) → source_of s ≡ Ok script → HasCommands script) → ((script : Script) → source_of s ≡ Ok script → HasTestNames script)
-    → (script : Script) (start : Start) → judged s a e c t ≡ Ok (Starts script start) → Forms script
+    → (script : Script) (start : Start) → acceptance s a e c t ≡ Ok (Starts script start) → Forms script
 judged_forms s a e c t commands names script start is =
     let source = source_is s a e c t script start is in
     record { commands = commands script source; names = names script source }
@@ -91,24 +91,24 @@ going_forms n c t commands names script start is =
 
 -- ---- what a function judged
 
-unasked : (a : List (List ℕ)) (e : List (List ℕ × List ℕ)) (script : Script) (f : Fault) → judgement a e script ≡ Err f → asked a e script ≡ Err f
+unasked : (a : List (List ℕ)) (e : List (List ℕ × List ℕ)) (script : Script) (f : Fault) → judgement a e script ≡ Err f → source_settings a e script ≡ Err f
 unfolding judgement
-unasked a e script f is = by_asked (asked a e script) is
+unasked a e script f is = by_asked (source_settings a e script) is
   where
     by_asked : (r : Result Settings Fault) → (r >>= λ settings. Ok (judged_with a script settings)) ≡ Err f → r ≡ Err f
     by_asked (Ok settings) is = absurd cc
     by_asked (Err g) is = let same : g ≡ f = cc in ap Err same
 
-fails_asked : (a : List (List ℕ)) (e : List (List ℕ × List ℕ)) (script : Script) (f : Fault) → Fails f (judgement a e script) → Fails f (asked a e script)
+fails_asked : (a : List (List ℕ)) (e : List (List ℕ × List ℕ)) (script : Script) (f : Fault) → Fails f (judgement a e script) → Fails f (source_settings a e script)
 fails_asked a e script OutOfMemory h = tt
 fails_asked a e script f h = unasked a e script f h
 
 -- A source that is to be run.
 pub judged_runs : (s : List ℕ) (a : List (List ℕ)) (e : List (List ℕ × List ℕ)) (c : Option (List ℕ)) (t : List (List ℕ × List ℕ)) (script : Script) (found : Found) (n : Needed)
-    → named of_parse (source_of s) ≡ Ok script → judgement a e script ≡ Ok (judged_of found) → found ≡ founds.Runs n → judged s a e c t ≡ going n c t
+    → named of_parse (source_of s) ≡ Ok script → judgement a e script ≡ Ok (judged_of found) → found ≡ founds.Runs n → acceptance s a e c t ≡ going n c t
 judged_runs s a e c t script found n read is kind =
     let runs = runs_as a e script found n is kind in
-    judged_second s a e c t script read ∙ ap (λ r. r >>= answered a c t script) runs.asks ∙ is_answered a c t script n.settings ∙ ap (chosen a c t script n.settings) runs.runs
+    judged_second s a e c t script read ∙ ap (λ r. r >>= accepted_after a c t script) runs.asks ∙ is_answered a c t script n.settings ∙ ap (chosen a c t script n.settings) runs.runs
     ∙ ap (λ x. started x c t script n.settings >>= λ start. Ok (Starts script start)) runs.arguments
     ∙ ap (λ x. started n.arguments c t x n.settings >>= λ start. Ok (Starts x start)) runs.script_is
 
@@ -132,18 +132,18 @@ fails_last f part same window j templates before now old new (Err e) is gives h 
 
 -- a fault of the plan or of the arguments
 pub fails_judged : (s : List ℕ) (a : List (List ℕ)) (e : List (List ℕ × List ℕ)) (c : Option (List ℕ)) (t : List (List ℕ × List ℕ)) (script : Script) (f : Fault) (same : Type 0) (window : ℕ) (templates : List (List ℕ × List ℕ)) (before now : Account) (old new : Receipt) (result : Result Report Fault)
-    → named of_parse (source_of s) ≡ Ok script → Fails f (judgement a e script) → IsErrAnd result (λ e. e ≡ f) → same → IsWhole same window (judged s a e c t) templates before now old new result
+    → named of_parse (source_of s) ≡ Ok script → Fails f (judgement a e script) → IsErrAnd result (λ e. e ≡ f) → same → IsWhole same window (acceptance s a e c t) templates before now old new result
 fails_judged s a e c t script f same window templates before now old new result read gives h u =
-    fails_first f (asked a e script) same window (judged s a e c t) (answered a c t script) templates before now old new result (judged_second s a e c t script read) (fails_asked a e script f gives) h u
+    fails_first f (source_settings a e script) same window (acceptance s a e c t) (accepted_after a c t script) templates before now old new result (judged_second s a e c t script read) (fails_asked a e script f gives) h u
 
 -- a text is shown
 pub shows_text : (s : List ℕ) (a : List (List ℕ)) (e : List (List ℕ × List ℕ)) (c : Option (List ℕ)) (t : List (List ℕ × List ℕ)) (script : Script) (found : Found) (report : Report) (same : Type 0) (window : ℕ) (templates : List (List ℕ × List ℕ)) (before now : Account) (old new : Receipt)
-    → named of_parse (source_of s) ≡ Ok script → judgement a e script ≡ Ok (judged_of found) → found ≡ founds.Shows report → same → IsWhole same window (judged s a e c t) templates before now old new (Ok report)
+    → named of_parse (source_of s) ≡ Ok script → judgement a e script ≡ Ok (judged_of found) → found ≡ founds.Shows report → same → IsWhole same window (acceptance s a e c t) templates before now old new (Ok report)
 shows_text s a e c t script found report same window templates before now old new read is kind u =
     let told = shows_as a e script found report is kind in
-    subst (λ r. IsWhole same window (judged s a e c t) templates before now old new (Ok r)) (sym told.is)
+    subst (λ r. IsWhole same window (acceptance s a e c t) templates before now old new (Ok r)) (sym told.is)
     (shown {script = script} {settings = told.settings}
-    (judged_second s a e c t script read ∙ ap (λ r. r >>= answered a c t script) told.asks ∙ is_answered a c t script told.settings ∙ ap (chosen a c t script told.settings) told.shows_it) u)
+    (judged_second s a e c t script read ∙ ap (λ r. r >>= accepted_after a c t script) told.asks ∙ is_answered a c t script told.settings ∙ ap (chosen a c t script told.settings) told.shows_it) u)
 
 -- a run that starts
 pub starts : (same : Type 0) (window : ℕ) (n : Needed) (c : Option (List ℕ)) (templates : List (List ℕ × List ℕ)) (before now : Account) (old new : Receipt) (start : Start) (result : Result Report Fault)

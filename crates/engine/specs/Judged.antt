@@ -2,18 +2,18 @@
 use Rattle.std.specs.Prelude.{◌≡◌, ℕ, List, Option, Result, Ok}
 use Rattle.acparse.specs.Profile.{source_of}
 use Rattle.engine_frame.specs.Faults.{of_parse, named, ◌>>=◌}
-use Rattle.engine_frame.specs.Given.{Accepted, Starts, asked, answered, started}
+use Rattle.engine_frame.specs.Given.{Accepted, Starts, source_settings, accepted_after, started}
 use Rattle.engine_frame.specs.Needed.{Needed, script_in}
 use Rattle.engine_frame.specs.declared.fault.Fault.{Fault}
 use Rattle.ac_tree.specs.Script.{Script}
 
 -- What follows from a source, arguments, an environment, a cache and templates: they are refused with their first fault, or
 -- accepted. Of two templates of one name the first counts. (own)
-unfoldable pub judged : List ℕ → List (List ℕ) → List (List ℕ × List ℕ) → Option (List ℕ) → List (List ℕ × List ℕ) → Result Accepted Fault
-judged source arguments environment cache templates = do
+unfoldable pub acceptance : List ℕ → List (List ℕ) → List (List ℕ × List ℕ) → Option (List ℕ) → List (List ℕ × List ℕ) → Result Accepted Fault
+acceptance source arguments environment cache templates = do
   script ← named of_parse (source_of source)
-  settings ← asked arguments environment script
-  answered arguments cache templates script settings
+  settings ← source_settings arguments environment script
+  accepted_after arguments cache templates script settings
 
 -- What follows, once a source is judged, from a cache and templates: the run starts, or there is a
 -- first fault. (own)

@@ -4,7 +4,7 @@ ghost use Rattle.std.specs.Prelude.{◌≡◌, ◌+◌, ◌^◌, ◌<◌, ◌≤
 ghost use Rattle.crew_trait.specs.Events.{IsIdle, in_flight};
 ghost use Rattle.output_put.specs.Receipt.{with_artifacts};
 ghost use Rattle.proberun.specs.Ran.{IsWindow, MayRun};
-ghost use Rattle.engine.specs.Judged.{IsRead, going, judged};
+ghost use Rattle.engine.specs.Judged.{IsRead, going, acceptance};
 ghost use Rattle.engine_frame.specs.Handing.{IfCompleted, ReadsBack, IfNamed, IsCacheOf, CacheReadsBack};
 ghost use Rattle.engine.specs.Configured.{IfStarts, IsNotRun, IfReport, IfPutRefused, IsAnswer, IsDone, IsWhole, IsRefusedPut, IsMeant, IsCut, HasRunPart, artifacts, record_after};
 ghost use Rattle.engine.specs.Kept.{IsKept};
@@ -282,7 +282,7 @@ fn whole<C: Crew, O: Outputs>(
     requires may_run { MayRun (C.account crew.old) }
     requires puts { (O.receipt outputs.old).failures + 256 ≤ 2 ^ 62 }
     ensures whole { IsWhole ((crew.new ≡ crew.old) × (outputs.new ≡ outputs.old)) window
-        (judged source.now args.now env.now (option_map (λ c. c.now) cache.entry) templates.now)
+        (acceptance source.now args.now env.now (option_map (λ c. c.now) cache.entry) templates.now)
         templates.now (C.account crew.old) (C.account crew.new) (O.receipt outputs.old)
         (O.receipt outputs.new) result }
     ensures memory { result ≡ Err OutOfMemory → outputs.new ≡ outputs.old }
@@ -328,21 +328,21 @@ pub fn configure<C: Crew, O: Outputs>(
     // What is given is refused with its first fault, or a text is shown, or the source is run.
     // Unless it is run, nothing is started or handed over.
     ensures accepted { IsAnswer (
-        judged source.now args.now env.now (option_map (λ c. c.now) cache.entry)
+        acceptance source.now args.now env.now (option_map (λ c. c.now) cache.entry)
         templates.now) result }
     ensures untouched { IsNotRun (
-        judged source.now args.now env.now (option_map (λ c. c.now) cache.entry) templates.now)
+        acceptance source.now args.now env.now (option_map (λ c. c.now) cache.entry) templates.now)
         → (crew.new ≡ crew.old) × (outputs.new ≡ outputs.old) }
     // A run is the meaning of its source, from its opening, under the replies of the crew.
     ensures meaning { IfStarts
-        (judged source.now args.now env.now (option_map (λ c. c.now) cache.entry) templates.now)
+        (acceptance source.now args.now env.now (option_map (λ c. c.now) cache.entry) templates.now)
         (λ script start.
         IfReport result (
         IsMeant window script start (C.account crew.old) (C.account crew.new))) }
     // The cache is handed over, if one is named, and after it, if the run is completed, the record
     // and the outputs.
     ensures artifacts { IfStarts
-        (judged source.now args.now env.now (option_map (λ c. c.now) cache.entry) templates.now)
+        (acceptance source.now args.now env.now (option_map (λ c. c.now) cache.entry) templates.now)
         (λ script start.
         IfOk result (λ report.
         O.receipt outputs.new
@@ -350,20 +350,20 @@ pub fn configure<C: Crew, O: Outputs>(
         (artifacts script start templates.now report))) }
     // The text of the record of a completed run is read as the record that its outputs are made of.
     ensures remade { IfStarts
-        (judged source.now args.now env.now (option_map (λ c. c.now) cache.entry) templates.now)
+        (acceptance source.now args.now env.now (option_map (λ c. c.now) cache.entry) templates.now)
         (λ script start.
         IfReport result (λ report.
         IfCompleted report.outcome (ReadsBack (record_after script start report)))) }
     // The report counts what was handed over.
     ensures reported { IfStarts
-        (judged source.now args.now env.now (option_map (λ c. c.now) cache.entry) templates.now)
+        (acceptance source.now args.now env.now (option_map (λ c. c.now) cache.entry) templates.now)
         (λ script start.
         IfOk result (λ report.
         report.handed ≡ length (artifacts script start templates.now report))) }
     // If a put was refused, the artifacts before it were handed over, each whole, and nothing after
     // them.
     ensures cut { IfStarts
-        (judged source.now args.now env.now (option_map (λ c. c.now) cache.entry) templates.now)
+        (acceptance source.now args.now env.now (option_map (λ c. c.now) cache.entry) templates.now)
         (λ script start.
         IfPutRefused result (λ number report.
         IsCut (artifacts script start templates.now report) (O.receipt outputs.old)
@@ -373,7 +373,7 @@ pub fn configure<C: Crew, O: Outputs>(
     // statement assigned, with its value at the end, unless that has a newline. It holds nothing
     // else.
     ensures kept { IfStarts
-        (judged source.now args.now env.now (option_map (λ c. c.now) cache.entry) templates.now)
+        (acceptance source.now args.now env.now (option_map (λ c. c.now) cache.entry) templates.now)
         (λ script start.
         IfReport result (λ report.
         IfNamed start.cache_name (
@@ -381,13 +381,13 @@ pub fn configure<C: Crew, O: Outputs>(
         report))) }
     // That text is read, if it isn't too large, and sets these names again.
     ensures reads_back { IfStarts
-        (judged source.now args.now env.now (option_map (λ c. c.now) cache.entry) templates.now)
+        (acceptance source.now args.now env.now (option_map (λ c. c.now) cache.entry) templates.now)
         (λ script start.
         IfReport result (λ report. IfNamed start.cache_name (CacheReadsBack report.vars))) }
     // The record that a completed run hands over, given to `remake` with any templates and tags,
     // gives the outputs that the run makes of those templates.
     ensures remakes { IfStarts
-        (judged source.now args.now env.now (option_map (λ c. c.now) cache.entry) templates.now)
+        (acceptance source.now args.now env.now (option_map (λ c. c.now) cache.entry) templates.now)
         (λ script start.
         IfReport result (λ report.
         IfCompleted report.outcome (Remakes script start templates.now report))) }
@@ -397,7 +397,7 @@ pub fn configure<C: Crew, O: Outputs>(
     // If memory runs out, nothing was started, or the starts so far, and their replies, are those
     // of the run.
     ensures begun { IfStarts
-        (judged source.now args.now env.now (option_map (λ c. c.now) cache.entry) templates.now)
+        (acceptance source.now args.now env.now (option_map (λ c. c.now) cache.entry) templates.now)
         (λ script start.
         result ≡ Err OutOfMemory
         → HasRunPart window script start (C.account crew.old) (C.account crew.new)) }

@@ -4,7 +4,7 @@ use Rattle.std.specs.Prelude.{if◌then◌else◌}
 use Rattle.options.specs.declared.settings.Settings.{Settings}
 use Rattle.ac_tree.specs.Script.{Script}
 use Rattle.engine_frame.specs.Faults.{◌>>=◌}
-use Rattle.engine_frame.specs.Given.{asked, shows}
+use Rattle.engine_frame.specs.Given.{source_settings, shows}
 use Rattle.engine_frame.specs.Judging.{Judged, Shows, Runs, judged_with, judgement, judged_of}
 use Rattle.engine_frame.specs.Needed.{Needed, script_in}
 use Rattle.engine_frame.specs.Shown.{shown_report}
@@ -15,7 +15,7 @@ use Rattle.engine_frame.specs.declared.report.Report.{Report}
 
 record Asked (a : List (List ℕ)) (e : List (List ℕ × List ℕ)) (script : Script) (judged : Judged) : Type 0 where
   settings : Settings
-  asks : asked a e script ≡ Ok settings
+  asks : source_settings a e script ≡ Ok settings
   is : judged_with a script settings ≡ judged
 
 asks_by : (a : List (List ℕ)) (script : Script) (judged : Judged) (r : Result Settings Fault) → (r >>= λ settings. Ok (judged_with a script settings)) ≡ Ok judged
@@ -26,7 +26,7 @@ asks_by a script judged (Err f) is = absurd cc
 asks_it : (a : List (List ℕ)) (e : List (List ℕ × List ℕ)) (script : Script) (judged : Judged) → judgement a e script ≡ Ok judged → Asked a e script judged
 unfolding judgement
 asks_it a e script judged is =
-    let by = asks_by a script judged (asked a e script) is in
+    let by = asks_by a script judged (source_settings a e script) is in
     record { settings = by.0; asks = by.1.0; is = by.1.1 }
 
 abbrev judged_by : List (List ℕ) → Script → Settings → Bool → Judged
@@ -49,7 +49,7 @@ shows_by a script settings false report is = absurd cc
 
 -- What a run needs is what the source asks for.
 pub record RunsAs (a : List (List ℕ)) (e : List (List ℕ × List ℕ)) (script : Script) (n : Needed) : Type 0 where
-  pub asks : asked a e script ≡ Ok n.settings
+  pub asks : source_settings a e script ≡ Ok n.settings
   pub arguments : a ≡ n.arguments
   pub script_is : script ≡ script_in n
   pub runs : shows n.settings ≡ false
@@ -68,7 +68,7 @@ runs_as a e script found n is kind =
 -- The text that is shown is that of the source's settings.
 pub record ShowsAs (a : List (List ℕ)) (e : List (List ℕ × List ℕ)) (script : Script) (report : Report) : Type 0 where
   pub settings : Settings
-  pub asks : asked a e script ≡ Ok settings
+  pub asks : source_settings a e script ≡ Ok settings
   pub shows_it : shows settings ≡ true
   pub is : report ≡ shown_report script settings
 

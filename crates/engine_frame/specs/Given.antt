@@ -25,8 +25,8 @@ pub data Accepted : Type 0 where
 
 -- The settings that a source with these statements gets by arguments and an environment, or the
 -- first fault: of its plan, and then of the arguments. (own)
-unfoldable pub asked : List (List ℕ) → List (List ℕ × List ℕ) → Script → Result Settings Fault
-asked arguments environment script = do
+unfoldable pub source_settings : List (List ℕ) → List (List ℕ × List ℕ) → Script → Result Settings Fault
+source_settings arguments environment script = do
   _ ← wants (nat_le (weight script) heaviest) (Plan TooLong)
   named of_option (opening (lists_of script).features (lists_of script).packages (lists_of script).precious arguments environment)
 
@@ -68,7 +68,7 @@ shows settings = settings.help || settings.version
 
 -- What follows from these settings, a cache and templates: a text is to be shown, or the source is
 -- to be run, or the first fault. (own)
-unfoldable pub answered : List (List ℕ) → Option (List ℕ) → List (List ℕ × List ℕ) → Script → Settings → Result Accepted Fault
-answered arguments cache templates script settings =
+unfoldable pub accepted_after : List (List ℕ) → Option (List ℕ) → List (List ℕ × List ℕ) → Script → Settings → Result Accepted Fault
+accepted_after arguments cache templates script settings =
     if shows settings then Ok (Shows script settings)
     else (started arguments cache templates script settings >>= λ start. Ok (Starts script start))

@@ -3,7 +3,7 @@ use Rattle.std.specs.Prelude.{◌≡◌, ℕ, List, Result, Ok, if◌then◌else
 use Rattle.options.specs.declared.settings.Settings.{Settings}
 use Rattle.ac_tree.specs.Script.{Script}
 use Rattle.engine_frame.specs.Faults.{◌>>=◌}
-use Rattle.engine_frame.specs.Given.{asked, shows}
+use Rattle.engine_frame.specs.Given.{source_settings, shows}
 use Rattle.engine_frame.specs.Needed.{script_in}
 use Rattle.engine_frame.specs.Shown.{shown_report}
 use Rattle.engine_frame.specs.declared.fault.Fault.{Fault}
@@ -23,7 +23,7 @@ judged_with arguments script settings = if shows settings then Shows (shown_repo
 
 -- The same of arguments and an environment, or the first fault. (own)
 unfoldable pub judgement : List (List ℕ) → List (List ℕ × List ℕ) → Script → Result Judged Fault
-judgement arguments environment script = asked arguments environment script >>= λ settings. Ok (judged_with arguments script settings)
+judgement arguments environment script = source_settings arguments environment script >>= λ settings. Ok (judged_with arguments script settings)
 
 -- What a function found. (own)
 abbrev pub judged_of : found.Judged → Judged

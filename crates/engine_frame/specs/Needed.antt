@@ -6,7 +6,7 @@ use Rattle.plan.specs.Walk.{Instruction, DoesWhat}
 use Rattle.ac_tree.specs.Lists.{lists_of}
 use Rattle.ac_tree.specs.Script.{Script, script_of}
 use Rattle.ac_tree.specs.declared.tree.Stmt.{Stmt}
-use Rattle.engine_frame.specs.Given.{asked, shows}
+use Rattle.engine_frame.specs.Given.{source_settings, shows}
 
 -- The statements of a source, its plan, its arguments, and its settings. (own)
 pub record Needed : Type 0 where
@@ -25,5 +25,5 @@ pub record IsAsked (n : Needed) : Type 0 where
   pub does : DoesWhat n.plan (script_in n)
   pub outputs : AreOutputs (lists_of (script_in n)).files (lists_of (script_in n)).headers
   pub environment : List (List ℕ × List ℕ)
-  pub asks : asked n.arguments environment (script_in n) ≡ Ok n.settings
+  pub asks : source_settings n.arguments environment (script_in n) ≡ Ok n.settings
   pub runs : shows n.settings ≡ false

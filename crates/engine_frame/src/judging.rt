@@ -10,7 +10,7 @@ ghost use Rattle.plan.specs.declared.fault.PlanFault.TheVariants.{TooLong};
 ghost use Rattle.ac_tree.specs.Lists.{lists_of};
 ghost use Rattle.ac_tree.specs.Script.{script_of};
 ghost use Rattle.engine_frame.specs.Faults.{Gives, named, of_option, wants};
-ghost use Rattle.engine_frame.specs.Given.{asked};
+ghost use Rattle.engine_frame.specs.Given.{source_settings};
 ghost use Rattle.engine_frame.specs.Judging.{RunsBelow, judgement, judged_of};
 ghost use Rattle.engine_frame.specs.declared.fault.Fault.TheVariants.{Plan as Unplanned};
 
@@ -60,14 +60,14 @@ fn settled(
 }
 
 /// Compiles the source, and then reads the arguments and the environment.
-#[tactic(auto, unfolding(crate::specs::Given::asked))]
-fn asked<'a>(
+#[tactic(auto, unfolding(crate::specs::Given::source_settings))]
+fn source_settings<'a>(
     alloc: Global,
     source: &'a Source,
     args: &[Bytes],
     env: &[(Bytes, Bytes)],
 ) -> Result<(Plan<'a>, Settings), Fault>
-    ensures exact { Gives (λ r. r.1) result (asked args.now env.now (script_of source.now)) }
+    ensures exact { Gives (λ r. r.1) result (source_settings args.now env.now (script_of source.now)) }
     ensures meaning { IfOk result (λ r. DoesWhat r.0 (script_of source.now)) }
     ensures directory { IfOk result (λ r. r.1.srcdir ≡ srcdir_of args.now) }
 {
@@ -94,7 +94,7 @@ pub fn judge<'a>(
     // The directory of the source is the one that the arguments name, also before they are judged.
     ensures directory { IfOk result (RunsBelow (srcdir_of args.now)) }
 {
-    let (plan, settings) = asked(alloc, source, args, env)?;
+    let (plan, settings) = source_settings(alloc, source, args, env)?;
     if settings.help || settings.version {
         let report = shown(alloc, source, settings)?;
         return Ok(Judged::Shows(report));

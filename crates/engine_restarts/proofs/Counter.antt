@@ -12,7 +12,7 @@ use Rattle.cachefile.specs.Line.{Setting}
 use Rattle.cachefile.specs.Name.{is_mark}
 use Rattle.cachefile.specs.Text.{line_for, saved_value, saved_entries, cache_text_of}
 use Rattle.cachefile.specs.Word.{word_of}
-use Rattle.options_line.specs.Arguments.{value_in, rest_after as rest_of, switch_of, switches, install_directory_of, target_of, package_of, choice_of, said_with_value, dashed_of, read_argument, given}
+use Rattle.options_line.specs.Arguments.{value_in, rest_after as rest_of, switch_of, switches, install_directory_of, target_of, package_of, choice_of, said_with_value, dashed_of, read_argument, settings_from}
 use Rattle.options_line.specs.CommandLine.{key_of, Switched}
 use Rattle.options_line.specs.Directories.{directories, variable_of, default_of, directory_named}
 use Rattle.options_line.specs.Slashes.{unslashed, without_slashes}
@@ -77,7 +77,7 @@ abbrev settings : Settings
 settings = run_settings precious (set_by (setters environment (Switched ConfigCache ∷ []))) (Switched ConfigCache ∷ []) []
 
 settles : (source : List ℕ) → settled script (call source) ≡ Ok settings
-unfolding cache_named source_directory setters set_by is_declared opened_by opening after_comma listed warning notes_of value_in rest_of switch_of switches install_directory_of target_of package_of choice_of said_with_value dashed_of read_argument given key_of directories variable_of default_of directory_named unslashed without_slashes after value_of with_entry with_name has_name parts_by parts fields
+unfolding cache_named source_directory setters set_by is_declared opened_by opening after_comma listed warning notes_of value_in rest_of switch_of switches install_directory_of target_of package_of choice_of said_with_value dashed_of read_argument settings_from key_of directories variable_of default_of directory_named unslashed without_slashes after value_of with_entry with_name has_name parts_by parts fields
 settles source = refl
 
 -- What calls compute with.

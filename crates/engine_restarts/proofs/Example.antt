@@ -7,7 +7,7 @@ use Rattle.cachefile.specs.Line.{rest_after, before_brace, sets_nothing, front_w
 use Rattle.cachefile.specs.Name.{is_mark}
 use Rattle.cachefile.specs.Text.{line_for, saved_entries, cache_text_of}
 use Rattle.cachefile.specs.Word.{step, value_from, word_of}
-use Rattle.options_line.specs.Arguments.{value_in, rest_after as rest_of, switch_of, switches, install_directory_of, target_of, package_of, choice_of, said_with_value, dashed_of, read_argument, given}
+use Rattle.options_line.specs.Arguments.{value_in, rest_after as rest_of, switch_of, switches, install_directory_of, target_of, package_of, choice_of, said_with_value, dashed_of, read_argument, settings_from}
 use Rattle.options_line.specs.CommandLine.{key_of, Switched}
 use Rattle.options_line.specs.Directories.{directories, variable_of, default_of, directory_named}
 use Rattle.options_line.specs.Kept.{kept_from}
@@ -19,13 +19,13 @@ use Rattle.conftest_source.specs.Sources.{ended, default_includes, header_source
 use Rattle.deftable.specs.CacheName.{has_cv, is_cache_name}
 use Rattle.deftable.specs.NameList.{with_name, has_name}
 use Rattle.deftable.specs.Table.{value_of, with_entry, without_entry}
-use Rattle.engine.specs.Judged.{judged}
+use Rattle.engine.specs.Judged.{acceptance}
 use Rattle.engine_frame.specs.Faults.{of_parse, named, ◌>>=◌}
-use Rattle.engine_frame.specs.Given.{answered, asked, present, started, Starts}
+use Rattle.engine_frame.specs.Given.{accepted_after, source_settings, present, started, Starts}
 use Rattle.engine_frame.specs.declared.starting.Start.{Start}
 use Rattle.crew_jobs.specs.Probe.{out_name, file_name, words_of, compile_words, link_words_with, conftest_text, run_of, job_of}
 use Rattle.meaning.specs.Directories.{directories_of}
-use Rattle.meaning.specs.Meaning.{effect, begun, is_taken, meaning, chosen}
+use Rattle.meaning.specs.Meaning.{effect, after_subject, is_taken, meaning, chosen}
 use Rattle.meaning.specs.Package.{escaped, initialised}
 use Rattle.meaning.specs.Play.{Played, play, whole}
 use Rattle.meaning.specs.State.{State, How, opened, Goes_on, Completed, Cut, Run}
@@ -177,12 +177,12 @@ abbrev start : Start
 start = record { cache_name = Some (codes "config.cache"); srcdir = codes "."; no_create = false; args = codes "-C" ∷ []; vars = begin_vars; notes = [] }
 
 first_accepted : (source : List ℕ) → source_of source ≡ Ok example → follows (call source) None ≡ Ok (Starts example start)
-unfolding judged answered asked present started cache_named source_directory setters set_by with_unslashed with_marks finished is_declared run_settings opened_by opening old_value blanks_note restored restored_variable restored_from checked after_comma listed warning notes_of value_in rest_of switch_of switches install_directory_of target_of package_of choice_of said_with_value dashed_of read_argument given key_of directories variable_of default_of directory_named kept_from unslashed without_slashes after value_of with_entry without_entry with_name has_name parts_by parts fields
-first_accepted source read = ap (λ r. named of_parse r >>= λ script. asked (call source).arguments (call source).environment script >>= answered (call source).arguments None [] script) read
+unfolding acceptance accepted_after source_settings present started cache_named source_directory setters set_by with_unslashed with_marks finished is_declared run_settings opened_by opening old_value blanks_note restored restored_variable restored_from checked after_comma listed warning notes_of value_in rest_of switch_of switches install_directory_of target_of package_of choice_of said_with_value dashed_of read_argument settings_from key_of directories variable_of default_of directory_named kept_from unslashed without_slashes after value_of with_entry without_entry with_name has_name parts_by parts fields
+first_accepted source read = ap (λ r. named of_parse r >>= λ script. source_settings (call source).arguments (call source).environment script >>= accepted_after (call source).arguments None [] script) read
 
 -- What runs compute with.
 on_values : Unit {0}
-unfolding cache_named source_directory setters set_by with_unslashed with_marks finished is_declared run_settings opened_by opening directories variable_of default_of directory_named value_of with_entry without_entry effect begun is_taken meaning chosen directories_of out_name file_name words_of compile_words link_words_with conftest_text run_of job_of ended default_includes header_source function_source truth word_value parts_by parts fields escaped initialised is_mark has_cv is_cache_name line_for word_of
+unfolding cache_named source_directory setters set_by with_unslashed with_marks finished is_declared run_settings opened_by opening directories variable_of default_of directory_named value_of with_entry without_entry effect after_subject is_taken meaning chosen directories_of out_name file_name words_of compile_words link_words_with conftest_text run_of job_of ended default_includes header_source function_source truth word_value parts_by parts fields escaped initialised is_mark has_cv is_cache_name line_for word_of
 on_values = tt
 
 -- ---- the first call
@@ -233,8 +233,8 @@ abbrev second : Start
 second = record start { vars = vars_after (map setting_of (saved_entries first_run.state.vars)) begin_vars }
 
 second_accepted : (source : List ℕ) → source_of source ≡ Ok example → follows (call source) (Some (cache_text_of first_run.state.vars)) ≡ Ok (Starts example second)
-unfolding on_values judged answered asked present started old_value blanks_note restored restored_variable restored_from checked after_comma listed warning notes_of value_in rest_of switch_of switches install_directory_of target_of package_of choice_of said_with_value dashed_of read_argument given key_of kept_from unslashed without_slashes after with_name has_name entry_of lines_from cache_of rest_after before_brace sets_nothing front_word default_setting assigned_setting assignment guarded_setting setting_in line_of step value_from
-second_accepted source read = ap (λ r. named of_parse r >>= λ script. asked (call source).arguments (call source).environment script >>= answered (call source).arguments (Some (cache_text_of first_run.state.vars)) [] script) read
+unfolding on_values acceptance accepted_after source_settings present started old_value blanks_note restored restored_variable restored_from checked after_comma listed warning notes_of value_in rest_of switch_of switches install_directory_of target_of package_of choice_of said_with_value dashed_of read_argument settings_from key_of kept_from unslashed without_slashes after with_name has_name entry_of lines_from cache_of rest_after before_brace sets_nothing front_word default_setting assigned_setting assignment guarded_setting setting_in line_of step value_from
+second_accepted source read = ap (λ r. named of_parse r >>= λ script. source_settings (call source).arguments (call source).environment script >>= accepted_after (call source).arguments (Some (cache_text_of first_run.state.vars)) [] script) read
 
 abbrev second_run : Played
 second_run = played example (opened second.vars) (good ∷ [])

@@ -7,9 +7,9 @@ use Rattle.cachefile.specs.Line.{Setting}
 use Rattle.cachefile.proofs.Orders.{Entries}
 use Rattle.options_line.specs.Kept.{kept_args}
 use Rattle.deftable.specs.declared.note.Note.{Note}
-use Rattle.engine.specs.Judged.{judged}
+use Rattle.engine.specs.Judged.{acceptance}
 use Rattle.engine_frame.specs.Faults.{of_parse, of_option, of_precious, named, ◌>>=◌, wants}
-use Rattle.engine_frame.specs.Given.{Accepted, Shows, Starts, answered, asked, old_of, present, shows, started}
+use Rattle.engine_frame.specs.Given.{Accepted, Shows, Starts, accepted_after, source_settings, old_of, present, shows, started}
 use Rattle.engine_frame.specs.declared.starting.Start.{Start}
 use Rattle.engine_frame.specs.declared.fault.Fault.{Fault}
 use Rattle.engine_frame.specs.declared.fault.Fault.TheVariants.{Plan}
@@ -91,25 +91,25 @@ abbrev chosen : Given → Option (List ℕ) → Script → Settings → Bool →
 chosen given cache script settings b = if b then Ok (Shows script settings) else (started given.arguments cache given.templates script settings >>= begun script)
 
 abbrev opened : Given → Option (List ℕ) → Script → Settings → Result Accepted Fault
-opened given cache script settings = answered given.arguments cache given.templates script settings
+opened given cache script settings = accepted_after given.arguments cache given.templates script settings
 
 abbrev parsed : Given → Option (List ℕ) → Script → Result Accepted Fault
-parsed given cache script = asked given.arguments given.environment script >>= opened given cache script
+parsed given cache script = source_settings given.arguments given.environment script >>= opened given cache script
 
 is_started : (given : Given) (cache : Option (List ℕ)) (script : Script) (settings : Settings) → started given.arguments cache given.templates script settings ≡ (old_of settings.cache_name cache >>= poured given script settings)
 unfolding started
 is_started given cache script settings = refl
 
-is_asked : (given : Given) (script : Script) → asked given.arguments given.environment script ≡ (wants (nat_le (weight script) heaviest) (Plan TooLong) >>= λ _. settled script given)
-unfolding asked
+is_asked : (given : Given) (script : Script) → source_settings given.arguments given.environment script ≡ (wants (nat_le (weight script) heaviest) (Plan TooLong) >>= λ _. settled script given)
+unfolding source_settings
 is_asked given script = refl
 
 is_opened : (given : Given) (cache : Option (List ℕ)) (script : Script) (settings : Settings) → opened given cache script settings ≡ chosen given cache script settings (shows settings)
-unfolding answered
+unfolding accepted_after
 is_opened given cache script settings = refl
 
 is_followed : (given : Given) (cache : Option (List ℕ)) → follows given cache ≡ (named of_parse (source_of given.source) >>= parsed given cache)
-unfolding judged
+unfolding acceptance
 is_followed given cache = refl
 
 -- ---- all steps
@@ -132,7 +132,7 @@ follows_so given cache script settings old left read light settles runs there re
     (ok_bind (present settings.no_create given.templates (lists_of script).files (lists_of script).headers) (ended given settings old left) tt begins there refl)) in
     is_followed given cache
     ∙ ok_bind (named of_parse (source_of given.source)) (parsed given cache) script answer (ap (named of_parse) read)
-    (ok_bind (asked given.arguments given.environment script) (opened given cache script) settings answer
+    (ok_bind (source_settings given.arguments given.environment script) (opened given cache script) settings answer
     (is_asked given script ∙ ok_bind (wants (nat_le (weight script) heaviest) (Plan TooLong)) (λ _. settled script given) tt settings light settles)
     (is_opened given cache script settings ∙ ap (chosen given cache script settings) runs
     ∙ ok_bind (started given.arguments cache given.templates script settings) (begun script) begins answer starts refl))
@@ -193,7 +193,7 @@ way_by given cache script final start same read light settings settles runs star
 pub way : (given : Given) (cache : Option (List ℕ)) (script : Script) (start : Start) → follows given cache ≡ Ok (Starts script start) → Way given cache script start
 way given cache script start e =
     let read = bind_ok (named of_parse (source_of given.source)) (parsed given cache) (Starts script start) (sym (is_followed given cache) ∙ e) in
-    let asks = bind_ok (asked given.arguments given.environment read.0) (opened given cache read.0) (Starts script start) read.1.1 in
+    let asks = bind_ok (source_settings given.arguments given.environment read.0) (opened given cache read.0) (Starts script start) read.1.1 in
     let light = bind_ok (wants (nat_le (weight read.0) heaviest) (Plan TooLong)) (λ _. settled read.0 given) asks.0 (sym (is_asked given read.0) ∙ asks.1.0) in
     let c = choice_steps given cache read.0 asks.0 (shows asks.0) script start (sym (is_opened given cache read.0 asks.0) ∙ asks.1.1) in
     subst (λ s. Way given cache s start) c.same (way_by given cache read.0 script start c.same (named_ok of_parse (source_of given.source) read.0 read.1.0) light.1.0 asks.0 light.1.1 c.runs c.is)

@@ -1,7 +1,7 @@
 -- With what variables a run is opened: the precious ones are marked.
 use Rattle.std.proofs.Common.{◌≡◌, ℕ, List, None, Ok, sym, ap}
 use Rattle.cachefile.proofs.Orders.{Entries}
-use Rattle.options_line.specs.Arguments.{given}
+use Rattle.options_line.specs.Arguments.{settings_from}
 use Rattle.options_line.specs.CommandLine.{Setting}
 use Rattle.options.specs.Opening.{setters, set_by, finished, run_settings, opened_by, opening}
 use Rattle.options.specs.declared.settings.Settings.{Settings}
@@ -21,5 +21,5 @@ opened features packages precious environment ss settings e =
 pub opening_finished : (features packages precious arguments : List (List ℕ)) (environment : Entries) (settings : Settings) → opening features packages precious arguments environment ≡ Ok settings → AreFinished precious settings.vars
 unfolding opening
 opening_finished features packages precious arguments environment settings e =
-    let ss = bind_ok (given None 0 arguments) (opened_by features packages precious environment) settings e in
+    let ss = bind_ok (settings_from None 0 arguments) (opened_by features packages precious environment) settings e in
     opened features packages precious environment ss.0 settings ss.1.1

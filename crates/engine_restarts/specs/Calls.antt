@@ -7,7 +7,7 @@ use Rattle.crew_trait.specs.declared.reply.Reply.{Reply}
 use Rattle.crew_trait.specs.Events.{Account, replies_in}
 use Rattle.deftable.specs.NameList.{has_name}
 use Rattle.engine.specs.Configured.{IsMeant}
-use Rattle.engine.specs.Judged.{judged}
+use Rattle.engine.specs.Judged.{acceptance}
 use Rattle.engine.specs.Told.{outcome_of}
 use Rattle.engine_frame.specs.Given.{Accepted, Starts}
 use Rattle.engine_frame.specs.declared.starting.Start.{Start}
@@ -33,7 +33,7 @@ pub record Given : Type 0 where
 
 -- What follows from what a call is given, with this cache. (own)
 abbrev pub follows : Given → Option (List ℕ) → Result Accepted Fault
-follows given cache = judged given.source given.arguments given.environment cache given.templates
+follows given cache = acceptance given.source given.arguments given.environment cache given.templates
 
 -- The replies to the children of a run, in the order of its jobs. (own)
 abbrev pub replies_to : {window : ℕ} {script : Script} {start : Start} {now : Account} {report : Report} → (before : Account) → IsMeant window script start before now report → List Reply

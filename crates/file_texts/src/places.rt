@@ -64,7 +64,11 @@ fn place_of<D: Disk>(alloc: Global, disk: &D, name: &str) -> io::Result<FilePlac
 
 /// Returns the place of a name, or `None` if there is no such directory, or the system refuses to
 /// look. Fails only if memory runs out.
-fn place_if_there<D: Disk>(alloc: Global, disk: &D, name: &str) -> Result<Option<FilePlace>, AllocError>
+fn place_if_there<D: Disk>(
+    alloc: Global,
+    disk: &D,
+    name: &str,
+) -> Result<Option<FilePlace>, AllocError>
     ensures { IfOk result
         (λ place. IfSome (D.known disk.now) (λ k. place ≡ place_under k name.now)) }
 {

@@ -16,7 +16,7 @@ ghost use Rattle.file_texts.specs.Steps.{IsReplaced, IsBegun, directories_for};
 use crate::lines::{Saying, say, saying_of};
 use crate::links::end_of;
 use crate::names::{directory_of, file_name, no_name};
-use crate::places::{Guard, FilePlace, add_place, guard_of, held_error, is_held};
+use crate::places::{FilePlace, Guard, add_place, guard_of, held_error, is_held};
 use crate::reading::read_text;
 use crate::writing::{Keeps, write_new, write_text};
 use crew_refusals::words_of;

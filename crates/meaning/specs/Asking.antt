@@ -5,7 +5,7 @@ use Rattle.crew_jobs.specs.declared.job.Job.{Job}
 use Rattle.crew_trait.specs.declared.reply.Reply.{Reply}
 use Rattle.crew_trait.specs.declared.reply.Reply.TheVariants.{Answer, StartRefused, EndRefused}
 use Rattle.deftable.specs.declared.note.Stream.TheVariants as streams
-use Rattle.meaning.specs.State.{State, told, with_child, How, Run, Ends, Asks, Cut, Stopped}
+use Rattle.meaning.specs.State.{State, with_note, with_child, How, Run, Ends, Asks, Cut, Stopped}
 
 -- Whether a child succeeded, if it answered. (own)
 abbrev pub success : Reply → Option Bool
@@ -19,13 +19,13 @@ only_reply [] = StartRefused
 only_reply (reply ∷ more) = reply
 
 -- The run continues with whether a child succeeded; a refused reply is no answer, and cuts the run short. (own)
-abbrev pub heard : (How → State → State) → Option Bool → State → (Bool → State → Run) → Run
-heard early None st go = Ends Cut (early Cut st)
-heard early (Some succeeded) st go = go succeeded st
+abbrev pub after_child : (How → State → State) → Option Bool → State → (Bool → State → Run) → Run
+after_child early None st go = Ends Cut (early Cut st)
+after_child early (Some succeeded) st go = go succeeded st
 
 -- The run asks for one child, which the log gets with its reply. (own)
 abbrev pub child : (How → State → State) → Job → State → (Bool → State → Run) → Run
-child early job st go = Asks (job ∷ []) (λ replies. heard early (success (only_reply replies)) (with_child job (only_reply replies) st) go)
+child early job st go = Asks (job ∷ []) (λ replies. after_child early (success (only_reply replies)) (with_child job (only_reply replies) st) go)
 
 -- The line of a run that wants a compiler, and has none. (Autoconf's manual, "Running the Compiler")
 abbrev pub no_compiler : List ℕ
@@ -34,7 +34,7 @@ no_compiler = codes "configure: error: no acceptable C compiler found in $PATH\n
 -- If a compiler is wanted and there is none, the run prints that line and stops with status 1. (Autoconf's manual,
 -- "Running the Compiler")
 abbrev pub without_compiler : (How → State → State) → State → Run
-without_compiler early st = Ends (Stopped 1) (early (Stopped 1) (told streams.Err no_compiler st))
+without_compiler early st = Ends (Stopped 1) (early (Stopped 1) (with_note streams.Err no_compiler st))
 
 -- The run asks for one child that needs a compiler. (Autoconf's manual, "Running the Compiler")
 abbrev pub compiled : (How → State → State) → Option Job → State → (Bool → State → Run) → Run

@@ -7,7 +7,7 @@ use Rattle.crew_trait.specs.declared.reply.Reply.{Reply}
 use Rattle.deftable.specs.Table.{value_of}
 use Rattle.shellword.specs.declared.part.Part.{Part}
 use Rattle.meaning.specs.State.{State, with_child, with_variable, Goes_on, Completed, Stopped, Cut, Run, Ends, Asks, as_is}
-use Rattle.meaning.specs.Asking.{success, only_reply, heard}
+use Rattle.meaning.specs.Asking.{success, only_reply, after_child}
 use Rattle.ac_tree.specs.declared.listed.Listed.{Listed}
 use Rattle.meaning.specs.Rows.{Single, entry_name, entry_job, row_of}
 use Rattle.meaning.specs.Tests.{Row, tested}
@@ -58,7 +58,7 @@ yes_or_no false = codes "no"
 abbrev pub replied : List ℕ → Option Job → Reply → State → Run
 replied name None reply st = Ends Cut st
 replied name (Some job) reply st =
-    heard as_is (success reply) (with_child job reply st) (λ found now. Ends Goes_on (with_variable name (yes_or_no found) now))
+    after_child as_is (success reply) (with_child job reply st) (λ found now. Ends Goes_on (with_variable name (yes_or_no found) now))
 
 -- The replies after that of an entry. (own)
 abbrev pub replies_after : Option Job → List Reply → List Reply

@@ -23,7 +23,7 @@ use Rattle.ac_tree.specs.declared.tree.When.TheVariants.{Holds, Matches, Yes, No
 use Rattle.ac_tree.specs.Script.{Script, Done, Then, Choice, Check, Cases, No_case, Case}
 use Rattle.ac_tree.specs.TestNames.{program_name, path_name}
 use Rattle.meaning.specs.Package.{initialised}
-use Rattle.meaning.specs.Messages.{said}
+use Rattle.meaning.specs.Messages.{with_message}
 use Rattle.meaning.specs.State.{State, Scope, no_choice, about, answered, with_variable, with_definition, How, as_is, Run, Ends, Goes_on, Completed, Stopped, then_run, ended}
 use Rattle.meaning.specs.Rows as rows
 use Rattle.meaning.specs.Rows.{TestKind, Program, Library, Libraries, kind_for, name_of, is_found, value_or_empty, value_if, row_of}
@@ -107,8 +107,8 @@ effect effects.Nothing st = Ends Goes_on st
 effect (Assign name value) st = Ends Goes_on (with_variable name (word_value value st.vars) st)
 effect (Define name value) st = Ends Goes_on (with_definition name value st)
 effect (DefineText name value) st = Ends Goes_on (with_definition name (word_value value st.vars) st)
-effect (Print message text) st = Ends Goes_on (said message (word_value text st.vars) st)
-effect (Stop text status) st = Ends (Stopped status) (said Error (word_value text st.vars) st)
+effect (Print message text) st = Ends Goes_on (with_message message (word_value text st.vars) st)
+effect (Stop text status) st = Ends (Stopped status) (with_message Error (word_value text st.vars) st)
 effect (Package title version bug tarname url) st = Ends Goes_on (initialised title version bug tarname url st)
 effect (Search variable program (Text found) otherwise) st =
     program_test (check_prog variable program (word_value found st.vars) (option_map (λ t. word_value t st.vars) otherwise)) (has_value st variable) st
@@ -126,9 +126,9 @@ value_name Feature = codes "enableval"
 value_name Package = codes "withval"
 
 -- An option is given if its variable is set. (Autoconf's manual, "Choosing Package Options")
-abbrev pub given : Option (List ℕ) → OptionKind → State → (Scope → State → Run) → Run
-given None kind st go = go (answered false) st
-given (Some value) kind st go = go (answered true) (with_variable (value_name kind) value st)
+abbrev pub after_option : Option (List ℕ) → OptionKind → State → (Scope → State → Run) → Run
+after_option None kind st go = go (answered false) st
+after_option (Some value) kind st go = go (answered true) (with_variable (value_name kind) value st)
 
 -- A test as a question: whether it has found what it looks for. (Autoconf's manual, "Existing Tests" and "Library Files")
 abbrev pub found_by : (How → State → State) → TestKind → State → (Scope → State → Run) → Run
@@ -144,20 +144,20 @@ first_found early sought (entry ∷ more) includes st go = found_by early (kind_
 -- A question, and how the run continues with the answer: an option is given if its variable is set, a program that is
 -- tried passes if its children succeed, and an entry or a library is found by its test. (Autoconf's manual, "Running the
 -- Compiler", "Existing Tests" and "Library Files")
-abbrev pub asked : (How → State → State) → asks.Question → State → (Scope → State → Run) → Run
-asked early (Tries kind program) st go = tried early kind (text_of program st.vars) st (λ passed. go (answered passed))
-asked early (Given kind variable) st go = given (value_of st.vars variable) kind st go
-asked early (Checks sought entry includes) st go = found_by early (kind_for sought entry includes false) st go
-asked early (ChecksEach sought entries includes) st go = first_found early sought entries includes st go
-asked early (questions.Library library function others adds) st go = found_by early (Library library function others adds) st go
-asked early (questions.Libraries function libraries others) st go = found_by early (Libraries function libraries others) st go
+abbrev pub after_question : (How → State → State) → asks.Question → State → (Scope → State → Run) → Run
+after_question early (Tries kind program) st go = tried early kind (text_of program st.vars) st (λ passed. go (answered passed))
+after_question early (Given kind variable) st go = after_option (value_of st.vars variable) kind st go
+after_question early (Checks sought entry includes) st go = found_by early (kind_for sought entry includes false) st go
+after_question early (ChecksEach sought entries includes) st go = first_found early sought entries includes st go
+after_question early (questions.Library library function others adds) st go = found_by early (Library library function others adds) st go
+after_question early (questions.Libraries function libraries others) st go = found_by early (Libraries function libraries others) st go
 
 -- A choice begins with its subject: nothing, the value of a word, or the answer to a question; `early` changes the state
 -- of a run that ends here. (own)
-unfoldable pub begun : (How → State → State) → Subject → State → (Scope → State → Run) → Run
-begun early Nothing st go = go no_choice st
-begun early (Word word) st go = go (about (word_value word st.vars)) st
-begun early (Asked question) st go = asked early question st go
+unfoldable pub after_subject : (How → State → State) → Subject → State → (Scope → State → Run) → Run
+after_subject early Nothing st go = go no_choice st
+after_subject early (Word word) st go = go (about (word_value word st.vars)) st
+after_subject early (Asked question) st go = after_question early question st go
 
 -- The rounds of a question, each a question of its own: a list has one for each entry. (Autoconf's manual, "Generic
 -- Headers" to "Generic Types")
@@ -173,7 +173,7 @@ rounds_of subject = subject ∷ []
 -- Rounds, one after the other, each with what follows its beginning. (own)
 abbrev pub in_turn : List Subject → (Scope → State → Run) → State → Run
 in_turn [] go st = Ends Goes_on st
-in_turn (subject ∷ more) go st = then_run (begun as_is subject st go) (in_turn more go)
+in_turn (subject ∷ more) go st = then_run (after_subject as_is subject st go) (in_turn more go)
 
 -- A case is taken if its test holds, if one of its patterns matches the value of the subject, if it is for the answer,
 -- or if it is the default. (Autoconf's manual, "Common Shell Constructs")

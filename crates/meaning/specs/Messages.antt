@@ -4,7 +4,7 @@ use Rattle.deftable.specs.declared.note.Stream.{Stream}
 use Rattle.deftable.specs.declared.note.Stream.TheVariants.{Out, Err}
 use Rattle.ac_tree.specs.declared.statement.Message.{Message}
 use Rattle.ac_tree.specs.declared.statement.Message.TheVariants.{Checking, Results, Notice, Warning, Error}
-use Rattle.meaning.specs.State.{State, told}
+use Rattle.meaning.specs.State.{State, with_note}
 
 -- The stream to which a message is printed, and the texts before and after its own.
 pub record Form : Type 0 where
@@ -22,5 +22,5 @@ form_of Warning = record { stream = Err; before = codes "configure: WARNING: "; 
 form_of Error = record { stream = Err; before = codes "configure: error: "; after = codes "\n" }
 
 -- A message is printed. (Autoconf's manual, "Printing Messages")
-abbrev pub said : Message → List ℕ → State → State
-said message text st = told (form_of message).stream ((form_of message).before ++ text ++ (form_of message).after) st
+abbrev pub with_message : Message → List ℕ → State → State
+with_message message text st = with_note (form_of message).stream ((form_of message).before ++ text ++ (form_of message).after) st

@@ -3,7 +3,7 @@ use Rattle.std.specs.Prelude.{ℕ, suc, ◌+◌, Bool, List, [], ◌∷◌, ◌+
 use Rattle.crew_jobs.specs.declared.job.Job.{Job}
 use Rattle.crew_trait.specs.declared.reply.Reply.{Reply}
 use Rattle.deftable.specs.declared.note.Stream.TheVariants as streams
-use Rattle.meaning.specs.State.{State, told, How, Goes_on, Completed, Stopped, Cut, Run, Ends, Asks}
+use Rattle.meaning.specs.State.{State, with_note, How, Goes_on, Completed, Stopped, Cut, Run, Ends, Asks}
 use Rattle.meaning.specs.Asking.{success}
 
 -- How a run ends, in which state, and the groups of jobs that it asks for. (own)
@@ -52,7 +52,7 @@ cut_line number = codes "configure: cut short at child " ++ decimal number ++ co
 -- The state of a run that is cut short, with its line. (own)
 abbrev pub with_cut_line : Option ℕ → State → State
 with_cut_line None st = st
-with_cut_line (Some number) st = told streams.Err (cut_line number) st
+with_cut_line (Some number) st = with_note streams.Err (cut_line number) st
 
 -- A run that records at its end at which child it was cut short: so many jobs were asked for before, and `refused` is the
 -- number of the first refused child among them. (own)

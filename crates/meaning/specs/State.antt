@@ -25,8 +25,8 @@ abbrev pub piece : Stream → List ℕ → Note
 piece stream text = record { stream = stream; text = text }
 
 -- A piece is added to the messages, and to the log. (own)
-abbrev pub told : Stream → List ℕ → State → State
-told stream text st = record st { messages = st.messages ++ piece stream text ∷ []; log = st.log ++ Said (piece stream text) ∷ [] }
+abbrev pub with_note : Stream → List ℕ → State → State
+with_note stream text st = record st { messages = st.messages ++ piece stream text ∷ []; log = st.log ++ Said (piece stream text) ∷ [] }
 
 -- A child is added to the log, with the reply to its job. (own)
 abbrev pub with_child : Job → Reply → State → State

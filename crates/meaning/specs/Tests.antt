@@ -3,8 +3,8 @@ use Rattle.std.specs.Prelude.{ℕ, Bool, true, false, List, ◌++◌, Option, So
 use Rattle.deftable.specs.declared.note.Stream.TheVariants as streams
 use Rattle.deftable.specs.Table.{value_of}
 use Rattle.ac_tree.specs.declared.statement.Message.TheVariants.{Checking, Results}
-use Rattle.meaning.specs.Messages.{said}
-use Rattle.meaning.specs.State.{State, told, with_variable, without_variable, How, Goes_on, Completed, Stopped, Cut, Run, Ends, then_run, ended, as_is}
+use Rattle.meaning.specs.Messages.{with_message}
+use Rattle.meaning.specs.State.{State, with_note, with_variable, without_variable, How, Goes_on, Completed, Stopped, Cut, Run, Ends, then_run, ended, as_is}
 use Rattle.meaning.specs.Asking.{Attempt, attempted, without_compiler}
 
 -- A cached test: the name that its value is kept under, what is checked, the run that finds the value, and what is
@@ -20,7 +20,7 @@ abbrev pub broken : List ℕ → How → State → State
 broken name Goes_on st = st
 broken name Completed st = without_variable name st
 broken name (Stopped status) st = without_variable name st
-broken name Cut st = told streams.Out (codes "refused\n") (without_variable name st)
+broken name Cut st = with_note streams.Out (codes "refused\n") (without_variable name st)
 
 -- The run of a test, with that done. (own)
 abbrev pub guarded : List ℕ → Run → Run
@@ -28,11 +28,11 @@ guarded name run = ended (broken name) run
 
 -- The piece with which a test begins. (Autoconf's manual, "Printing Messages")
 abbrev pub checking : List ℕ → State → State
-checking message st = said Checking message st
+checking message st = with_message Checking message st
 
 -- The piece with which a test ends. (Autoconf's manual, "Printing Messages")
 abbrev pub with_result : List ℕ → State → State
-with_result text st = said Results text st
+with_result text st = with_message Results text st
 
 -- A test, given the value of its name: if the name is set, its value counts, and the body is not run. (Autoconf's
 -- manual, "Caching Results")

@@ -22,13 +22,13 @@ use Rattle.ac_tree.specs.declared.tree.Subject.TheVariants.{Nothing, Word, Asked
 use Rattle.ac_tree.specs.Commands.{AreCommands, HasCommands, HasCommandsIn}
 use Rattle.ac_tree.specs.Script.{Script, Done, Then, Choice, Check, Cases, No_case, Case}
 use Rattle.meaning.specs.State.{State, Scope, no_choice, about, answered, Goes_on, Completed, Cut, Run, Ends, Asks, then_run, ended, as_is, with_child, with_variable}
-use Rattle.meaning.specs.Asking.{success, only_reply, heard, child, compiled}
+use Rattle.meaning.specs.Asking.{success, only_reply, after_child, child, compiled}
 use Rattle.meaning.specs.Tests.{checking, cached_test, tested}
 use Rattle.meaning.specs.Rows.{TestKind, Program, Library, Libraries, kind_for, is_found, name_of, value_or_empty, value_if, row_of}
 use Rattle.meaning.specs.Package.{package_string, initialised}
 use Rattle.meaning.specs.Play.{play, first_number, refused_after, last_words}
 use Rattle.meaning.specs.Tries.{first_probe, after_first, text_of}
-use Rattle.meaning.specs.Meaning.{settled, is_unsettled, has_value, check_prog, looks, looks_all, defaulted, effect, value_name, given, found_by, first_found, begun, rounds_of, in_turn, is_taken, check, meaning, chosen}
+use Rattle.meaning.specs.Meaning.{settled, is_unsettled, has_value, check_prog, looks, looks_all, defaulted, effect, value_name, after_option, found_by, first_found, after_subject, rounds_of, in_turn, is_taken, check, meaning, chosen}
 use Rattle.meaning_laws.specs.Ends.{AtEnds}
 use Rattle.meaning_laws.specs.Commands.{WritesOwn}
 use Rattle.meaning_laws.specs.Questions.{yes_or_no}
@@ -95,7 +95,7 @@ abbrev FollowChoice : (Scope → State → Run) → (Scope → State → List Re
 FollowChoice go did = (scope : Scope) → Follow (go scope) (did scope)
 
 given_accounts : (o : Option (List ℕ)) (kind : OptionKind) (st : State) (rs : List Reply) (go : Scope → State → Run) (did : Scope → State → List Reply → List Deed) → FollowChoice go did
-    → Accounts st.vars (given_deeds o kind ++ deeds_answered (given o kind st yes_or_no) rs did) (play (given o kind st go) rs).state.vars
+    → Accounts st.vars (given_deeds o kind ++ deeds_answered (after_option o kind st yes_or_no) rs did) (play (after_option o kind st go) rs).state.vars
 given_accounts None kind st rs go did y = y (answered false) st rs
 given_accounts (Some value) kind st rs go did y =
     let now = with_variable (value_name kind) value st in
@@ -106,7 +106,7 @@ given_accounts (Some value) kind st rs go did y =
 abbrev Answers : Variables → (Scope → State → List Reply → List Deed) → Run → Run → Type 0
 Answers before did asking run = (rs : List Reply) → Accounts before (deeds_answered asking rs did) (play run rs).state.vars
 
-heard_answers : (did : Scope → State → List Reply → List Deed) (answer : Option Bool) (st : State) (f g : Bool → State → Run) → ((b : Bool) (now : State) → Answers now.vars did (f b now) (g b now)) → Answers st.vars did (heard as_is answer st f) (heard as_is answer st g)
+heard_answers : (did : Scope → State → List Reply → List Deed) (answer : Option Bool) (st : State) (f g : Bool → State → Run) → ((b : Bool) (now : State) → Answers now.vars did (f b now) (g b now)) → Answers st.vars did (after_child as_is answer st f) (after_child as_is answer st g)
 heard_answers did None st f g k = λ rs. nothing st.vars
 heard_answers did (Some b) st f g k = k b st
 
@@ -157,8 +157,8 @@ first_accounts sought [] includes st rs go did y = y (answered false) st rs
 first_accounts sought (entry ∷ more) includes st rs go did y = found_accounts (kind_for sought entry includes true) st rs go did y
 
 subject_accounts : (subject : Subject) (st : State) (rs : List Reply) (go : Scope → State → Run) (did : Scope → State → List Reply → List Deed) → FollowChoice go did
-    → Accounts st.vars (subject_deeds subject st rs did) (play (begun as_is subject st go) rs).state.vars
-unfolding begun
+    → Accounts st.vars (subject_deeds subject st rs did) (play (after_subject as_is subject st go) rs).state.vars
+unfolding after_subject
 subject_accounts Nothing st rs go did y = y no_choice st rs
 subject_accounts (Word word) st rs go did y = y (about (word_value word st.vars)) st rs
 subject_accounts (Asked (Given kind variable)) st rs go did y = given_accounts (value_of st.vars variable) kind st rs go did y
@@ -173,7 +173,7 @@ subject_accounts (Asked (questions.Libraries function libraries others)) st rs g
 turns_account : (rounds : List Subject) (go : Scope → State → Run) (did : Scope → State → List Reply → List Deed) → FollowChoice go did → Follow (in_turn rounds go) (turn_deeds rounds go did)
 turns_account [] go did y st rs = nothing st.vars
 turns_account (subject ∷ more) go did y st rs =
-    then_accounts (begun as_is subject st go) rs st.vars (subject_deeds subject st rs did) (in_turn more go) (turn_deeds more go did) (subject_accounts subject st rs go did y) (turns_account more go did y)
+    then_accounts (after_subject as_is subject st go) rs st.vars (subject_deeds subject st rs did) (in_turn more go) (turn_deeds more go did) (subject_accounts subject st rs go did y) (turns_account more go did y)
 
 -- AC_CACHE_CHECK.
 check_accounts : (message : List Part) (name : List ℕ) (commands : Script) (st : State) (rs : List Reply) → AreCommands name commands

@@ -13,7 +13,7 @@ use Rattle.deftable.specs.declared.note.Note.{Note}
 use Rattle.deftable.specs.declared.note.Stream.TheVariants.{Out}
 use Rattle.ac_tree.specs.declared.listed.Listed.{Listed}
 use Rattle.ac_tree.specs.declared.listed.Listed.TheVariants.{Header, Function, Declaration}
-use Rattle.meaning.specs.State.{piece, told, with_child, with_variable, State, How, Goes_on, Cut, Run, Ends, then_run, as_is}
+use Rattle.meaning.specs.State.{piece, with_note, with_child, with_variable, State, How, Goes_on, Cut, Run, Ends, then_run, as_is}
 use Rattle.meaning.specs.Asking.{success, only_reply, without_compiler}
 use Rattle.meaning.specs.Tests.{guarded, checking, with_result, with_value, Row, tested_by, may_begin, tested}
 use Rattle.meaning.specs.Rows.{Single, entry_name, entry_message, symbol_part, defined_if, with_entry_defined, is_yes, row_of}
@@ -136,7 +136,7 @@ unset_said listed entry job value before e =
 abbrev begins : Batch → List ℕ → State → State
 begins batch entry now = checking (entry_message batch.listed entry) now
 
-told_kids : (text : List ℕ) (st : State) → children_of (told Out text st).log ≡ children_of st.log
+told_kids : (text : List ℕ) (st : State) → children_of (with_note Out text st).log ≡ children_of st.log
 told_kids text st = said st.log (piece Out text)
 
 begins_kids : (batch : Batch) (entry : List ℕ) (now : State) → children_of (begins batch entry now).log ≡ children_of now.log

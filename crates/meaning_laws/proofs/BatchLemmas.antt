@@ -12,7 +12,7 @@ use Rattle.deftable.specs.declared.note.Stream.TheVariants.{Err}
 use Rattle.shellword.specs.declared.part.Part.{Part}
 use Rattle.ac_tree.specs.declared.listed.Listed.{Listed}
 use Rattle.ac_tree.specs.declared.listed.Listed.TheVariants.{Header, Function, Declaration}
-use Rattle.meaning.specs.State.{piece, told, State, Goes_on, Stopped, Run, Ends}
+use Rattle.meaning.specs.State.{piece, with_note, State, Goes_on, Stopped, Run, Ends}
 use Rattle.meaning.specs.Asking.{success, only_reply, no_compiler}
 use Rattle.meaning.specs.Rows.{entry_name, entry_job}
 use Rattle.meaning.specs.Batches.{Batch, is_known, job_for, asks_all, asking, jobs_in, replies_after, commits, committed}
@@ -268,8 +268,8 @@ stops batch first c (entry ∷ more) place earlier replies now same logged =
     (λ e.
     let here : is_some (value_of first.vars name) ≡ false = ap is_some (ap (λ l. value_of l name) (sym same) ∙ e) in
     record {
-      now = told Err no_compiler now;
-      is = ap (λ run. commits run false rest) (unset_stops r now e (ap is_some (lacks_job batch.listed entry batch.includes 0 first c))) ∙ ap (λ b. Ends (cond b Goes_on (Stopped 1)) (told Err no_compiler now)) (sym (cond_false (is_some (value_of first.vars name)) (all_set batch more first) false here));
+      now = with_note Err no_compiler now;
+      is = ap (λ run. commits run false rest) (unset_stops r now e (ap is_some (lacks_job batch.listed entry batch.includes 0 first c))) ∙ ap (λ b. Ends (cond b Goes_on (Stopped 1)) (with_note Err no_compiler now)) (sym (cond_false (is_some (value_of first.vars name)) (all_set batch more first) false here));
       vars = same;
       logged = said now.log (piece Err no_compiler) ∙ logged;
     })

@@ -14,7 +14,7 @@ use Rattle.meaning.specs.State.{State, Scope, answered, How, Goes_on, Run, as_is
 use Rattle.meaning.specs.Tests.{Test, broken, checking, cached_test, with_value, tested_by, may_begin}
 use Rattle.meaning.specs.Rows.{TestKind, name_of, attempts_of, otherwise_of, row_of}
 use Rattle.meaning.specs.Tries.{first_probe, text_of}
-use Rattle.meaning.specs.Meaning.{effect, begun, rounds_of, in_turn, is_taken, check, meaning, chosen}
+use Rattle.meaning.specs.Meaning.{effect, after_subject, rounds_of, in_turn, is_taken, check, meaning, chosen}
 use Rattle.meaning_laws.specs.Ends.{AtEnds, Breaks}
 use Rattle.meaning_laws.specs.Cached.{IsUnset}
 use Rattle.meaning_laws.specs.Commands.{WritesOwn, SameIfBroken, BrokenLeavesVariables, BrokenRowLeavesVariables, CommandsWriteAlone, BrokenCheckLeavesVariables}
@@ -96,8 +96,8 @@ effect_writes name first (Assign variable value) st a h =
     (subst (λ x. WritesOwn name first.vars (with_entry st.vars x (word_value value st.vars))) (sym a) (own_write first.vars st.vars name (word_value value st.vars) h.0), h.1)
 effect_writes name first _ st a h = absurd a
 
-begun_writes : (name : List ℕ) (first : State) (subject : Subject) (st : State) (go : Scope → State → Run) → TriesAlone subject → ((scope : Scope) (now : State) → OwnOnly name first now → Keeps (OwnOnly name first) (go scope now)) → OwnOnly name first st → Keeps (OwnOnly name first) (begun as_is subject st go)
-unfolding begun
+begun_writes : (name : List ℕ) (first : State) (subject : Subject) (st : State) (go : Scope → State → Run) → TriesAlone subject → ((scope : Scope) (now : State) → OwnOnly name first now → Keeps (OwnOnly name first) (go scope now)) → OwnOnly name first st → Keeps (OwnOnly name first) (after_subject as_is subject st go)
+unfolding after_subject
 begun_writes name first Nothing st go a k h = k _ st h
 begun_writes name first (Word word) st go a k h = k _ st h
 begun_writes name first (Asked (Tries kind program)) st go a k h =
@@ -117,7 +117,7 @@ turn_writes : (name : List ℕ) (first : State) (subject : Subject) (st : State)
     → Keeps (OwnOnly name first) (in_turn (rounds_of subject) go st)
 turn_writes name first subject st go a k h =
     subst (λ rounds. Keeps (OwnOnly name first) (in_turn rounds go st)) (sym (one_round subject a))
-    (then_keeps (OwnOnly name first) (begun as_is subject st go) (in_turn [] go) (begun_writes name first subject st go a k h) (λ now x. x))
+    (then_keeps (OwnOnly name first) (after_subject as_is subject st go) (in_turn [] go) (begun_writes name first subject st go a k h) (λ now x. x))
 
 mutual
   unfolding meaning chosen

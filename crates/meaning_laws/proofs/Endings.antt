@@ -3,7 +3,7 @@ use Rattle.std.proofs.Common.{ℕ, Option, Some, None, List, [], ◌∷◌, Bool
 use Rattle.crew_jobs.specs.declared.job.Job.{Job}
 use Rattle.crew_trait.specs.declared.reply.Reply.{Reply}
 use Rattle.meaning.specs.State.{State, How, Goes_on, Cut, Run, Ends, Asks, then_run, ended, as_is, with_child}
-use Rattle.meaning.specs.Asking.{success, only_reply, heard, child, compiled, without_compiler, same, Attempt, attempted}
+use Rattle.meaning.specs.Asking.{success, only_reply, after_child, child, compiled, without_compiler, same, Attempt, attempted}
 use Rattle.meaning.specs.Batches.{asks_all, commits}
 use Rattle.meaning_laws.specs.Ends.{AtEnds, Breaks}
 
@@ -40,7 +40,7 @@ ends_asks_all P (job ∷ jobs) next h = h
 abbrev pub Spares : (State → Type 0) → Type 0
 Spares I = (job : Job) (reply : Reply) (st : State) → I st → I (with_child job reply st)
 
-pub ends_heard : (I : State → Type 0) (P : How → State → Type 0) (answer : Option Bool) (st : State) (go : Bool → State → Run) → ((now : State) → I now → P Cut now) → ((b : Bool) (now : State) → I now → AtEnds P (go b now)) → I st → AtEnds P (heard as_is answer st go)
+pub ends_heard : (I : State → Type 0) (P : How → State → Type 0) (answer : Option Bool) (st : State) (go : Bool → State → Run) → ((now : State) → I now → P Cut now) → ((b : Bool) (now : State) → I now → AtEnds P (go b now)) → I st → AtEnds P (after_child as_is answer st go)
 ends_heard I P None st go cut goes h = cut st h
 ends_heard I P (Some b) st go cut goes h = goes b st h
 

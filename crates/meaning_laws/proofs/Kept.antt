@@ -6,7 +6,7 @@ use Rattle.deftable.specs.declared.note.Stream.{Stream}
 use Rattle.deftable.specs.declared.note.Stream.TheVariants.{Out}
 use Rattle.deftable.specs.Table.{value_of, with_entry, without_entry}
 use Rattle.ac_tree.specs.Script.{Script}
-use Rattle.meaning.specs.State.{State, told, with_child, with_variable, with_definition, without_variable, How, Goes_on, Cut, Run, Ends, then_run}
+use Rattle.meaning.specs.State.{State, with_note, with_child, with_variable, with_definition, without_variable, How, Goes_on, Cut, Run, Ends, then_run}
 use Rattle.meaning.specs.Asking.{success, only_reply}
 use Rattle.meaning.specs.Tests.{broken, cached_test, tested_by, may_begin, tested}
 use Rattle.meaning.specs.Rows.{TestKind, Single, entry_name, name_of, row_of}
@@ -22,7 +22,7 @@ use Rattle.meaning_laws.proofs.BatchEntries.{row_at}
 
 -- Every change of a state keeps this. A test that unsets a name began with the name unset.
 pub record Closed (I : State → Type 0) : Type 0 where
-  pub tells : (stream : Stream) (text : List ℕ) (st : State) → I st → I (told stream text st)
+  pub tells : (stream : Stream) (text : List ℕ) (st : State) → I st → I (with_note stream text st)
   pub children : (job : Job) (reply : Reply) (st : State) → I st → I (with_child job reply st)
   pub variables : (name value : List ℕ) (st : State) → I st → I (with_variable name value st)
   pub definitions : (name value : List ℕ) (st : State) → I st → I (with_definition name value st)

@@ -6,8 +6,8 @@ use Rattle.crew_jobs.specs.declared.job.Job.{Job}
 use Rattle.crew_trait.specs.declared.reply.Reply.{Reply}
 use Rattle.deftable.specs.declared.note.Stream.{Stream}
 use Rattle.deftable.specs.declared.note.Stream.TheVariants.{Out, Err}
-use Rattle.meaning.specs.State.{State, piece, told, with_child, without_variable, How, Goes_on, Cut, Run, Ends, Asks, then_run, ended, as_is}
-use Rattle.meaning.specs.Asking.{success, only_reply, heard}
+use Rattle.meaning.specs.State.{State, piece, with_note, with_child, without_variable, How, Goes_on, Cut, Run, Ends, Asks, then_run, ended, as_is}
+use Rattle.meaning.specs.Asking.{success, only_reply, after_child}
 use Rattle.meaning.specs.Tests.{broken}
 use Rattle.meaning.specs.Play.{first_number, refused_after, with_cut_line, cut_line, last_words}
 use Rattle.meaning.specs.Meaning.{meaning}
@@ -21,7 +21,7 @@ use Rattle.meaning_laws.proofs.Statements.{Children, AllSteps, meaning_holds}
 abbrev kids : State → List (Job × Reply)
 kids st = children_of st.log
 
-told_kids : (stream : Stream) (text : List ℕ) (st : State) → kids (told stream text st) ≡ kids st
+told_kids : (stream : Stream) (text : List ℕ) (st : State) → kids (with_note stream text st) ≡ kids st
 told_kids stream text st = said st.log (piece stream text)
 
 then_logs : (b : List (Job × Reply)) (r : Run) (f : State → Run) → Logs b r → ((st : State) → Logs (kids st) (f st)) → Logs b (then_run r f)
@@ -37,7 +37,7 @@ broken_kids : (name : List ℕ) (how : How) (st : State) → kids (broken name h
 broken_kids name Cut st = told_kids Out (codes "refused\n") (without_variable name st)
 broken_kids name _ st = refl
 
-heard_logs : (answer : Option Bool) (st : State) (go : Bool → State → Run) → ((b : Bool) (now : State) → Logs (kids now) (go b now)) → Logs (kids st) (heard as_is answer st go)
+heard_logs : (answer : Option Bool) (st : State) (go : Bool → State → Run) → ((b : Bool) (now : State) → Logs (kids now) (go b now)) → Logs (kids st) (after_child as_is answer st go)
 heard_logs None st go k = refl
 heard_logs (Some b) st go k = k b st
 
@@ -45,7 +45,7 @@ child_logs : Children (λ st run. Logs (kids st) run)
 child_logs job st go k =
     λ replies len.
     let now = with_child job (only_reply replies) st in
-    subst (λ x. Logs x (heard as_is (success (only_reply replies)) now go)) (added st.log job (only_reply replies)) (heard_logs (success (only_reply replies)) now go k)
+    subst (λ x. Logs x (after_child as_is (success (only_reply replies)) now go)) (added st.log job (only_reply replies)) (heard_logs (success (only_reply replies)) now go k)
 
 -- A batch, with a compiler and without one.
 asks_all_logs : (b : List (Job × Reply)) (jobs : List Job) (next : List Reply → Run) → ((replies : List Reply) → length replies ≡ length jobs → Logs (b ++ paired jobs replies) (next replies)) → Logs b (asks_all jobs next)

@@ -15,7 +15,7 @@ use Rattle.shellword.specs.Value.{word_value}
 use Rattle.ac_tree.specs.declared.statement.Effect.TheVariants as effects
 use Rattle.ac_tree.specs.TestNames.{program_name}
 use Rattle.meaning.specs.State.{State, piece, with_child, with_variable, Goes_on, Run, Ends, then_run, as_is}
-use Rattle.meaning.specs.Asking.{success, heard, same, attempted}
+use Rattle.meaning.specs.Asking.{success, after_child, same, attempted}
 use Rattle.meaning.specs.Directories.{directories_of}
 use Rattle.meaning.specs.Tests.{checking, with_result, Row, tested}
 use Rattle.meaning.specs.Rows.{Program, attempts_in, value_or_empty, value_if, row_of}
@@ -188,8 +188,8 @@ in_each variable program r more otherwise P rest st vars here none (d ∷ ds) ki
         → ((l : List (Job × Reply)) (y : State) → At st vars l y → Ending P (Some program) l (all_rounded variable r more otherwise (finds (program_name variable) (Some program) y)))
         → ((l : List (Job × Reply)) (y : State) → At st vars l y → Hunt (in_all program ds ++ rest) P l (all_rounded variable r more otherwise (attempted as_is (attempts_in (check_prog variable program program None) ds) None y (finds (program_name variable)))))
         → Answered o
-        (Ending P (Some program) (kids ++ (path_of (d ++ program), reply) ∷ []) (all_rounded variable r more otherwise (heard as_is o (with_child (path_of (d ++ program)) reply x) (goes variable program ds))))
-        (Hunt (in_all program ds ++ rest) P (kids ++ (path_of (d ++ program), reply) ∷ []) (all_rounded variable r more otherwise (heard as_is o (with_child (path_of (d ++ program)) reply x) (goes variable program ds))))
+        (Ending P (Some program) (kids ++ (path_of (d ++ program), reply) ∷ []) (all_rounded variable r more otherwise (after_child as_is o (with_child (path_of (d ++ program)) reply x) (goes variable program ds))))
+        (Hunt (in_all program ds ++ rest) P (kids ++ (path_of (d ++ program), reply) ∷ []) (all_rounded variable r more otherwise (after_child as_is o (with_child (path_of (d ++ program)) reply x) (goes variable program ds))))
     by_answer reply None found later = tt
     by_answer reply (Some true) found later = found _ _ (child_at st vars kids x (d ++ program) reply a)
     by_answer reply (Some false) found later = later _ _ (child_at st vars kids x (d ++ program) reply a)

@@ -6,7 +6,7 @@ use Rattle.std.proofs.lemmas.List.{length-take-le}
 use Rattle.crew_jobs.specs.declared.job.Job.{Job}
 use Rattle.crew_trait.specs.declared.reply.Reply.{Reply}
 use Rattle.meaning.specs.State.{State, with_child, How, Goes_on, Stopped, Cut, Run, Ends, Asks, then_run, ended, as_is}
-use Rattle.meaning.specs.Asking.{success, heard}
+use Rattle.meaning.specs.Asking.{success, after_child}
 use Rattle.meaning.specs.Tests.{broken}
 use Rattle.meaning.specs.Batches.{Batch, asking, jobs_in, asks_all, batched}
 use Rattle.meaning.specs.Meaning.{meaning}
@@ -37,7 +37,7 @@ ended_tells : (b : Bool) (early : How → State → State) (r : Run) → Tells b
 ended_tells b early (Ends how st) h = h
 ended_tells b early (Asks jobs ask) h = λ replies len. ended_tells (b || refused_in replies) early (ask replies) (h replies len)
 
-heard_tells : (answer : Option Bool) (st : State) (go : Bool → State → Run) → ((b : Bool) (now : State) → Tells false (go b now)) → Tells (flag_of answer || false) (heard as_is answer st go)
+heard_tells : (answer : Option Bool) (st : State) (go : Bool → State → Run) → ((b : Bool) (now : State) → Tells false (go b now)) → Tells (flag_of answer || false) (after_child as_is answer st go)
 heard_tells None st go k = refl
 heard_tells (Some b) st go k = k b st
 

@@ -26,14 +26,14 @@ use Rattle.ac_tree.specs.declared.tree.Subject.TheVariants.{Nothing, Word, Asked
 use Rattle.ac_tree.specs.Script.{Script, Done, Then, Choice, Check, Cases, No_case, Case}
 use Rattle.ac_tree.specs.declared.listed.Sought.{Sought}
 use Rattle.ac_tree.specs.declared.listed.Listed.TheVariants.{Header, Function, Declaration}
-use Rattle.meaning.specs.State.{State, told, with_variable, with_definition, Scope, answered, Goes_on, Completed, Stopped, Run, Ends, Asks, then_run, as_is, ended}
-use Rattle.meaning.specs.Messages.{form_of, said}
+use Rattle.meaning.specs.State.{State, with_note, with_variable, with_definition, Scope, answered, Goes_on, Completed, Stopped, Run, Ends, Asks, then_run, as_is, ended}
+use Rattle.meaning.specs.Messages.{form_of, with_message}
 use Rattle.meaning.specs.Asking.{no_compiler, without_compiler, child, compiled, same, Attempt, attempted}
 use Rattle.meaning.specs.Tests.{Test, guarded, checking, cached_test, with_value, tested_by, may_begin, tested, Row}
 use Rattle.meaning.specs.Rows.{TestKind, Program, Single, Sized, Library, Libraries, kind_for, symbol_part, is_yes, is_linked, is_found, with_library, with_library_if, defined_if, name_of, attempts_of, otherwise_of, after_of, row_of}
 use Rattle.meaning.specs.Package.{with_package, package_string, literal, initialised}
 use Rattle.meaning.specs.Tries.{first_probe, after_first, text_of}
-use Rattle.meaning.specs.Meaning.{settled, is_unsettled, has_value, check_prog, looks, looks_all, defaulted, effect, value_name, given, found_by, first_found, asked, begun, rounds_of, in_turn, is_taken, check, meaning, chosen}
+use Rattle.meaning.specs.Meaning.{settled, is_unsettled, has_value, check_prog, looks, looks_all, defaulted, effect, value_name, after_option, found_by, first_found, after_question, after_subject, rounds_of, in_turn, is_taken, check, meaning, chosen}
 use Rattle.meaning.specs.Batches.{Batch, batched}
 use Rattle.meaning_laws.specs.Cached.{IsUnset}
 use Rattle.meaning_laws.proofs.Values.{cases_value}
@@ -49,7 +49,7 @@ pub record Steps (R : State → Run → Type 0) : Type 0 where
   pub goes : (st : State) → R st (Ends Goes_on st)
   pub completes : (st : State) → R st (Ends Completed st)
   pub stops : (status : ℕ) (st : State) → R st (Ends (Stopped status) st)
-  pub tells : (stream : Stream) (text : List ℕ) (st : State) (run : Run) → R (told stream text st) run → R st run
+  pub tells : (stream : Stream) (text : List ℕ) (st : State) (run : Run) → R (with_note stream text st) run → R st run
   pub variables : (name value : List ℕ) (st : State) (run : Run) → R (with_variable name value st) run → R st run
   pub definitions : (name value : List ℕ) (st : State) (run : Run) → R (with_definition name value st) run → R st run
   pub children : Children R
@@ -63,11 +63,11 @@ pub record AllSteps (R : State → Run → Type 0) : Type 0 where
 
 -- ---- changes
 
-said_holds : (R : State → Run → Type 0) → Steps R → (message : Message) (text : List ℕ) (st : State) (run : Run) → R (said message text st) run → R st run
+said_holds : (R : State → Run → Type 0) → Steps R → (message : Message) (text : List ℕ) (st : State) (run : Run) → R (with_message message text st) run → R st run
 said_holds R c message text st run h = c.tells (form_of message).stream _ st run h
 
-prints_holds : (R : State → Run → Type 0) → Steps R → (message : Message) (text : List ℕ) (st : State) → R st (Ends Goes_on (said message text st))
-prints_holds R c message text st = said_holds R c message text st (Ends Goes_on (said message text st)) (c.goes (said message text st))
+prints_holds : (R : State → Run → Type 0) → Steps R → (message : Message) (text : List ℕ) (st : State) → R st (Ends Goes_on (with_message message text st))
+prints_holds R c message text st = said_holds R c message text st (Ends Goes_on (with_message message text st)) (c.goes (with_message message text st))
 
 sets_holds : (R : State → Run → Type 0) → Steps R → (name value : List ℕ) (st : State) → R st (Ends Goes_on (with_variable name value st))
 sets_holds R c name value st = c.variables name value st (Ends Goes_on (with_variable name value st)) (c.goes (with_variable name value st))
@@ -86,7 +86,7 @@ either_state R st false x y h k = k
 -- ---- tests
 
 without_holds : (R : State → Run → Type 0) → Steps R → (st : State) → R st (without_compiler as_is st)
-without_holds R c st = c.tells Err no_compiler st (without_compiler as_is st) (c.stops 1 (told Err no_compiler st))
+without_holds R c st = c.tells Err no_compiler st (without_compiler as_is st) (c.stops 1 (with_note Err no_compiler st))
 
 compiled_holds : (R : State → Run → Type 0) → Steps R → (job : Option Job) (st : State) (go : Bool → State → Run) → ((b : Bool) (now : State) → R now (go b now)) → R st (compiled as_is job st go)
 compiled_holds R c None st go k = without_holds R c st
@@ -187,7 +187,7 @@ effect_holds R a (Assign name value) st = sets_holds R a.steps name (word_value 
 effect_holds R a (Define name value) st = defines_holds R a.steps name value st
 effect_holds R a (DefineText name value) st = defines_holds R a.steps name (word_value value st.vars) st
 effect_holds R a (Print message text) st = prints_holds R a.steps message (word_value text st.vars) st
-effect_holds R a (Stop text status) st = said_holds R a.steps Error (word_value text st.vars) st _ (a.steps.stops status (said Error (word_value text st.vars) st))
+effect_holds R a (Stop text status) st = said_holds R a.steps Error (word_value text st.vars) st _ (a.steps.stops status (with_message Error (word_value text st.vars) st))
 effect_holds R a (Package title version bug tarname url) st = initialised_holds R a.steps title version bug tarname url st _ (a.steps.goes (initialised title version bug tarname url st))
 effect_holds R a (Search variable program (Text found) otherwise) st = kind_holds R a.steps (Program _ _) st
 effect_holds R a (Search variable program FullName otherwise) st = kind_holds R a.steps (Program _ _) st
@@ -206,7 +206,7 @@ pub ended_as_is : (run : Run) → ended as_is run ≡ run
 ended_as_is (Ends how st) = refl
 ended_as_is (Asks jobs next) = ap (Asks jobs) (fun_ext (λ replies. ended_as_is (next replies)))
 
-given_holds : (R : State → Run → Type 0) → Steps R → (o : Option (List ℕ)) (kind : OptionKind) (st : State) (go : Scope → State → Run) → ((scope : Scope) (now : State) → R now (go scope now)) → R st (given o kind st go)
+given_holds : (R : State → Run → Type 0) → Steps R → (o : Option (List ℕ)) (kind : OptionKind) (st : State) (go : Scope → State → Run) → ((scope : Scope) (now : State) → R now (go scope now)) → R st (after_option o kind st go)
 given_holds R c None kind st go k = k (answered false) st
 given_holds R c (Some value) kind st go k = c.variables (value_name kind) value st _ (k (answered true) (with_variable (value_name kind) value st))
 
@@ -229,7 +229,7 @@ first_found_holds : (R : State → Run → Type 0) → Steps R → (sought : Sou
 first_found_holds R c sought [] includes st go k = k (answered false) st
 first_found_holds R c sought (entry ∷ more) includes st go k = found_holds R c (kind_for sought entry includes true) st go k
 
-pub asked_holds : (R : State → Run → Type 0) → Steps R → (question : asks.Question) (st : State) (go : Scope → State → Run) → ((scope : Scope) (now : State) → R now (go scope now)) → R st (asked as_is question st go)
+pub asked_holds : (R : State → Run → Type 0) → Steps R → (question : asks.Question) (st : State) (go : Scope → State → Run) → ((scope : Scope) (now : State) → R now (go scope now)) → R st (after_question as_is question st go)
 asked_holds R c (Given kind variable) st go k = given_holds R c (value_of st.vars variable) kind st go k
 asked_holds R c (Tries kind program) st go k =
     compiled_holds R c (job_of (first_probe kind (text_of program st.vars)) 0 st.vars st.defs) st _ (first_holds R c.children kind (λ b. go (answered b)) (λ b now. k (answered b) now))
@@ -238,15 +238,15 @@ asked_holds R c (ChecksEach sought entries includes) st go k = first_found_holds
 asked_holds R c (questions.Library library function others adds) st go k = found_holds R c (Library library function others adds) st go k
 asked_holds R c (questions.Libraries function libraries others) st go k = found_holds R c (Libraries function libraries others) st go k
 
-pub begun_holds : (R : State → Run → Type 0) → Steps R → (subject : Subject) (st : State) (go : Scope → State → Run) → ((scope : Scope) (now : State) → R now (go scope now)) → R st (begun as_is subject st go)
-unfolding begun
+pub begun_holds : (R : State → Run → Type 0) → Steps R → (subject : Subject) (st : State) (go : Scope → State → Run) → ((scope : Scope) (now : State) → R now (go scope now)) → R st (after_subject as_is subject st go)
+unfolding after_subject
 begun_holds R c Nothing st go k = k _ st
 begun_holds R c (Word word) st go k = k _ st
 begun_holds R c (Asked question) st go k = asked_holds R c question st go k
 
 pub turns_hold : (R : State → Run → Type 0) → Steps R → (rounds : List Subject) (st : State) (go : Scope → State → Run) → ((scope : Scope) (now : State) → R now (go scope now)) → R st (in_turn rounds go st)
 turns_hold R c [] st go k = c.goes st
-turns_hold R c (subject ∷ more) st go k = c.joins st (begun as_is subject st go) (in_turn more go) (begun_holds R c subject st go k) (λ now. turns_hold R c more now go k)
+turns_hold R c (subject ∷ more) st go k = c.joins st (after_subject as_is subject st go) (in_turn more go) (begun_holds R c subject st go k) (λ now. turns_hold R c more now go k)
 
 mutual
   unfolding meaning chosen

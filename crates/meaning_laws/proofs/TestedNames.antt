@@ -28,7 +28,7 @@ use Rattle.meaning.specs.State.{State, Scope, no_choice, about, answered, Goes_o
 use Rattle.meaning.specs.Tests.{cached_test, tested}
 use Rattle.meaning.specs.Rows.{TestKind, Program, Single, Sized, Library, Libraries, kind_for, entry_name, name_of, is_yes, value_or_empty, value_if, row_of}
 use Rattle.meaning.specs.Batches.{Batch, asking}
-use Rattle.meaning.specs.Meaning.{settled, is_unsettled, check_prog, has_value, looks, looks_all, effect, asked, begun, rounds_of, in_turn, is_taken, check, meaning, chosen}
+use Rattle.meaning.specs.Meaning.{settled, is_unsettled, check_prog, has_value, looks, looks_all, effect, after_question, after_subject, rounds_of, in_turn, is_taken, check, meaning, chosen}
 use Rattle.meaning_laws.specs.Batched.{answer_to, names_asked}
 use Rattle.meaning_laws.specs.Deeds.{Deed, Assigned, Tested, deeds_after, left_set, is_added, libs_if, assigned_by, kind_deeds, look_deeds, looks_deeds, default_deeds, prefix_deeds, replied_deeds, effect_deeds, given_deeds, question_deeds, deeds_answered, subject_deeds, turn_deeds, check_deeds, deeds, case_deeds, Among, TestedAreCached}
 use Rattle.meaning_laws.specs.Questions.{yes_or_no}
@@ -153,12 +153,12 @@ of_subject : (subject : Subject) (st : State) (rs : List Reply) (rest : Scope �
 of_subject Nothing st rs rest h = h no_choice st rs
 of_subject (Word word) st rs rest h = h (about (word_value word st.vars)) st rs
 of_subject (Asked question) st rs rest h =
-    of_both (question_deeds question st rs) _ (of_question question st rs) (of_answered (asked as_is question st yes_or_no) rs rest h)
+    of_both (question_deeds question st rs) _ (of_question question st rs) (of_answered (after_question as_is question st yes_or_no) rs rest h)
 
 of_turns : (rounds : List Subject) (go : Scope → State → Run) (did : Scope → State → List Reply → List Deed) (st : State) (rs : List Reply) → ((scope : Scope) (now : State) (left : List Reply) → HaveNames (did scope now left)) → HaveNames (turn_deeds rounds go did st rs)
 of_turns [] go did st rs h = tt
 of_turns (subject ∷ more) go did st rs h =
-    of_both (subject_deeds subject st rs did) _ (of_subject subject st rs did h) (of_after (begun as_is subject st go) rs (turn_deeds more go did) (λ now left. of_turns more go did now left h))
+    of_both (subject_deeds subject st rs did) _ (of_subject subject st rs did h) (of_after (after_subject as_is subject st go) rs (turn_deeds more go did) (λ now left. of_turns more go did now left h))
 
 mutual
   unfolding deeds case_deeds

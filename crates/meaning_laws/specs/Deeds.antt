@@ -27,7 +27,7 @@ use Rattle.meaning.specs.Rows as rows
 use Rattle.meaning.specs.Rows.{TestKind, Program, Single, Sized, Library, Libraries, kind_for, name_of, is_yes, is_linked, value_or_empty, value_if, row_of}
 use Rattle.meaning.specs.Batches.{Batch, asking, batched}
 use Rattle.meaning.specs.Play.{play, whole}
-use Rattle.meaning.specs.Meaning.{settled, is_unsettled, check_prog, path_prog, has_value, is_full_name, looks, looks_all, effect, value_name, asked, begun, rounds_of, in_turn, is_taken, check, meaning, chosen}
+use Rattle.meaning.specs.Meaning.{settled, is_unsettled, check_prog, path_prog, has_value, is_full_name, looks, looks_all, effect, value_name, after_question, after_subject, rounds_of, in_turn, is_taken, check, meaning, chosen}
 use Rattle.meaning_laws.specs.Cached.{IsSet, IsUnset}
 use Rattle.meaning_laws.specs.Batched.{answer_to, names_asked}
 use Rattle.meaning_laws.specs.Questions.{yes_or_no}
@@ -174,13 +174,13 @@ abbrev pub subject_deeds : Subject → State → List Reply → (Scope → State
 subject_deeds Nothing st replies rest = rest no_choice st replies
 subject_deeds (Word word) st replies rest = rest (about (word_value word st.vars)) st replies
 subject_deeds (Asked question) st replies rest =
-    question_deeds question st replies ++ deeds_answered (asked as_is question st yes_or_no) replies rest
+    question_deeds question st replies ++ deeds_answered (after_question as_is question st yes_or_no) replies rest
 
 -- The deeds of rounds, one after the other. (own)
 abbrev pub turn_deeds : List Subject → (Scope → State → Run) → (Scope → State → List Reply → List Deed) → State → List Reply → List Deed
 turn_deeds [] go did st replies = []
 turn_deeds (subject ∷ more) go did st replies =
-    subject_deeds subject st replies did ++ deeds_after (begun as_is subject st go) replies (turn_deeds more go did)
+    subject_deeds subject st replies did ++ deeds_after (after_subject as_is subject st go) replies (turn_deeds more go did)
 
 -- The deed of AC_CACHE_CHECK is that of its test: its name was unset, and the commands came to their end and left it set.
 -- They set no other name. (Autoconf's manual, "Caching Results")

@@ -5,7 +5,7 @@ use Rattle.shellword.specs.declared.part.Part.{Part}
 use Rattle.ac_tree.specs.declared.statement.Question.TheVariants.{Library, Libraries}
 use Rattle.meaning.specs.State.{State, How, Goes_on, as_is}
 use Rattle.meaning.specs.Rows.{shell_part}
-use Rattle.meaning.specs.Meaning.{asked}
+use Rattle.meaning.specs.Meaning.{after_question}
 use Rattle.meaning_laws.specs.Ends.{AtEnds}
 use Rattle.meaning_laws.specs.Questions.{yes_or_no}
 
@@ -34,11 +34,11 @@ libs_searched value how libs = libs
 -- manual, "Library Files")
 abbrev pub LibsChecked : Type 0
 LibsChecked = (library function : List ℕ) (others : Option (List Part)) (adds : Bool) (st : State)
-    → AtEnds (λ how now. libs_of now ≡ libs_checked library adds how (libs_of st)) (asked as_is (Library library function others adds) st yes_or_no)
+    → AtEnds (λ how now. libs_of now ≡ libs_checked library adds how (libs_of st)) (after_question as_is (Library library function others adds) st yes_or_no)
 
 -- LIBS is so when the actions of AC_SEARCH_LIBS begin, or when the run ends in its test, whatever the replies. (Autoconf's
 -- manual, "Library Files")
 abbrev pub LibsSearched : Type 0
 LibsSearched = (function : List ℕ) (libraries : List (List ℕ)) (others : Option (List Part)) (st : State)
     → AtEnds (λ how now. libs_of now ≡ libs_searched (value_of now.vars (codes "ac_cv_search_" ++ shell_part function)) how (libs_of st))
-    (asked as_is (Libraries function libraries others) st yes_or_no)
+    (after_question as_is (Libraries function libraries others) st yes_or_no)

@@ -12,7 +12,7 @@ use Rattle.ac_tree.specs.declared.listed.Listed.{Listed}
 use Rattle.ac_tree.specs.Resumable.{Among, ReadsAll}
 use Rattle.ac_tree.specs.TestNames.{entry_name}
 use Rattle.meaning.specs.State.{State, with_child, with_variable, How, Goes_on, Completed, Stopped, Cut, Run, Ends, Asks, as_is}
-use Rattle.meaning.specs.Asking.{success, only_reply, heard}
+use Rattle.meaning.specs.Asking.{success, only_reply, after_child}
 use Rattle.meaning.specs.Tests.{tested, tested_by, may_begin, cached_test}
 use Rattle.meaning.specs.Rows.{Single, entry_job, message_of, shown_of, after_of}
 use Rattle.meaning.specs.Batches.{Batch, is_known, job_for, asking, jobs_in, asks_all, with_body, yes_or_no, replied, replies_after, commits, committed, batched}
@@ -36,7 +36,7 @@ replied_once : (name : List ℕ) (job : Option Job) (reply : Reply) → KeepsOnc
 replied_once name None reply st h = h
 replied_once name (Some job) reply st h = by_answer (success reply)
   where
-    by_answer : (answer : Option Bool) → AtEnds (λ how now. StandsOnce name now.vars) (heard as_is answer (with_child job reply st) (λ found now. Ends Goes_on (with_variable name (yes_or_no found) now)))
+    by_answer : (answer : Option Bool) → AtEnds (λ how now. StandsOnce name now.vars) (after_child as_is answer (with_child job reply st) (λ found now. Ends Goes_on (with_variable name (yes_or_no found) now)))
     by_answer None = h
     by_answer (Some b) = once_with st.vars name (yes_or_no b) name h
 

@@ -15,7 +15,7 @@ use Rattle.ac_tree.specs.Script.{Script, Done, Then, Choice, Check, Cases, No_ca
 use Rattle.ac_tree.specs.Uses.{uses_of}
 use Rattle.meaning.specs.State.{State, Scope, no_choice, about, answered, Run, as_is}
 use Rattle.meaning.specs.Tries.{text_of, tried}
-use Rattle.meaning.specs.Meaning.{effect, begun, rounds_of, is_taken, in_turn, meaning, chosen}
+use Rattle.meaning.specs.Meaning.{effect, after_subject, rounds_of, is_taken, in_turn, meaning, chosen}
 use Rattle.meaning_laws.proofs.Kept.{names_stand_once}
 use Rattle.meaning_resumption.specs.Joint.{checks}
 use Rattle.meaning_resumption.proofs.Near.{Alike, Like}
@@ -40,7 +40,7 @@ command_like at own names name d _ x y reads a r h = absurd a
 
 ask_like : (at : List ℕ → Type 0) (own : Option (List ℕ)) (names : List (List ℕ)) (subject : Subject) (s t : State) (go : Scope → State → Run) → Reads at names → TriesAlone subject → ResumableSubject own names subject → Alike at s t
     → ((scope : Scope) (x y : State) → Alike at x y → Like at (go scope x) (go scope y)) → Like at (in_turn (rounds_of subject) go s) (in_turn (rounds_of subject) go t)
-unfolding begun
+unfolding after_subject
 ask_like at own names Nothing s t go reads a r h k = like_then at (go no_choice s) (go no_choice t) _ _ (k no_choice s t h) (λ x y l. (refl, l))
 ask_like at own names (Word word) s t go reads a r h k =
     like_then at (go (about (word_value word s.vars)) s) (go (about (word_value word t.vars)) t) _ _

@@ -24,7 +24,7 @@ use Rattle.ac_tree.specs.declared.tree.When.TheVariants.{Holds, Yes, Always}
 use Rattle.ac_tree.specs.Script.{Script, Done, Then, Choice, Check, Cases, No_case, Case}
 use Rattle.meaning.specs.State.{State, opened}
 use Rattle.meaning.specs.Directories.{directories_of}
-use Rattle.meaning.specs.Meaning.{effect, begun, is_taken, meaning, chosen}
+use Rattle.meaning.specs.Meaning.{effect, after_subject, is_taken, meaning, chosen}
 use Rattle.meaning_resumption.specs.Finished.{finish}
 use Rattle.meaning_resumption.specs.Joint.{joint, joint_cases, joint_plain, begins, scope_at, joint_replies}
 
@@ -82,7 +82,7 @@ set_to t = sets (codes "v_cv_x") t
 
 -- What the examples compute with.
 unfoldable pub on_values : Unit {0}
-unfolding effect begun is_taken meaning chosen joint joint_cases joint_plain begins scope_at value_of with_entry without_entry words_of job_of truth word_value fields parts_by directories_of parts
+unfolding effect after_subject is_taken meaning chosen joint joint_cases joint_plain begins scope_at value_of with_entry without_entry words_of job_of truth word_value fields parts_by directories_of parts
 on_values = tt
 
 abbrev variable : List ℕ → State → Option (List ℕ)

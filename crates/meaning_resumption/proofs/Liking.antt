@@ -25,7 +25,7 @@ use Rattle.ac_tree.specs.declared.tree.When.TheVariants.{Holds, Matches, Yes, No
 use Rattle.ac_tree.specs.Resumable.{IsOrdinary, MayRead, ReadsText, ReadsAll, ReadsCondition, ReadsTest, ReadsWhen}
 use Rattle.ac_tree.specs.Uses.{program_texts}
 use Rattle.meaning.specs.State.{State, with_child, with_variable, with_definition, without_variable, Scope, How, Goes_on, Completed, Stopped, Cut, Run, Ends, Asks, then_run, as_is}
-use Rattle.meaning.specs.Asking.{success, only_reply, heard, child, compiled, same, Attempt, attempted}
+use Rattle.meaning.specs.Asking.{success, only_reply, after_child, child, compiled, same, Attempt, attempted}
 use Rattle.meaning.specs.Tests.{Test, broken, guarded, checking, with_result, cached_test, Row, tested_by, may_begin, tested, with_value, by_attempts}
 use Rattle.meaning.specs.Rows.{TestKind, Program, Single, Sized, Library, Libraries, symbol_part, includes_text, entry_probe, entry_job, type_job, others_text, libraries_after, vars_with, library_job, function_job, attempt_with, attempts_with, program_attempts, is_yes, is_linked, with_library, with_library_if, with_linked, defined_if, with_entry_defined, value_or_empty, name_of, message_of, attempts_of, otherwise_of, shown_of, is_ready, after_of, row_of}
 use Rattle.meaning.specs.Directories.{directories_of}
@@ -92,7 +92,7 @@ definition_alike at name value s t h = record { defs = ap (λ l. with_entry l na
 
 -- ---- attempts
 
-pub heard_like : (at : List ℕ → Type 0) (answer : Option Bool) (s t : State) (go goes : Bool → State → Run) → Alike at s t → ((b : Bool) → Like at (go b s) (goes b t)) → Like at (heard as_is answer s go) (heard as_is answer t goes)
+pub heard_like : (at : List ℕ → Type 0) (answer : Option Bool) (s t : State) (go goes : Bool → State → Run) → Alike at s t → ((b : Bool) → Like at (go b s) (goes b t)) → Like at (after_child as_is answer s go) (after_child as_is answer t goes)
 heard_like at None s t go goes h k = (refl, h)
 heard_like at (Some b) s t go goes h k = k b
 

@@ -21,7 +21,7 @@ use Rattle.ac_tree.specs.Uses.{Uses, uses_of, uses_asked}
 use Rattle.meaning.specs.State.{State, Scope, no_choice, about, Run, as_is}
 use Rattle.meaning.specs.Tests.{checking}
 use Rattle.meaning.specs.Batches.{Batch, asking}
-use Rattle.meaning.specs.Meaning.{effect, asked, begun, rounds_of, in_turn, is_taken, meaning, chosen}
+use Rattle.meaning.specs.Meaning.{effect, after_question, after_subject, rounds_of, in_turn, is_taken, meaning, chosen}
 use Rattle.meaning_laws.specs.Questions.{yes_or_no}
 use Rattle.meaning_resumption.specs.Joint.{checks}
 use Rattle.meaning_resumption.specs.Asked.{Share, jobs_asked, made, first_share, use_shares, entry_shares, effect_shares, shares_answered, subject_shares, turn_shares, owned, shares, case_shares, IsOfTest, SharesAreTests}
@@ -61,7 +61,7 @@ tests_subject : (r : Subject) (st : State) (rs : List Reply) (rest : Scope → S
 tests_subject Nothing st rs rest t h = h no_choice st rs
 tests_subject (Word word) st rs rest t h = h (about (word_value word st.vars)) st rs
 tests_subject (Asked q) st rs rest t h =
-    let run = asked as_is q st yes_or_no in
+    let run = after_question as_is q st yes_or_no in
     each_both IsOfTest (use_shares (uses_asked q) st run rs) (shares_answered run rs rest) (tests_use (uses_asked q) st run rs t) (each_answered IsOfTest Always run rs rest (always run) (λ c now left k. h c now left))
 
 tests_turns : (rounds : List Subject) (go : Scope → State → Run) (inside : Scope → State → List Reply → List Share) → AllByRecursion TriesNone rounds → ((c : Scope) (now : State) (left : List Reply) → Each IsOfTest (inside c now left))
@@ -69,7 +69,7 @@ tests_turns : (rounds : List Subject) (go : Scope → State → Run) (inside : S
 tests_turns [] go inside t h st rs = tt
 tests_turns (r ∷ more) go inside t h st rs =
     each_both IsOfTest (subject_shares r st rs inside) _ (tests_subject r st rs inside t.0 h)
-    (each_after IsOfTest Always (begun as_is r st go) rs (turn_shares more go inside) (always (begun as_is r st go)) (λ now left k. tests_turns more go inside t.1 h now left))
+    (each_after IsOfTest Always (after_subject as_is r st go) rs (turn_shares more go inside) (always (after_subject as_is r st go)) (λ now left k. tests_turns more go inside t.1 h now left))
 
 each_listed : (sought : Sought) (entries : List (List ℕ)) (includes : Option (List Part)) → AllByRecursion TriesNone (map (λ entry. Asked (ChecksEach sought (entry ∷ []) includes)) entries)
 each_listed sought [] includes = tt

@@ -17,7 +17,7 @@ use Rattle.ac_tree.specs.TestNames.{sought_name}
 use Rattle.meaning.specs.State.{State, Scope, answered, about, with_variable, Run, then_run, ended, as_is}
 use Rattle.meaning.specs.Tests.{tested}
 use Rattle.meaning.specs.Rows.{TestKind, Program, Single, Sized, Library, Libraries, kind_for, name_of, is_found, after_of, row_of}
-use Rattle.meaning.specs.Meaning.{value_name, given, begun, rounds_of, in_turn}
+use Rattle.meaning.specs.Meaning.{value_name, after_option, after_subject, rounds_of, in_turn}
 use Rattle.meaning_laws.proofs.Values.{value_here}
 use Rattle.meaning_laws.proofs.Statements.{ended_as_is}
 use Rattle.meaning_resumption.specs.Alone.{tested_rounds, AloneAt, AloneRounds}
@@ -112,7 +112,7 @@ scope_same at names (Asked (ChecksEach sought (entry ∷ more) includes)) x y re
 scope_same at names (Asked (questions.Library library function others adds)) x y reads own one h a = ap (λ o. answered (is_found (Library library function others adds) o)) (a.value _ (own _ (inl refl)))
 scope_same at names (Asked (questions.Libraries function libraries others)) x y reads own one h a = ap (λ o. answered (is_found (Libraries function libraries others) o)) (a.value _ (own _ (inl refl)))
 
-given_begun : (kind : OptionKind) (variable : List ℕ) (o : Option (List ℕ)) (st : State) (go : Scope → State → Run) → value_of st.vars variable ≡ o → given o kind st go ≡ go (answered (is_some (value_of (given_then kind o st).vars variable))) (given_then kind o st)
+given_begun : (kind : OptionKind) (variable : List ℕ) (o : Option (List ℕ)) (st : State) (go : Scope → State → Run) → value_of st.vars variable ≡ o → after_option o kind st go ≡ go (answered (is_some (value_of (given_then kind o st).vars variable))) (given_then kind o st)
 given_begun kind variable None st go e = ap (λ o. go (answered (is_some o)) st) (sym e)
 given_begun kind variable (Some v) st go e = ap (λ b. go (answered b) (with_variable (value_name kind) v st)) (sym (by_name (same_or_not (value_name kind) variable)))
   where
@@ -124,8 +124,8 @@ test_begun : (kind : TestKind) (st : State) (go : Scope → State → Run)
     → then_run (tested (row_of kind st) st) (λ now. go (answered (is_found kind (value_of now.vars (name_of kind)))) now) ≡ then_run (ended as_is (tested (row_of kind st) st)) (λ now. go (answered (is_found kind (value_of now.vars (name_of kind)))) now)
 test_begun kind st go = ap (λ run. then_run run (λ now. go (answered (is_found kind (value_of now.vars (name_of kind)))) now)) (sym (ended_as_is (tested (row_of kind st) st)))
 
-begun_is : (names : List (List ℕ)) (r : Subject) (st : State) (go : Scope → State → Run) → ResumableSubject None names r → then_run (begins r st) (λ now. go (scope_at r now) now) ≡ begun as_is r st go
-unfolding begins scope_at begun
+begun_is : (names : List (List ℕ)) (r : Subject) (st : State) (go : Scope → State → Run) → ResumableSubject None names r → then_run (begins r st) (λ now. go (scope_at r now) now) ≡ after_subject as_is r st go
+unfolding begins scope_at after_subject
 begun_is names Nothing st go h = refl
 begun_is names (Word word) st go h = refl
 begun_is names (Asked (Given kind variable)) st go h = sym (given_begun kind variable (value_of st.vars variable) st go refl)
@@ -140,10 +140,10 @@ begun_is names (Asked (questions.Libraries function libraries others)) st go h =
 
 round_part : (tested_before known inside : List (List ℕ)) (r : Subject) (go : Scope → State → Run) (jgo : Scope → Pair → Joint) (sgo : Scope → Pair → Type 0) (fgo : List (List ℕ) → Type 0) → Within tested_before known → IsRound r → ResumableSubject None tested_before r
     → ((c : Scope) → IsPart (tests_at r ++ known) (tests_at r ++ known) inside (go c) (jgo c) (sgo c) fgo)
-    → IsPart known (tests_at r ++ known) (tests_at r ++ inside) (λ st. begun as_is r st go) (λ p. joint_then (joint_one (begins r) p) (λ q. jgo (scope_at r q.first) q)) (λ p. SameAt r p × AndThen (joint_one (begins r) p) (λ q. sgo (scope_at r q.first) q)) (λ later. AloneAt r (inside ++ later) × fgo later)
+    → IsPart known (tests_at r ++ known) (tests_at r ++ inside) (λ st. after_subject as_is r st go) (λ p. joint_then (joint_one (begins r) p) (λ q. jgo (scope_at r q.first) q)) (λ p. SameAt r p × AndThen (joint_one (begins r) p) (λ q. sgo (scope_at r q.first) q)) (λ later. AloneAt r (inside ++ later) × fgo later)
 round_part tested_before known inside r go jgo sgo fgo w one h inner =
     let more = tests_at r ++ known in
-    part_is known more (tests_at r ++ inside) (λ st. then_run (begins r st) (λ now. go (scope_at r now) now)) (λ st. begun as_is r st go) _ _ _ (λ st. begun_is tested_before r st go h)
+    part_is known more (tests_at r ++ inside) (λ st. then_run (begins r st) (λ now. go (scope_at r now) now)) (λ st. after_subject as_is r st go) _ _ _ (λ st. begun_is tested_before r st go h)
     (part_then known more more (tests_at r) inside (begins r) (λ now. go (scope_at r now) now) (joint_one (begins r)) (λ q. jgo (scope_at r q.first) q) (SameAt r) (λ q. sgo (scope_at r q.first) q) (AloneAt r) fgo
     (begin_part tested_before known r (AloneAt r) w one h)
     (part_scope more more inside (scope_at r) go jgo sgo fgo
@@ -171,7 +171,7 @@ one_turn : (tested_before known inside : List (List ℕ)) (r : Subject) (rs : Li
     → IsPart known (after_rounds (r ∷ rs) known) (tested_rounds (r ∷ rs) inside) (in_turn (r ∷ rs) go) (joint_rounds (r ∷ rs) jgo) (SameRounds (r ∷ rs) jgo sgo) (AloneRounds (r ∷ rs) inside fgo)
 one_turn tested_before known inside r rs go jgo sgo fgo w one h inner rest =
     let more = tests_at r ++ known in
-    part_then known more (after_rounds rs more) (tests_at r ++ inside) (tested_rounds rs inside) (λ st. begun as_is r st go) (in_turn rs go)
+    part_then known more (after_rounds rs more) (tests_at r ++ inside) (tested_rounds rs inside) (λ st. after_subject as_is r st go) (in_turn rs go)
     (λ p. joint_then (joint_one (begins r) p) (λ q. jgo (scope_at r q.first) q)) (joint_rounds rs jgo)
     (λ p. SameAt r p × AndThen (joint_one (begins r) p) (λ q. sgo (scope_at r q.first) q)) (SameRounds rs jgo sgo)
     (λ later. AloneAt r (inside ++ later) × fgo later) (AloneRounds rs inside fgo)

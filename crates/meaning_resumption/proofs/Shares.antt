@@ -27,13 +27,13 @@ use Rattle.ac_tree.specs.Script.{Done, Then, Choice, Check, Cases, No_case, Case
 use Rattle.ac_tree.specs.TestNames.{program_name}
 use Rattle.ac_tree.specs.Uses.{uses_of, uses_asked}
 use Rattle.meaning.specs.State.{State, Scope, no_choice, about, answered, with_child, with_variable, How, Goes_on, Completed, Cut, Run, Ends, Asks, then_run, ended, as_is}
-use Rattle.meaning.specs.Asking.{success, only_reply, heard, child, compiled}
+use Rattle.meaning.specs.Asking.{success, only_reply, after_child, child, compiled}
 use Rattle.meaning.specs.Tests.{Row, Test, checking, cached_test, test_by, guarded, broken, tested, tested_by, may_begin}
 use Rattle.meaning.specs.Rows.{TestKind, Program, Library, Libraries, Single, kind_for, is_found, name_of, value_or_empty, value_if, row_of}
 use Rattle.meaning.specs.Batches.{Batch, jobs_in, asking, asks_all, with_body, replied, replies_after, commits, committed, batched}
 use Rattle.meaning.specs.Play.{first_number, refused_after, last_words}
 use Rattle.meaning.specs.Tries.{first_probe, after_first, text_of}
-use Rattle.meaning.specs.Meaning.{has_value, check_prog, program_test, looks_all, effect, value_name, given, found_by, asked, begun, rounds_of, in_turn, is_taken, check, meaning, chosen}
+use Rattle.meaning.specs.Meaning.{has_value, check_prog, program_test, looks_all, effect, value_name, after_option, found_by, after_question, after_subject, rounds_of, in_turn, is_taken, check, meaning, chosen}
 use Rattle.meaning_laws.specs.Ends.{AtEnds}
 use Rattle.meaning_laws.specs.Cached.{IsSet, with_cached}
 use Rattle.meaning_laws.specs.Questions.{yes_or_no}
@@ -138,7 +138,7 @@ body_end : (row : Row) (ready : Bool) (st : State) → ((now : State) → IsEnd 
 body_end row true st h = end_then (cached_test row.test st) _ (cached_end row.test (value_of st.vars row.test.name) (checking row.test.message st) (h (checking row.test.message st))) (λ now. tt)
 body_end row false st h = tt
 
-heard_end : (o : Option Bool) (st : State) (go : Bool → State → Run) → ((b : Bool) (now : State) → IsEnd (go b now)) → IsEnd (heard as_is o st go)
+heard_end : (o : Option Bool) (st : State) (go : Bool → State → Run) → ((b : Bool) (now : State) → IsEnd (go b now)) → IsEnd (after_child as_is o st go)
 heard_end None st go h = tt
 heard_end (Some b) st go h = h b st
 
@@ -218,7 +218,7 @@ either_answers : (said : Scope → State → List Reply → List Share) (go : Sc
 either_answers said go h true now = λ rs. sym (h (answered true) now rs)
 either_answers said go h false now = λ rs. sym (h (answered false) now rs)
 
-heard_answers : (said : Scope → State → List Reply → List Share) (answer : Option Bool) (st : State) (f g : Bool → State → Run) → ((b : Bool) (now : State) → Answers said (f b now) (g b now)) → Answers said (heard as_is answer st f) (heard as_is answer st g)
+heard_answers : (said : Scope → State → List Reply → List Share) (answer : Option Bool) (st : State) (f g : Bool → State → Run) → ((b : Bool) (now : State) → Answers said (f b now) (g b now)) → Answers said (after_child as_is answer st f) (after_child as_is answer st g)
 heard_answers said None st f g k = λ rs. refl
 heard_answers said (Some b) st f g k = k b st
 
@@ -252,11 +252,11 @@ run_answers said go f (Asks jobs next) opens h =
 found_answers : (said : Scope → State → List Reply → List Share) (go : Scope → State → Run) (kind : TestKind) (st : State) → CoversChoice said go → Answers said (found_by as_is kind st yes_or_no) (found_by as_is kind st go)
 found_answers said go kind st h = run_answers said go (λ now. is_found kind (value_of now.vars (name_of kind))) (tested (row_of kind st) st) (tested_open kind st) h
 
-given_answers : (said : Scope → State → List Reply → List Share) (go : Scope → State → Run) (o : Option (List ℕ)) (kind : OptionKind) (st : State) → CoversChoice said go → Answers said (given o kind st yes_or_no) (given o kind st go)
+given_answers : (said : Scope → State → List Reply → List Share) (go : Scope → State → Run) (o : Option (List ℕ)) (kind : OptionKind) (st : State) → CoversChoice said go → Answers said (after_option o kind st yes_or_no) (after_option o kind st go)
 given_answers said go None kind st h = either_answers said go h false st
 given_answers said go (Some value) kind st h = either_answers said go h true (with_variable (value_name kind) value st)
 
-question_answers : (said : Scope → State → List Reply → List Share) (go : Scope → State → Run) (q : Question) (st : State) → CoversChoice said go → Answers said (asked as_is q st yes_or_no) (asked as_is q st go)
+question_answers : (said : Scope → State → List Reply → List Share) (go : Scope → State → Run) (q : Question) (st : State) → CoversChoice said go → Answers said (after_question as_is q st yes_or_no) (after_question as_is q st go)
 question_answers said go (Given kind variable) st h = given_answers said go (value_of st.vars variable) kind st h
 question_answers said go (Tries kind program) st h =
     compiled_answers said (job_of (first_probe kind (text_of program st.vars)) 0 st.vars st.defs) st _ _
@@ -271,13 +271,13 @@ found_covered : (kind : TestKind) (st : State) (rs : List Reply)
     → shared_jobs (made (value_of st.vars (name_of kind)) (record { name = Some (name_of kind); jobs = jobs_asked (found_by as_is kind st yes_or_no) rs } ∷ [])) ≡ jobs_asked (found_by as_is kind st yes_or_no) rs
 found_covered kind st rs = test_covered (name_of kind) st (found_by as_is kind st yes_or_no) rs (found_end kind st)
 
-given_covered : (o : Option (List ℕ)) (kind : OptionKind) (st : State) (rs : List Reply) → [] ≡ jobs_asked (given o kind st yes_or_no) rs
+given_covered : (o : Option (List ℕ)) (kind : OptionKind) (st : State) (rs : List Reply) → [] ≡ jobs_asked (after_option o kind st yes_or_no) rs
 given_covered None kind st rs = refl
 given_covered (Some value) kind st rs = refl
 
-question_covered : (q : Question) (st : State) (rs : List Reply) → shared_jobs (use_shares (uses_asked q) st (asked as_is q st yes_or_no) rs) ≡ jobs_asked (asked as_is q st yes_or_no) rs
+question_covered : (q : Question) (st : State) (rs : List Reply) → shared_jobs (use_shares (uses_asked q) st (after_question as_is q st yes_or_no) rs) ≡ jobs_asked (after_question as_is q st yes_or_no) rs
 question_covered (Given kind variable) st rs = given_covered (value_of st.vars variable) kind st rs
-question_covered (Tries kind program) st rs = append-nil (jobs_asked (asked as_is (Tries kind program) st yes_or_no) rs)
+question_covered (Tries kind program) st rs = append-nil (jobs_asked (after_question as_is (Tries kind program) st yes_or_no) rs)
 question_covered (Checks (seeks.ListEntry listed) entry includes) st rs = found_covered (kind_for (seeks.ListEntry listed) entry includes false) st rs
 question_covered (Checks seeks.«Type» entry includes) st rs = found_covered (kind_for seeks.«Type» entry includes false) st rs
 question_covered (ChecksEach sought [] includes) st rs = refl
@@ -286,19 +286,19 @@ question_covered (ChecksEach seeks.«Type» (entry ∷ more) includes) st rs = f
 question_covered (questions.Library library function others adds) st rs = found_covered (Library library function others adds) st rs
 question_covered (questions.Libraries function libraries others) st rs = found_covered (Libraries function libraries others) st rs
 
-subject_covered : (subject : Subject) (go : Scope → State → Run) (said : Scope → State → List Reply → List Share) (st : State) (rs : List Reply) → CoversChoice said go → shared_jobs (subject_shares subject st rs said) ≡ jobs_asked (begun as_is subject st go) rs
-unfolding begun
+subject_covered : (subject : Subject) (go : Scope → State → Run) (said : Scope → State → List Reply → List Share) (st : State) (rs : List Reply) → CoversChoice said go → shared_jobs (subject_shares subject st rs said) ≡ jobs_asked (after_subject as_is subject st go) rs
+unfolding after_subject
 subject_covered subjects.Nothing go said st rs h = h no_choice st rs
 subject_covered (subjects.Word word) go said st rs h = h (about (word_value word st.vars)) st rs
 subject_covered (subjects.Asked q) go said st rs h =
-    let run = asked as_is q st yes_or_no in
+    let run = after_question as_is q st yes_or_no in
     let later = shares_answered run rs said in
     shared_both (use_shares (uses_asked q) st run rs) later ∙ ap (λ l. l ++ shared_jobs later) (question_covered q st rs) ∙ sym (question_answers said go q st h rs)
 
 turns_covered : (rounds : List Subject) (go : Scope → State → Run) (said : Scope → State → List Reply → List Share) → CoversChoice said go → Covers (turn_shares rounds go said) (in_turn rounds go)
 turns_covered [] go said h st rs = refl
 turns_covered (round ∷ more) go said h st rs =
-    covered_then (subject_shares round st rs said) (begun as_is round st go) (in_turn more go) (turn_shares more go said) rs (subject_covered round go said st rs h) (turns_covered more go said h)
+    covered_then (subject_shares round st rs said) (after_subject as_is round st go) (in_turn more go) (turn_shares more go said) rs (subject_covered round go said st rs h) (turns_covered more go said h)
 
 -- ---- all statements
 

@@ -16,7 +16,7 @@ use Rattle.ac_tree.specs.Resumable.{IsOrdinary, MayRead, ReadsText, ReadsAll, Ma
 use Rattle.ac_tree.specs.TestNames.{program_name, path_name, NamesVariable}
 use Rattle.ac_tree.specs.Uses.{uses_of}
 use Rattle.meaning.specs.State.{State, with_variable, with_definition, Goes_on, Completed, Stopped, Run, Ends}
-use Rattle.meaning.specs.Messages.{said}
+use Rattle.meaning.specs.Messages.{with_message}
 use Rattle.meaning.specs.Tests.{tested}
 use Rattle.meaning.specs.Rows.{value_or_empty, value_if, row_of}
 use Rattle.meaning.specs.Package.{literal, package_string, with_package, initialised}
@@ -63,7 +63,7 @@ init_values title version bug tarname url n st c =
     write_values (codes "PACKAGE_URL") url n f refl c ∙ write_values (codes "PACKAGE_BUGREPORT") bug n e refl c ∙ write_values (codes "PACKAGE_STRING") (package_string title version) n d refl c
     ∙ write_values (codes "PACKAGE_VERSION") version n b refl c ∙ write_values (codes "PACKAGE_TARNAME") tarname n a refl c ∙ write_values (codes "PACKAGE_NAME") title n st refl c
 
-said_alike : (at : List ℕ → Type 0) (message : Message) (v w : List ℕ) (s t : State) → Alike at s t → Alike at (said message v s) (said message w t)
+said_alike : (at : List ℕ → Type 0) (message : Message) (v w : List ℕ) (s t : State) → Alike at s t → Alike at (with_message message v s) (with_message message w t)
 said_alike at message v w s t h = record { defs = h.defs; value = h.value }
 
 settled_alike : (name value : List ℕ) (s t : State) → Alike Every s t → Alike Every (settled name value s) (settled name value t)
@@ -134,9 +134,9 @@ plain_part tested known d (DefineText name value) w v r =
     still_part tested known (λ st. with_definition name (word_value value st.vars) st) _ w
     (λ at reads s t a. defined_alike at name _ _ s t (text_same at tested value s t reads r.1.1.0 a) a) (λ n st c. refl)
 plain_part tested known d (Print message text) w v r =
-    still_part tested known (λ st. said message (word_value text st.vars) st) _ w (λ at reads s t a. said_alike at message _ _ s t a) (λ n st c. refl)
+    still_part tested known (λ st. with_message message (word_value text st.vars) st) _ w (λ at reads s t a. said_alike at message _ _ s t a) (λ n st c. refl)
 plain_part tested known d (Stop text status) w v r =
-    ends_part known (Stopped status) (λ st. said Error (word_value text st.vars) st) _ (λ later now E h. h) (λ s t a. said_alike Every Error _ _ s t a) (λ n st c. refl)
+    ends_part known (Stopped status) (λ st. with_message Error (word_value text st.vars) st) _ (λ later now E h. h) (λ s t a. said_alike Every Error _ _ s t a) (λ n st c. refl)
 plain_part tested known d (Package title version bug tarname url) w v r =
     still_part tested known (initialised title version bug tarname url) _ w (λ at reads s t a. init_alike at title version bug tarname url s t a)
     (λ n st c. init_values title version bug tarname url n st c)

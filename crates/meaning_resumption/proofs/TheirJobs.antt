@@ -26,7 +26,7 @@ use Rattle.meaning.specs.State.{State, Scope, no_choice, about, Run, ended, as_i
 use Rattle.meaning.specs.Tests.{checking, tested}
 use Rattle.meaning.specs.Rows.{TestKind, Library, Libraries, kind_for, name_of, row_of}
 use Rattle.meaning.specs.Batches.{Batch, job_for, asking}
-use Rattle.meaning.specs.Meaning.{effect, asked, found_by, begun, rounds_of, in_turn, is_taken, meaning, chosen}
+use Rattle.meaning.specs.Meaning.{effect, after_question, found_by, after_subject, rounds_of, in_turn, is_taken, meaning, chosen}
 use Rattle.meaning_laws.specs.Questions.{yes_or_no}
 use Rattle.meaning_laws.proofs.CommandLemmas.{one_round}
 use Rattle.meaning_resumption.specs.Joint.{test_in, checks}
@@ -74,7 +74,7 @@ their_kind : (q : Question) (kind : TestKind) (st : State) (rs : List Reply) →
 their_kind q kind st rs e =
     their_made (value_of st.vars (name_of kind)) _ (subst (λ l. HasItsJobs (record { name = Some (name_of kind); jobs = l })) (found_jobs kind st rs) (of_question q kind st rs e))
 
-their_question : (q : Question) (st : State) (rs : List Reply) → Each HasItsJobs (use_shares (uses_asked q) st (asked as_is q st yes_or_no) rs)
+their_question : (q : Question) (st : State) (rs : List Reply) → Each HasItsJobs (use_shares (uses_asked q) st (after_question as_is q st yes_or_no) rs)
 their_question (Given kind variable) st rs = tt
 their_question (Tries kind program) st rs = (of_try kind program st rs, tt)
 their_question (Checks (seeks.ListEntry listed) entry includes) st rs = their_kind (Checks (seeks.ListEntry listed) entry includes) (kind_for (seeks.ListEntry listed) entry includes false) st rs refl
@@ -89,14 +89,14 @@ their_subject : (r : Subject) (st : State) (rs : List Reply) (rest : Scope → S
 their_subject subjects.Nothing st rs rest h = h no_choice st rs
 their_subject (subjects.Word word) st rs rest h = h (about (word_value word st.vars)) st rs
 their_subject (subjects.Asked q) st rs rest h =
-    let run = asked as_is q st yes_or_no in
+    let run = after_question as_is q st yes_or_no in
     each_both HasItsJobs (use_shares (uses_asked q) st run rs) (shares_answered run rs rest) (their_question q st rs) (each_answered HasItsJobs Always run rs rest (always run) (λ c now left k. h c now left))
 
 their_turns : (rounds : List Subject) (go : Scope → State → Run) (inside : Scope → State → List Reply → List Share) → ((c : Scope) (now : State) (left : List Reply) → Each HasItsJobs (inside c now left)) → (st : State) (rs : List Reply) → Each HasItsJobs (turn_shares rounds go inside st rs)
 their_turns [] go inside h st rs = tt
 their_turns (r ∷ more) go inside h st rs =
     each_both HasItsJobs (subject_shares r st rs inside) _ (their_subject r st rs inside h)
-    (each_after HasItsJobs Always (begun as_is r st go) rs (turn_shares more go inside) (always (begun as_is r st go)) (λ now left k. their_turns more go inside h now left))
+    (each_after HasItsJobs Always (after_subject as_is r st go) rs (turn_shares more go inside) (always (after_subject as_is r st go)) (λ now left k. their_turns more go inside h now left))
 
 -- ---- commands ask for nothing in tests
 
@@ -111,15 +111,15 @@ unnamed_subject : (r : Subject) (st : State) (rs : List Reply) (rest : Scope →
 unnamed_subject subjects.Nothing st rs rest a h = h no_choice st rs
 unnamed_subject (subjects.Word word) st rs rest a h = h (about (word_value word st.vars)) st rs
 unnamed_subject (subjects.Asked (Tries kind program)) st rs rest a h =
-    let run = asked as_is (Tries kind program) st yes_or_no in
+    let run = after_question as_is (Tries kind program) st yes_or_no in
     (refl, each_answered Unnamed Always run rs rest (always run) (λ c now left k. h c now left))
 unnamed_subject (subjects.Asked _) st rs rest a h = absurd a
 
 unnamed_turn : (r : Subject) (go : Scope → State → Run) (inside : Scope → State → List Reply → List Share) (st : State) (rs : List Reply) → TriesAlone r → ((c : Scope) (now : State) (left : List Reply) → Each Unnamed (inside c now left)) → Each Unnamed (turn_shares (rounds_of r) go inside st rs)
 unnamed_turn r go inside st rs a h =
     subst (λ rounds. Each Unnamed (turn_shares rounds go inside st rs)) (sym (one_round r a))
-    (each_both Unnamed (subject_shares r st rs inside) (shares_after (begun as_is r st go) rs (turn_shares [] go inside)) (unnamed_subject r st rs inside a h)
-    (each_after Unnamed Always (begun as_is r st go) rs (turn_shares [] go inside) (always (begun as_is r st go)) (λ now left k. tt)))
+    (each_both Unnamed (subject_shares r st rs inside) (shares_after (after_subject as_is r st go) rs (turn_shares [] go inside)) (unnamed_subject r st rs inside a h)
+    (each_after Unnamed Always (after_subject as_is r st go) rs (turn_shares [] go inside) (always (after_subject as_is r st go)) (λ now left k. tt)))
 
 mutual
   unfolding shares case_shares

@@ -17,7 +17,7 @@ use Rattle.ac_tree.specs.Uses.{Uses, uses_of, uses_asked}
 use Rattle.meaning.specs.State.{State, Scope, no_choice, about, Run, as_is}
 use Rattle.meaning.specs.Tests.{checking}
 use Rattle.meaning.specs.Batches.{Batch, job_for, asking}
-use Rattle.meaning.specs.Meaning.{effect, asked, begun, rounds_of, in_turn, is_taken, check, meaning, chosen}
+use Rattle.meaning.specs.Meaning.{effect, after_question, after_subject, rounds_of, in_turn, is_taken, check, meaning, chosen}
 use Rattle.meaning_laws.specs.Cached.{IsSet}
 use Rattle.meaning_laws.specs.Questions.{yes_or_no}
 use Rattle.meaning_laws.proofs.BatchLemmas.{no_job_set}
@@ -85,7 +85,7 @@ spares_subject : (n : List ℕ) (r : Subject) (st : State) (rs : List Reply) (re
 spares_subject n Nothing st rs rest s h = h no_choice st rs s
 spares_subject n (Word word) st rs rest s h = h (about (word_value word st.vars)) st rs s
 spares_subject n (Asked q) st rs rest s h =
-    let run = asked as_is q st yes_or_no in
+    let run = after_question as_is q st yes_or_no in
     each_both (λ share. Other n share.name) (use_shares (uses_asked q) st run rs) (shares_answered run rs rest) (spares_use n (uses_asked q) st run rs s)
     (each_answered (λ share. Other n share.name) (Set n) run rs rest (asked_holds (Stays n) (steps n).steps q st yes_or_no (λ c now k. k) s) h)
 
@@ -94,7 +94,7 @@ spares_turns : (n : List ℕ) (rounds : List Subject) (go : Scope → State → 
 spares_turns n [] go inside keep h st rs s = tt
 spares_turns n (r ∷ more) go inside keep h st rs s =
     each_both (λ share. Other n share.name) (subject_shares r st rs inside) _ (spares_subject n r st rs inside s h)
-    (each_after (λ share. Other n share.name) (Set n) (begun as_is r st go) rs (turn_shares more go inside) (begun_holds (Stays n) (steps n).steps r st go keep s) (λ now left k. spares_turns n more go inside keep h now left k))
+    (each_after (λ share. Other n share.name) (Set n) (after_subject as_is r st go) rs (turn_shares more go inside) (begun_holds (Stays n) (steps n).steps r st go keep s) (λ now left k. spares_turns n more go inside keep h now left k))
 
 mutual
   unfolding meaning chosen shares case_shares

@@ -25,7 +25,7 @@ use Rattle.meaning.specs.State.{State, Scope, no_choice, about, answered, Goes_o
 use Rattle.meaning.specs.Tests.{checking, tested}
 use Rattle.meaning.specs.Rows.{TestKind, name_of, row_of}
 use Rattle.meaning.specs.Batches.{Batch, job_for, asking}
-use Rattle.meaning.specs.Meaning.{effect, asked, begun, rounds_of, in_turn, is_taken, meaning, chosen}
+use Rattle.meaning.specs.Meaning.{effect, after_question, after_subject, rounds_of, in_turn, is_taken, meaning, chosen}
 use Rattle.meaning.specs.Play.{play, all_jobs}
 use Rattle.meaning_laws.specs.Questions.{yes_or_no}
 use Rattle.meaning_laws.specs.Refusals.{played}
@@ -90,14 +90,14 @@ abbrev pub subject_shares : Subject → State → List Reply → (Scope → Stat
 subject_shares Nothing st replies inside = inside no_choice st replies
 subject_shares (Word word) st replies inside = inside (about (word_value word st.vars)) st replies
 subject_shares (Asked q) st replies inside =
-    let run : Run = asked as_is q st yes_or_no in
+    let run : Run = after_question as_is q st yes_or_no in
     use_shares (uses_asked q) st run replies ++ shares_answered run replies inside
 
 -- Rounds, one after the other.
 abbrev pub turn_shares : List Subject → (Scope → State → Run) → (Scope → State → List Reply → List Share) → State → List Reply → List Share
 turn_shares [] go inside st replies = []
 turn_shares (round ∷ more) go inside st replies =
-    subject_shares round st replies inside ++ shares_after (begun as_is round st go) replies (turn_shares more go inside)
+    subject_shares round st replies inside ++ shares_after (after_subject as_is round st go) replies (turn_shares more go inside)
 
 -- AC_CACHE_CHECK of this name, with the shares of its commands: a program that they try belongs to it. It has asked for these
 -- jobs before. (Commands that the parser gives hold no tests, so it is one share.)
@@ -155,7 +155,7 @@ pub data HasItsJobs : Share → Type 0 where
   of_check : (message : List Part) (name : List ℕ) (commands : Script) (st : State) (replies : List Reply)
       → HasItsJobs (record { name = Some name; jobs = jobs_asked (checks message name (meaning commands) st) replies })
   of_try : (kind : Try) (program : Program) (st : State) (replies : List Reply)
-      → HasItsJobs (record { name = None; jobs = jobs_asked (asked as_is (Tries kind program) st yes_or_no) replies })
+      → HasItsJobs (record { name = None; jobs = jobs_asked (after_question as_is (Tries kind program) st yes_or_no) replies })
 
 -- So has each, if the source has the form that the parser gives it.
 abbrev pub SharesHaveTheirJobs : Type 0

@@ -10,7 +10,7 @@ use Rattle.deftable.proofs.Tables.{value_of-with_entry}
 use Rattle.deftable.specs.NameList.{has_name}
 use Rattle.deftable.specs.Table.{value_of, with_entry, names_of}
 use Rattle.options_line.proofs.Lines.{settings_given, fault_given, given_reads, Reads}
-use Rattle.options_line.specs.Arguments.{given}
+use Rattle.options_line.specs.Arguments.{settings_from}
 use Rattle.options_line.specs.CommandLine.{Setting, GivesSettings, IsFirstFault}
 use Rattle.options.specs.Opening.{opened_by, opening, IsOpening, of_arguments, of_options, IsOpeningFault, set_by, with_variable, with_unslashed, set_mark, with_marks, finished}
 use Rattle.options_line.specs.Directories.{directories, directory_names, variable_of}
@@ -24,11 +24,11 @@ use Rattle.options.specs.declared.settings.Settings.{Settings}
 -- ---- the settings that arguments give
 
 -- The function gives these settings if the arguments give them.
-pub given_is_settings : (i : ℕ) (arguments : List (List ℕ)) (settings : List Setting) → (given None i arguments ≡ Ok settings) ↔ GivesSettings i arguments settings
+pub given_is_settings : (i : ℕ) (arguments : List (List ℕ)) (settings : List Setting) → (settings_from None i arguments ≡ Ok settings) ↔ GivesSettings i arguments settings
 given_is_settings i arguments settings = (λ e. subst (Reads i arguments) e (given_reads i arguments), settings_given)
 
 -- It gives this error if it is the first one.
-pub given_is_fault : (i : ℕ) (arguments : List (List ℕ)) (fault : OptionFault) → (given None i arguments ≡ Err fault) ↔ IsFirstFault i arguments fault
+pub given_is_fault : (i : ℕ) (arguments : List (List ℕ)) (fault : OptionFault) → (settings_from None i arguments ≡ Err fault) ↔ IsFirstFault i arguments fault
 given_is_fault i arguments fault = (λ e. subst (Reads i arguments) e (given_reads i arguments), fault_given)
 
 -- Arguments give one list of settings.
@@ -45,7 +45,7 @@ never_both i arguments settings f h k = let first = settings_given h in let seco
 
 -- Arguments have one of the two.
 pub one_of_both : (i : ℕ) (arguments : List (List ℕ)) → ((settings : List Setting) × GivesSettings i arguments settings) ⊎ ((f : OptionFault) × IsFirstFault i arguments f)
-one_of_both i arguments = at (given None i arguments) (given_reads i arguments) where
+one_of_both i arguments = at (settings_from None i arguments) (given_reads i arguments) where
   at : (g : Result (List Setting) OptionFault) → Reads i arguments g → ((settings : List Setting) × GivesSettings i arguments settings) ⊎ ((f : OptionFault) × IsFirstFault i arguments f)
   at (Ok settings) h = inl (settings, h)
   at (Err f) h = inr (f, h)
@@ -55,7 +55,7 @@ one_of_both i arguments = at (given None i arguments) (given_reads i arguments) 
 module _ (features packages precious arguments : List (List ℕ)) (environment : List (List ℕ × List ℕ)) where
   pub opening_is : (opened : Settings) → opening features packages precious arguments environment ≡ Ok opened → IsOpening features packages precious arguments environment opened
   unfolding opening
-  opening_is opened e = at (given None 0 arguments) (given_reads 0 arguments) e where
+  opening_is opened e = at (settings_from None 0 arguments) (given_reads 0 arguments) e where
     at : (g : Result (List Setting) OptionFault) → Reads 0 arguments g → (g >>= opened_by features packages precious environment) ≡ Ok opened
         → IsOpening features packages precious arguments environment opened
     at (Ok settings) gives is = record { settings = settings; gives = gives; is = is }
@@ -67,7 +67,7 @@ module _ (features packages precious arguments : List (List ℕ)) (environment :
 
   pub opening_fails : (fault : OptionFault) → opening features packages precious arguments environment ≡ Err fault → IsOpeningFault features packages precious arguments environment fault
   unfolding opening
-  opening_fails fault e = at (given None 0 arguments) (given_reads 0 arguments) e where
+  opening_fails fault e = at (settings_from None 0 arguments) (given_reads 0 arguments) e where
     at : (g : Result (List Setting) OptionFault) → Reads 0 arguments g → (g >>= opened_by features packages precious environment) ≡ Err fault
         → IsOpeningFault features packages precious arguments environment fault
     at (Ok settings) gives is = of_options settings gives is

@@ -9,7 +9,7 @@ use Rattle.deftable.specs.Table.{with_entry}
 use Rattle.ac_tree.specs.Feature.{option_variable}
 use Rattle.options_line.proofs.Lines.{alone_awaits, given_reads, Reads}
 use Rattle.options_line.proofs.Words.{option_said, setting_said}
-use Rattle.options_line.specs.Arguments.{Argument, Flag, OptionValue, OptionName, FeatureValue, VariableValue, read_argument, alone, awaited_by, and_then, given}
+use Rattle.options_line.specs.Arguments.{Argument, Flag, OptionValue, OptionName, FeatureValue, VariableValue, read_argument, alone, awaited_by, and_then, settings_from}
 use Rattle.options_line.specs.CommandLine as line
 use Rattle.options_line.specs.CommandLine.{Setting, Variable, Choice, Cache, SourceDirectory, Switched, valued, GivesSettings}
 use Rattle.options_line.specs.Directories.{directories, variable_of, default_of}
@@ -81,19 +81,19 @@ joined features packages first r (Err fault) = refl
 -- What is read after an argument.
 abbrev Step : List (List ℕ) → List (List ℕ) → List (List ℕ) → Type 0
 Step features packages more = (awaited : Option Target) (i : ℕ) (r : Reader) → r.awaited ≡ awaited
-    → with_arguments features packages i r more ≡ (given awaited i more >>= λ settings. Ok (after_all features packages settings (idle r)))
+    → with_arguments features packages i r more ≡ (settings_from awaited i more >>= λ settings. Ok (after_all features packages settings (idle r)))
 
 after_setting : (features packages more : List (List ℕ)) (i : ℕ) (setting : Setting) (r : Reader) → r.awaited ≡ None → Step features packages more
     → with_arguments features packages i (after features packages setting r) more
-    ≡ (and_then (Ok setting) (given None i more) >>= λ settings. Ok (after_all features packages settings r))
+    ≡ (and_then (Ok setting) (settings_from None i more) >>= λ settings. Ok (after_all features packages settings r))
 after_setting features packages more i setting r e step =
     let none : (after features packages setting r).awaited ≡ None = awaits_still setting features packages r ∙ e in
     step None i (after features packages setting r) none
-    ∙ ap (λ q. given None i more >>= λ settings. Ok (after_all features packages settings q)) (idle_is (after features packages setting r) none)
-    ∙ joined features packages setting r (given None i more)
+    ∙ ap (λ q. settings_from None i more >>= λ settings. Ok (after_all features packages settings q)) (idle_is (after features packages setting r) none)
+    ∙ joined features packages setting r (settings_from None i more)
 
 end_steps : (features packages : List (List ℕ)) → Step features packages []
-unfolding with_arguments at_end given after_all
+unfolding with_arguments at_end settings_from after_all
 end_steps features packages None i r e =
     ap (λ a. elim a as (λ a. Result Reader OptionFault) [ Some target ↦ Err (MissingValue i) | None ↦ Ok r ]) e ∙ ap (λ q. Ok q) (sym (idle_is r e))
 end_steps features packages (Some target) i r e =
@@ -101,8 +101,8 @@ end_steps features packages (Some target) i r e =
 
 value_steps : (features packages : List (List ℕ)) (target : Target) (value : List ℕ) (more : List (List ℕ)) (i : ℕ) (r : Reader) → r.awaited ≡ Some target
     → Step features packages more → with_arguments features packages i r (value ∷ more)
-    ≡ (given (Some target) i (value ∷ more) >>= λ settings. Ok (after_all features packages settings (idle r)))
-unfolding with_arguments with_argument given
+    ≡ (settings_from (Some target) i (value ∷ more) >>= λ settings. Ok (after_all features packages settings (idle r)))
+unfolding with_arguments with_argument settings_from
 value_steps features packages target value more i r e step =
     ap (λ a. (elim a as (λ a. Result Reader OptionFault) [ Some t ↦ Ok (with_value t value (idle r)) | None ↦ with_said features packages (i + 1) (read_argument value) r ])
     >>= λ next. with_arguments features packages (i + 1) next more) e
@@ -111,24 +111,24 @@ value_steps features packages target value more i r e step =
 
 -- An argument that isn't the value of an option.
 word_steps : (features packages : List (List ℕ)) (word : List ℕ) (more : List (List ℕ)) (i : ℕ) (r : Reader) → r.awaited ≡ None → Step features packages more
-    → with_arguments features packages i r (word ∷ more) ≡ (given None i (word ∷ more) >>= λ settings. Ok (after_all features packages settings (idle r)))
-unfolding with_arguments with_argument given
+    → with_arguments features packages i r (word ∷ more) ≡ (settings_from None i (word ∷ more) >>= λ settings. Ok (after_all features packages settings (idle r)))
+unfolding with_arguments with_argument settings_from
 word_steps features packages word more i r e step =
     ap (λ a. (elim a as (λ a. Result Reader OptionFault) [ Some t ↦ Ok (with_value t word (idle r)) | None ↦ with_said features packages (i + 1) (read_argument word) r ])
     >>= λ next. with_arguments features packages (i + 1) next more) e
     ∙ at (awaited_by (read_argument word)) refl where
       alone_at : (first : Result Setting OptionFault) → ((first >>= λ setting. Ok (after features packages setting r)) >>= λ next. with_arguments features packages (i + 1) next more)
-          ≡ (and_then first (given None (i + 1) more) >>= λ settings. Ok (after_all features packages settings (idle r)))
+          ≡ (and_then first (settings_from None (i + 1) more) >>= λ settings. Ok (after_all features packages settings (idle r)))
       alone_at (Ok setting) =
           after_setting features packages more (i + 1) setting r e step
-          ∙ ap (λ q. and_then (Ok setting) (given None (i + 1) more) >>= λ settings. Ok (after_all features packages settings q)) (sym (idle_is r e))
+          ∙ ap (λ q. and_then (Ok setting) (settings_from None (i + 1) more) >>= λ settings. Ok (after_all features packages settings q)) (sym (idle_is r e))
       alone_at (Err fault) = refl
 
       at : (a : Option Target) → awaited_by (read_argument word) ≡ a
           → (with_said features packages (i + 1) (read_argument word) r >>= λ next. with_arguments features packages (i + 1) next more)
           ≡ ((elim a as (λ a. Result (List Setting) OptionFault) [
-            | Some target ↦ given (Some target) (i + 1) more
-            | None ↦ and_then (alone (i + 1) (read_argument word)) (given None (i + 1) more)
+            | Some target ↦ settings_from (Some target) (i + 1) more
+            | None ↦ and_then (alone (i + 1) (read_argument word)) (settings_from None (i + 1) more)
           ]) >>= λ settings. Ok (after_all features packages settings (idle r)))
       at (Some target) is =
           ap (λ q. q >>= λ next. with_arguments features packages (i + 1) next more) (awaits_is features packages (i + 1) (read_argument word) target r is)
@@ -142,7 +142,7 @@ steps features packages [] = end_steps features packages
 steps features packages (word ∷ more) =
     λ awaited i r e. at awaited i r e (steps features packages more) where
       at : (awaited : Option Target) (i : ℕ) (r : Reader) → r.awaited ≡ awaited → Step features packages more
-          → with_arguments features packages i r (word ∷ more) ≡ (given awaited i (word ∷ more) >>= λ settings. Ok (after_all features packages settings (idle r)))
+          → with_arguments features packages i r (word ∷ more) ≡ (settings_from awaited i (word ∷ more) >>= λ settings. Ok (after_all features packages settings (idle r)))
       at None i r e step = word_steps features packages word more i r e step
       at (Some target) i r e step = value_steps features packages target word more i r e step
 
@@ -273,8 +273,8 @@ pub stepwise_is_opening : (features packages precious arguments : List (List ℕ
 unfolding stepwise opening reader_before
 stepwise_is_opening features packages precious arguments environment =
     ap (λ q. q >>= settings_after precious arguments) (steps features packages arguments None 0 (reader_before environment) refl)
-    ∙ at (given None 0 arguments) refl where
-      at : (g : Result (List Setting) OptionFault) → given None 0 arguments ≡ g
+    ∙ at (settings_from None 0 arguments) refl where
+      at : (g : Result (List Setting) OptionFault) → settings_from None 0 arguments ≡ g
           → ((g >>= λ settings. Ok (after_all features packages settings (idle (reader_before environment)))) >>= settings_after precious arguments)
           ≡ (g >>= opened_by features packages precious environment)
       at (Ok settings) e = settings_opened features packages precious arguments environment settings (subst (Reads 0 arguments) e (given_reads 0 arguments))

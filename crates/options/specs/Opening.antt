@@ -7,7 +7,7 @@ use Rattle.deftable.specs.NameList.{has_name}
 use Rattle.deftable.specs.ShellName.{is_shell_name_of}
 use Rattle.deftable.specs.Table.{value_of, with_entry}
 use Rattle.ac_tree.specs.Feature.{option_variable}
-use Rattle.options_line.specs.Arguments.{given}
+use Rattle.options_line.specs.Arguments.{settings_from}
 use Rattle.options_line.specs.CommandLine.{Setting, Variable, Choice, Cache, SourceDirectory, Switched, GivesSettings, IsFirstFault}
 use Rattle.options_line.specs.Directories.{directories, variable_of, default_of}
 use Rattle.options_line.specs.Reading.{◌>>=◌}
@@ -156,7 +156,7 @@ opened_by features packages precious environment settings =
 -- What a run begins with, by a command line and an environment, if the source declares these features, packages and
 -- precious variables, or the first error. (Autoconf's manual, "Running configure Scripts")
 unfoldable pub opening : List (List ℕ) → List (List ℕ) → List (List ℕ) → List (List ℕ) → List (List ℕ × List ℕ) → Result Settings OptionFault
-opening features packages precious arguments environment = given None 0 arguments >>= opened_by features packages precious environment
+opening features packages precious arguments environment = settings_from None 0 arguments >>= opened_by features packages precious environment
 
 -- ---- the same as relations
 

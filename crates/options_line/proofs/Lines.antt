@@ -1,7 +1,7 @@
 -- What all arguments give, as a function and by its rule.
 use Rattle.std.proofs.Common.{◌≡◌, ℕ, ◌+◌, List, [], ◌∷◌, Option, Some, None, Result, Ok, Err, refl, sym, ap, subst, ◌∙◌, arith}
 use Rattle.options_line.proofs.Words.{Means, option_said, setting_said, misnamed_said, misassigned_said, said_means}
-use Rattle.options_line.specs.Arguments.{Argument, Flag, OptionValue, OptionName, FeatureValue, BadFeatureName, VariableValue, BadVariableName, Unrecognized, read_argument, alone, awaited_by, and_then, given}
+use Rattle.options_line.specs.Arguments.{Argument, Flag, OptionValue, OptionName, FeatureValue, BadFeatureName, VariableValue, BadVariableName, Unrecognized, read_argument, alone, awaited_by, and_then, settings_from}
 use Rattle.options_line.specs.CommandLine as line
 use Rattle.options_line.specs.CommandLine.{Setting, valued, IsOption, GivesAlone, IsOther, IsMisnamed, IsMisassigned, IsAtFault, GivesSettings, IsFirstFault}
 use Rattle.options_line.specs.declared.argument.Target.{Target}
@@ -61,55 +61,55 @@ word_of i word = at (read_argument word) refl (said_means i word) where
 
 abbrev at_word : ℕ → List ℕ → List (List ℕ) → Option Target → Result (List Setting) OptionFault
 at_word i word more awaited = elim awaited as (λ r. Result (List Setting) OptionFault) [
-  | Some target ↦ given (Some target) (i + 1) more
-  | None ↦ and_then (alone (i + 1) (read_argument word)) (given None (i + 1) more)
+  | Some target ↦ settings_from (Some target) (i + 1) more
+  | None ↦ and_then (alone (i + 1) (read_argument word)) (settings_from None (i + 1) more)
 ]
 
 given_awaits : (i : ℕ) (word : List ℕ) (more : List (List ℕ)) (target : Target) → awaited_by (read_argument word) ≡ Some target
-    → given None i (word ∷ more) ≡ given (Some target) (i + 1) more
-unfolding given
+    → settings_from None i (word ∷ more) ≡ settings_from (Some target) (i + 1) more
+unfolding settings_from
 given_awaits i word more target e = ap (at_word i word more) e
 
 given_alone : (i : ℕ) (word : List ℕ) (more : List (List ℕ)) → awaited_by (read_argument word) ≡ None
-    → given None i (word ∷ more) ≡ and_then (alone (i + 1) (read_argument word)) (given None (i + 1) more)
-unfolding given
+    → settings_from None i (word ∷ more) ≡ and_then (alone (i + 1) (read_argument word)) (settings_from None (i + 1) more)
+unfolding settings_from
 given_alone i word more e = ap (at_word i word more) e
 
 given_value : (i : ℕ) (target : Target) (value : List ℕ) (more : List (List ℕ))
-    → given (Some target) (i + 1) (value ∷ more) ≡ and_then (Ok (valued target value)) (given None (i + 2) more)
-unfolding given
-given_value i target value more = let two : i + 1 + 1 ≡ i + 2 = omega arith in ap (λ n. and_then (Ok (valued target value)) (given None n more)) two
+    → settings_from (Some target) (i + 1) (value ∷ more) ≡ and_then (Ok (valued target value)) (settings_from None (i + 2) more)
+unfolding settings_from
+given_value i target value more = let two : i + 1 + 1 ≡ i + 2 = omega arith in ap (λ n. and_then (Ok (valued target value)) (settings_from None n more)) two
 
-given_none : (i : ℕ) → given None i [] ≡ Ok []
-unfolding given
+given_none : (i : ℕ) → settings_from None i [] ≡ Ok []
+unfolding settings_from
 given_none i = refl
 
-given_end : (i : ℕ) (target : Target) → given (Some target) i [] ≡ Err (MissingValue i)
-unfolding given
+given_end : (i : ℕ) (target : Target) → settings_from (Some target) i [] ≡ Err (MissingValue i)
+unfolding settings_from
 given_end i target = refl
 
 -- ---- from the rule to the function
 
-pub settings_given : {i : ℕ} {arguments : List (List ℕ)} {settings : List Setting} → GivesSettings i arguments settings → given None i arguments ≡ Ok settings
+pub settings_given : {i : ℕ} {arguments : List (List ℕ)} {settings : List Setting} → GivesSettings i arguments settings → settings_from None i arguments ≡ Ok settings
 settings_given {i = i} line.no_more = given_none i
 settings_given {i = i} (line.one_word {word = word} {setting = setting} {more = more} {settings = settings} h rest) =
     given_alone i word more (alone_awaits (i + 1) (read_argument word) setting (setting_said h))
-    ∙ ap (λ first. and_then first (given None (i + 1) more)) (setting_said h)
+    ∙ ap (λ first. and_then first (settings_from None (i + 1) more)) (setting_said h)
     ∙ ap (and_then (Ok setting)) (settings_given rest)
 settings_given {i = i} (line.two_words {option = option} {target = target} {more = more} {settings = settings} h value rest) =
     given_awaits i option (value ∷ more) target (ap awaited_by (option_said h))
     ∙ given_value i target value more
     ∙ ap (and_then (Ok (valued target value))) (settings_given rest)
 
-pub fault_given : {i : ℕ} {arguments : List (List ℕ)} {fault : OptionFault} → IsFirstFault i arguments fault → given None i arguments ≡ Err fault
+pub fault_given : {i : ℕ} {arguments : List (List ℕ)} {fault : OptionFault} → IsFirstFault i arguments fault → settings_from None i arguments ≡ Err fault
 fault_given {i = i} (line.at_once {word = word} {more = more} h) =
     let bad = fault_said h in
-    given_alone i word more bad.1 ∙ ap (λ first. and_then first (given None (i + 1) more)) bad.0
+    given_alone i word more bad.1 ∙ ap (λ first. and_then first (settings_from None (i + 1) more)) bad.0
 fault_given {i = i} (line.no_value {option = option} {target = target} h) =
     given_awaits i option [] target (ap awaited_by (option_said h)) ∙ given_end (i + 1) target
 fault_given {i = i} (line.after_word {word = word} {setting = setting} {more = more} h rest) =
     given_alone i word more (alone_awaits (i + 1) (read_argument word) setting (setting_said h))
-    ∙ ap (λ first. and_then first (given None (i + 1) more)) (setting_said h)
+    ∙ ap (λ first. and_then first (settings_from None (i + 1) more)) (setting_said h)
     ∙ ap (and_then (Ok setting)) (fault_given rest)
 fault_given {i = i} (line.after_words {option = option} {value = value} {target = target} {more = more} h rest) =
     given_awaits i option (value ∷ more) target (ap awaited_by (option_said h))
@@ -134,30 +134,30 @@ two_read i option value more target h (Ok settings) rest = line.two_words h valu
 two_read i option value more target h (Err fault) rest = line.after_words h rest
 
 -- An argument, with those after it.
-reads_at : (i : ℕ) (word : List ℕ) (more : List (List ℕ)) → ((n : ℕ) → Reads n more (given None n more))
-    → ((n : ℕ) (next : List ℕ) (rest : List (List ℕ)) → more ≡ next ∷ rest → Reads n rest (given None n rest)) → Reads i (word ∷ more) (given None i (word ∷ more))
+reads_at : (i : ℕ) (word : List ℕ) (more : List (List ℕ)) → ((n : ℕ) → Reads n more (settings_from None n more))
+    → ((n : ℕ) (next : List ℕ) (rest : List (List ℕ)) → more ≡ next ∷ rest → Reads n rest (settings_from None n rest)) → Reads i (word ∷ more) (settings_from None i (word ∷ more))
 reads_at i word more after later = at (word_of (i + 1) word) where
-  value_at : (target : Target) → IsOption word target → awaited_by (read_argument word) ≡ Some target → (rest : List (List ℕ)) → more ≡ rest → Reads i (word ∷ rest) (given None i (word ∷ rest))
+  value_at : (target : Target) → IsOption word target → awaited_by (read_argument word) ≡ Some target → (rest : List (List ℕ)) → more ≡ rest → Reads i (word ∷ rest) (settings_from None i (word ∷ rest))
   value_at target is e [] same = subst (Reads i (word ∷ [])) (sym (given_awaits i word [] target e ∙ given_end (i + 1) target)) (line.no_value is)
   value_at target is e (value ∷ rest) same =
       subst (Reads i (word ∷ value ∷ rest)) (sym (given_awaits i word (value ∷ rest) target e ∙ given_value i target value rest))
-      (two_read i word value rest target is (given None (i + 2) rest) (later (i + 2) value rest same))
+      (two_read i word value rest target is (settings_from None (i + 2) rest) (later (i + 2) value rest same))
 
-  at : Word (i + 1) word → Reads i (word ∷ more) (given None i (word ∷ more))
+  at : Word (i + 1) word → Reads i (word ∷ more) (settings_from None i (word ∷ more))
   at (gives setting is said none) =
-      subst (Reads i (word ∷ more)) (sym (given_alone i word more none ∙ ap (λ first. and_then first (given None (i + 1) more)) said))
-      (one_reads i word more setting is (given None (i + 1) more) (after (i + 1)))
+      subst (Reads i (word ∷ more)) (sym (given_alone i word more none ∙ ap (λ first. and_then first (settings_from None (i + 1) more)) said))
+      (one_reads i word more setting is (settings_from None (i + 1) more) (after (i + 1)))
   at (awaits target is e) = value_at target is e more refl
   at (fails fault is said none) =
-      subst (Reads i (word ∷ more)) (sym (given_alone i word more none ∙ ap (λ first. and_then first (given None (i + 1) more)) said)) (line.at_once is)
+      subst (Reads i (word ∷ more)) (sym (given_alone i word more none ∙ ap (λ first. and_then first (settings_from None (i + 1) more)) said)) (line.at_once is)
 
 -- The arguments, and those after the first.
 both_read : (arguments : List (List ℕ))
-    → ((i : ℕ) → Reads i arguments (given None i arguments)) × ((n : ℕ) (next : List ℕ) (rest : List (List ℕ)) → arguments ≡ next ∷ rest → Reads n rest (given None n rest))
+    → ((i : ℕ) → Reads i arguments (settings_from None i arguments)) × ((n : ℕ) (next : List ℕ) (rest : List (List ℕ)) → arguments ≡ next ∷ rest → Reads n rest (settings_from None n rest))
 both_read [] = (λ i. subst (Reads i []) (sym (given_none i)) line.no_more, λ n next rest e. absurd (cc))
 both_read (word ∷ more) =
     let tail = both_read more in
-    (λ i. reads_at i word more tail.0 tail.1, λ n next rest e. let same : more ≡ rest = cc in subst (λ r. Reads n r (given None n r)) same (tail.0 n))
+    (λ i. reads_at i word more tail.0 tail.1, λ n next rest e. let same : more ≡ rest = cc in subst (λ r. Reads n r (settings_from None n r)) same (tail.0 n))
 
-pub given_reads : (i : ℕ) (arguments : List (List ℕ)) → Reads i arguments (given None i arguments)
+pub given_reads : (i : ℕ) (arguments : List (List ℕ)) → Reads i arguments (settings_from None i arguments)
 given_reads i arguments = (both_read arguments).0 i

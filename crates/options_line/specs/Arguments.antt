@@ -170,11 +170,11 @@ and_then first rest = first >>= λ setting. rest >>= λ settings. Ok (setting �
 
 -- The settings that arguments give, or their first error, after i other arguments, the last of which may be an option
 -- that needs a value. (own)
-unfoldable pub given : Option Target → ℕ → List (List ℕ) → Result (List Setting) OptionFault
-given None i [] = Ok []
-given (Some target) i [] = Err (MissingValue i)
-given (Some target) i (value ∷ more) = and_then (Ok (valued target value)) (given None (i + 1) more)
-given None i (word ∷ more) = elim (awaited_by (read_argument word)) [
-  | Some target ↦ given (Some target) (i + 1) more
-  | None ↦ and_then (alone (i + 1) (read_argument word)) (given None (i + 1) more)
+unfoldable pub settings_from : Option Target → ℕ → List (List ℕ) → Result (List Setting) OptionFault
+settings_from None i [] = Ok []
+settings_from (Some target) i [] = Err (MissingValue i)
+settings_from (Some target) i (value ∷ more) = and_then (Ok (valued target value)) (settings_from None (i + 1) more)
+settings_from None i (word ∷ more) = elim (awaited_by (read_argument word)) [
+  | Some target ↦ settings_from (Some target) (i + 1) more
+  | None ↦ and_then (alone (i + 1) (read_argument word)) (settings_from None (i + 1) more)
 ]

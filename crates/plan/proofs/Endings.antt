@@ -16,10 +16,10 @@ use Rattle.ac_tree.specs.declared.program.Try as kinds
 use Rattle.ac_tree.specs.declared.program.Try.TheVariants as kinds_are
 use Rattle.ac_tree.specs.declared.tree.Subject as what
 use Rattle.ac_tree.specs.declared.tree.Subject.TheVariants.{Nothing, Word, Asked}
-use Rattle.meaning.specs.State.{State, Scope, answered, told, with_child, How, Goes_on, Completed, Stopped, Cut, Run, Ends, Asks, then_run, ended}
-use Rattle.meaning.specs.Meaning.{given, found_by, first_found, asked, begun}
+use Rattle.meaning.specs.State.{State, Scope, answered, with_note, with_child, How, Goes_on, Completed, Stopped, Cut, Run, Ends, Asks, then_run, ended}
+use Rattle.meaning.specs.Meaning.{after_option, found_by, first_found, after_question, after_subject}
 use Rattle.meaning.specs.Rows.{TestKind, Library, Libraries, kind_for, name_of, is_found, row_of}
-use Rattle.meaning.specs.Asking.{success, only_reply, heard, child, no_compiler, compiled}
+use Rattle.meaning.specs.Asking.{success, only_reply, after_child, child, no_compiler, compiled}
 use Rattle.meaning.specs.Tries.{first_probe, after_first, text_of}
 use Rattle.meaning.specs.Tests.{broken, guarded, tested}
 use Rattle.plan.specs.Broken.{broken_all, guarded_all}
@@ -87,7 +87,7 @@ pub ended_carries : (tests : List (List ℕ)) (early : How → State → State) 
 ended_carries tests early = record { goes = λ st. refl; completed = λ st. refl; asks = λ jobs ask. refl; cut = λ st. refl; stopped = λ s st. refl }
 
 heard_carried : (f : Run → Run) (early other : How → State → State) → Carries f early other → (answer : Option Bool) (st : State) (go : Bool → State → Run)
-    → f (heard early answer st go) ≡ heard other answer st (λ b now. f (go b now))
+    → f (after_child early answer st go) ≡ after_child other answer st (λ b now. f (go b now))
 heard_carried f early other c None st go = c.cut st
 heard_carried f early other c (Some b) st go = refl
 
@@ -97,7 +97,7 @@ child_carried f early other c job st go = c.asks _ _ ∙ ap (Asks (job ∷ [])) 
 
 pub compiled_carried : (f : Run → Run) (early other : How → State → State) → Carries f early other → (job : Option Job) (st : State) (go : Bool → State → Run)
     → f (compiled early job st go) ≡ compiled other job st (λ b now. f (go b now))
-compiled_carried f early other c None st go = c.stopped 1 (told Err no_compiler st)
+compiled_carried f early other c None st go = c.stopped 1 (with_note Err no_compiler st)
 compiled_carried f early other c (Some job) st go = child_carried f early other c job st go
 
 first_carried : (f : Run → Run) (early other : How → State → State) → Carries f early other → (kind : kinds.Try) (go : Bool → State → Run) (b : Bool) (st : State)
@@ -108,7 +108,7 @@ first_carried f early other c kinds_are.Compile go b st = refl
 first_carried f early other c kinds_are.Link go b st = refl
 first_carried f early other c kinds_are.Preproc go b st = refl
 
-given_carried : (f : Run → Run) (value : Option (List ℕ)) (kind : OptionKind) (st : State) (go : Scope → State → Run) → f (given value kind st go) ≡ given value kind st (λ scope now. f (go scope now))
+given_carried : (f : Run → Run) (value : Option (List ℕ)) (kind : OptionKind) (st : State) (go : Scope → State → Run) → f (after_option value kind st go) ≡ after_option value kind st (λ scope now. f (go scope now))
 given_carried f None kind st go = refl
 given_carried f (Some value) kind st go = refl
 
@@ -134,7 +134,7 @@ first_found_carried f early other c sought [] includes st go = refl
 first_found_carried f early other c sought (entry ∷ more) includes st go = found_carried f early other c (kind_for sought entry includes true) st go
 
 asked_carried : (f : Run → Run) (early other : How → State → State) → Carries f early other → (question : asks.Question) (st : State) (go : Scope → State → Run)
-    → f (asked early question st go) ≡ asked other question st (λ scope now. f (go scope now))
+    → f (after_question early question st go) ≡ after_question other question st (λ scope now. f (go scope now))
 asked_carried f early other c (Given kind variable) st go = given_carried f (value_of st.vars variable) kind st go
 asked_carried f early other c (Tries kind program) st go =
     let job = job_of (first_probe kind (text_of program st.vars)) 0 st.vars st.defs in
@@ -146,8 +146,8 @@ asked_carried f early other c (questions.Libraries function libraries others) st
 
 -- The beginning of a choice.
 pub begun_carried : (f : Run → Run) (early other : How → State → State) → Carries f early other → (subject : what.Subject) (st : State) (go : Scope → State → Run)
-    → f (begun early subject st go) ≡ begun other subject st (λ scope now. f (go scope now))
-unfolding begun
+    → f (after_subject early subject st go) ≡ after_subject other subject st (λ scope now. f (go scope now))
+unfolding after_subject
 begun_carried f early other c Nothing st go = refl
 begun_carried f early other c (Word word) st go = refl
 begun_carried f early other c (Asked question) st go = asked_carried f early other c question st go

@@ -13,8 +13,8 @@ use Rattle.ac_tree.specs.Script.{Script, Done, Then, Choice, Check, Cases, No_ca
 use Rattle.meaning.specs.State.{State, Scope, no_choice, as_is, Goes_on, Run, Ends, then_run}
 use Rattle.meaning.specs.Tests.{guarded, checking, with_result, test_by, cached_test}
 use Rattle.plan.specs.Broken.{broken_all, guarded_all}
-use Rattle.meaning.specs.Meaning.{effect, looks, looks_all, defaulted, begun, is_taken, check, rounds_of, in_turn, meaning, chosen}
-use Rattle.plan.specs.Walk.{Instruction, Does, Skips_unless, Skips, Opens, Closes, Mind, minded, empty_mind, opened, own_effect, walk, DoesWhat}
+use Rattle.meaning.specs.Meaning.{effect, looks, looks_all, defaulted, after_subject, is_taken, check, rounds_of, in_turn, meaning, chosen}
+use Rattle.plan.specs.Walk.{Instruction, Does, Skips_unless, Skips, Opens, Closes, Mind, mind_of, empty_mind, opened, own_effect, walk, DoesWhat}
 use Rattle.plan.specs.Code.{case_code, check_code, code_after, code_each, code_of, code_of_cases, code_of_programs, default_code}
 use Rattle.plan.proofs.Endings.{then_then, then_ends, guarded_then, guarded_inner, guarded_none, then_carries, ended_carries, begun_carried}
 
@@ -45,7 +45,7 @@ flat_check message name body more rest = ap (λ l. Opens message name (length bo
 
 -- Inside these tests, the steps continue in this way, whatever the subject.
 abbrev GoesOn : List Instruction → List (List ℕ) → (State → Run) → Type 0
-GoesOn steps tests next = (scope : Scope) (st : State) → walk steps 0 (minded scope tests) st ≡ next st
+GoesOn steps tests next = (scope : Scope) (st : State) → walk steps 0 (mind_of scope tests) st ≡ next st
 
 -- A case, given the effects of its statements and of the cases after it.
 either : (b : Bool) (inner body more rest : List Instruction) (yes_run no_run : Run) (mind : Mind) (st : State) → inner ≡ body ++ (Skips (length more) ∷ (more ++ rest))
@@ -85,8 +85,8 @@ default_follows variable (Some value) rest tests next h scope st = h scope (defa
 ordinary : (s : Effect) (rest : List Instruction) (tests : List (List ℕ)) (next : State → Run) → own_effect s ≡ effect s → code_after s ≡ [] → GoesOn rest tests next
     → GoesOn (Does s ∷ (code_after s ++ rest)) tests (λ st. then_run (guarded_all tests (effect s st)) next)
 ordinary s rest tests next own none h scope st =
-    ap (λ e. then_run (guarded_all tests (e st)) (walk (code_after s ++ rest) 0 (minded scope tests))) own
-    ∙ ap (λ l. then_run (guarded_all tests (effect s st)) (walk (l ++ rest) 0 (minded scope tests))) none
+    ap (λ e. then_run (guarded_all tests (e st)) (walk (code_after s ++ rest) 0 (mind_of scope tests))) own
+    ∙ ap (λ l. then_run (guarded_all tests (effect s st)) (walk (l ++ rest) 0 (mind_of scope tests))) none
     ∙ ap (then_run (guarded_all tests (effect s st))) (fun_ext (h scope))
 
 -- An effect.
@@ -95,7 +95,7 @@ does_follow : (s : Effect) (rest : List Instruction) (tests : List (List ℕ)) (
 unfolding effect
 does_follow (Searches variable programs otherwise) rest tests next h scope st =
     let last = λ (now : State). defaulted variable (option_map (λ t. word_value t now.vars) otherwise) now in
-    ap (λ l. walk l 0 (minded scope tests) st) (append_assoc (code_of_programs variable programs true) (default_code variable otherwise) rest)
+    ap (λ l. walk l 0 (mind_of scope tests) st) (append_assoc (code_of_programs variable programs true) (default_code variable otherwise) rest)
     ∙ programs_follow variable programs true (default_code variable otherwise ++ rest) tests (λ now. next (last now)) (default_follows variable otherwise rest tests next h) scope st
     ∙ in_order tests (looks_all variable programs true st) (λ now. Ends Goes_on (last now)) next
 does_follow other rest tests next h scope st = ordinary other rest tests next refl refl h scope st
@@ -104,11 +104,11 @@ does_follow other rest tests next h scope st = ordinary other rest tests next re
 checks : (o : Option (List ℕ)) (message : List Part) (name : List ℕ) (body rest : List Instruction) (tests : List (List ℕ)) (m next : State → Run)
     → ((more : List Instruction) (inner : List (List ℕ)) (f : State → Run) → GoesOn more inner f → GoesOn (body ++ more) inner (λ st. then_run (guarded_all inner (m st)) f))
     → GoesOn rest tests next → (scope : Scope) (st : State)
-    → opened o name (length body + 1) (walk (body ++ (Closes name ∷ rest))) (minded scope tests) (checking (word_value message st.vars) st)
+    → opened o name (length body + 1) (walk (body ++ (Closes name ∷ rest))) (mind_of scope tests) (checking (word_value message st.vars) st)
     ≡ then_run (guarded_all tests (test_by o (check message name m st) (checking (word_value message st.vars) st))) next
 checks (Some value) message name body rest tests m next does h scope st =
     let s = with_result (codes "(cached) " ++ value) (checking (word_value message st.vars) st) in
-    past body (Closes name ∷ rest) 1 (minded scope tests) s
+    past body (Closes name ∷ rest) 1 (mind_of scope tests) s
     ∙ h scope s
 checks None message name body rest tests m next does h scope st =
     let s = checking (word_value message st.vars) st in
@@ -119,19 +119,19 @@ checks None message name body rest tests m next does h scope st =
 
 -- Rounds, one after the other, given the effect of the cases.
 rounds_follow : (rounds : List what.Subject) (cases rest : List Instruction) (tests : List (List ℕ)) (go : Scope → State → Run) (next : State → Run)
-    → ((more : List Instruction) (f : State → Run) → GoesOn more tests f → (scope : Scope) (st : State) → walk (cases ++ more) 0 (minded scope tests) st ≡ then_run (guarded_all tests (go scope st)) f)
+    → ((more : List Instruction) (f : State → Run) → GoesOn more tests f → (scope : Scope) (st : State) → walk (cases ++ more) 0 (mind_of scope tests) st ≡ then_run (guarded_all tests (go scope st)) f)
     → GoesOn rest tests next → GoesOn (code_each rounds cases ++ rest) tests (λ st. then_run (guarded_all tests (in_turn rounds go st)) next)
 rounds_follow [] cases rest tests go next does h scope st = h scope st
 rounds_follow (round ∷ rounds) cases rest tests go next does h scope st =
     let all = broken_all tests in
     let each = code_each rounds cases in
     let later = λ (now : State). then_run (guarded_all tests (in_turn rounds go now)) next in
-    ap (begun all round st) (fun_ext (λ about. fun_ext (λ now.
-    ap (λ l. walk l 0 (minded about tests) now) (append_assoc cases each rest)
+    ap (after_subject all round st) (fun_ext (λ about. fun_ext (λ now.
+    ap (λ l. walk l 0 (mind_of about tests) now) (append_assoc cases each rest)
     ∙ does (each ++ rest) later (rounds_follow rounds cases rest tests go next does h) about now)))
     ∙ sym (begun_carried (λ r. then_run r later) all all (then_carries all later) round st (λ about now. guarded_all tests (go about now)))
     ∙ ap (λ x. then_run x later) (sym (begun_carried (guarded_all tests) as_is all (ended_carries tests as_is) round st go))
-    ∙ in_order tests (begun as_is round st go) (in_turn rounds go) next
+    ∙ in_order tests (after_subject as_is round st go) (in_turn rounds go) next
 
 mutual
   unfolding meaning chosen
@@ -140,30 +140,30 @@ mutual
       → GoesOn (code_of script ++ rest) tests (λ st. then_run (guarded_all tests (meaning script st)) next)
   follows Done rest tests next h scope st = h scope st
   follows (Then declares s script) rest tests next h scope st =
-      ap (λ l. walk (Does s ∷ l) 0 (minded scope tests) st) (append_assoc (code_after s) (code_of script) rest)
+      ap (λ l. walk (Does s ∷ l) 0 (mind_of scope tests) st) (append_assoc (code_after s) (code_of script) rest)
       ∙ does_follow s (code_of script ++ rest) tests (λ now. then_run (guarded_all tests (meaning script now)) next) (follows script rest tests next h) scope st
       ∙ in_order tests (effect s st) (meaning script) next
   follows (Choice declares subject cases script) rest tests next h scope st =
       let c = code_of_cases cases in let r = code_of script in
-      ap (λ l. walk l 0 (minded scope tests) st) (append_assoc (code_each (rounds_of subject) c) r rest)
+      ap (λ l. walk l 0 (mind_of scope tests) st) (append_assoc (code_each (rounds_of subject) c) r rest)
       ∙ rounds_follow (rounds_of subject) c (r ++ rest) tests (chosen cases) (λ s. then_run (guarded_all tests (meaning script s)) next)
       (λ more f. chooses cases more tests f) (follows script rest tests next h) scope st
       ∙ in_order tests (in_turn (rounds_of subject) (chosen cases) st) (meaning script) next
   follows (Check message name commands script) rest tests next h scope st =
       let b = code_of commands in let r = code_of script in
-      ap (λ l. walk l 0 (minded scope tests) st) (flat_check message name b r rest)
+      ap (λ l. walk l 0 (mind_of scope tests) st) (flat_check message name b r rest)
       ∙ checks (value_of st.vars name) message name b (r ++ rest) tests (meaning commands) (λ s. then_run (guarded_all tests (meaning script s)) next) (follows commands) (follows script rest tests next h) scope st
       ∙ in_order tests (cached_test (check message name (meaning commands) st) st) (meaning script) next
 
   chooses : (cases : Cases) (rest : List Instruction) (tests : List (List ℕ)) (next : State → Run) → GoesOn rest tests next
-      → (scope : Scope) (st : State) → walk (code_of_cases cases ++ rest) 0 (minded scope tests) st ≡ then_run (guarded_all tests (chosen cases scope st)) next
+      → (scope : Scope) (st : State) → walk (code_of_cases cases ++ rest) 0 (mind_of scope tests) st ≡ then_run (guarded_all tests (chosen cases scope st)) next
   chooses No_case rest tests next h scope st = h scope st
   chooses (Case when body cases) rest tests next h scope st =
       let b = code_of body in let m = code_of_cases cases in
       let taken = is_taken when scope st.vars in
-      ap (λ l. walk l 0 (minded scope tests) st) (flat when b m rest (length m))
-      ∙ either taken _ b m rest _ _ (minded scope tests) st refl
-      (follows body (Skips (length m) ∷ (m ++ rest)) tests next (λ c s. past_all m rest (minded c tests) s ∙ h c s) scope st)
+      ap (λ l. walk l 0 (mind_of scope tests) st) (flat when b m rest (length m))
+      ∙ either taken _ b m rest _ _ (mind_of scope tests) st refl
+      (follows body (Skips (length m) ∷ (m ++ rest)) tests next (λ c s. past_all m rest (mind_of c tests) s ∙ h c s) scope st)
       (chooses cases rest tests next h scope st)
       ∙ guarded_either tests taken (meaning body st) (chosen cases scope st) next
 

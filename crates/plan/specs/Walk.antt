@@ -13,7 +13,7 @@ use Rattle.ac_tree.specs.Script.{Script}
 use Rattle.meaning.specs.State.{State, Scope, no_choice, Goes_on, Run, Ends, then_run}
 use Rattle.meaning.specs.Tests.{checking, with_result}
 use Rattle.plan.specs.Broken.{broken_all, guarded_all}
-use Rattle.meaning.specs.Meaning.{effect, begun, is_taken, looks, defaulted, meaning}
+use Rattle.meaning.specs.Meaning.{effect, after_subject, is_taken, looks, defaulted, meaning}
 use Rattle.plan.specs.declared.step.Step.{Step}
 use Rattle.plan.specs.declared.step.Step.TheVariants.{Do, Look, Default, Subject, Round, SkipUnless, Skip, Open, Close}
 
@@ -52,12 +52,12 @@ pub record Mind : Type 0 where
   pub open_tests : List (List ℕ)
 
 -- This subject, inside these tests. (own)
-abbrev pub minded : Scope → List (List ℕ) → Mind
-minded scope tests = record { scope = scope; open_tests = tests }
+abbrev pub mind_of : Scope → List (List ℕ) → Mind
+mind_of scope tests = record { scope = scope; open_tests = tests }
 
 -- No choice, and no test. (own)
 abbrev pub empty_mind : Mind
-empty_mind = minded no_choice []
+empty_mind = mind_of no_choice []
 
 -- A test begins, by the value of its name: if there is one, it is printed, and the commands are passed. (Autoconf's
 -- manual, "Caching Results")
@@ -75,7 +75,7 @@ abbrev pub act : Instruction → (ℕ → Mind → State → Run) → Mind → S
 act (Does does) next mind st = then_run (guarded_all mind.open_tests (own_effect does st)) (next 0 mind)
 act (Looks variable program always) next mind st = then_run (guarded_all mind.open_tests (looks variable program always st)) (next 0 mind)
 act (Defaults variable value) next mind st = next 0 mind (defaulted variable (Some (word_value value st.vars)) st)
-act (Begins subject) next mind st = begun (broken_all mind.open_tests) subject st (λ scope. next 0 (record mind { scope = scope }))
+act (Begins subject) next mind st = after_subject (broken_all mind.open_tests) subject st (λ scope. next 0 (record mind { scope = scope }))
 act (Skips_unless when steps) next mind st = if is_taken when mind.scope st.vars then next 0 mind st else next steps mind st
 act (Skips steps) next mind st = next steps mind st
 act (Opens message name steps) next mind st = opened (value_of st.vars name) name steps next mind (checking (word_value message st.vars) st)

@@ -18,7 +18,7 @@ use Rattle.run_machine.specs.declared.machine.RunOutcome.{RunOutcome}
 use Rattle.run_machine.specs.declared.machine.RunOutcome.TheVariants as outcome
 use Rattle.run_machine.specs.declared.machine.RunEnd.{RunEnd}
 use Rattle.run_test.specs.declared.wait.Wait.TheVariants as waits
-use Rattle.run_test.specs.Waits.{given}
+use Rattle.run_test.specs.Waits.{all_replies}
 use Rattle.run_machine.specs.Standing.{Standing, run_under, run_in, run_at, left_in, run_left, Shows, CutsAt, Refusals, Holds, Fits, fits_in, asks_in, asks_left, Turned, outcome_of}
 use Rattle.proberun.specs.Serving.{Served}
 use Rattle.proberun.specs.Ran.{Ran, outcome_from, state_of}
@@ -28,7 +28,7 @@ use Rattle.proberun.proofs.RunLemmas.{progress_begins, progress_same, progress_h
 
 -- A machine that is ready for its next turn.
 pub record Ready (w : ℕ) (plan : List Instruction) (run : Run) (before now : Account) (m : Standing) (left : ℕ) : Type 0 where
-  pub progress : Progress w run (run_left plan m) m.before (given m.replies) before now
+  pub progress : Progress w run (run_left plan m) m.before (all_replies m.replies) before now
   pub fits : Fits plan m
   pub moving : Moving m.phase
   pub asks : asks_left plan m ≡ left
@@ -38,11 +38,11 @@ begins w plan m st now is idle =
     subst (λ x. Ready w plan (whole (walk plan 0 empty_mind st)) now now x (asks_after plan 0)) (sym is)
     (record { progress = progress_begins w _ _ now refl idle; fits = record { jobs = refl; replies = refl; place = omega arith; counted = omega arith }; moving = tt; asks = refl })
 
-given-map : (rs : List Reply) → given (map Some rs) ≡ rs
+given-map : (rs : List Reply) → all_replies (map Some rs) ≡ rs
 given-map [] = refl
 given-map (r ∷ rs) = ap (λ l. r ∷ l) (given-map rs)
 
-length-given : (rs : List (Option Reply)) → length (given rs) ≡ length rs
+length-given : (rs : List (Option Reply)) → length (all_replies rs) ≡ length rs
 length-given [] = refl
 length-given (r ∷ rs) = let e = length-given rs in omega arith
 
@@ -69,9 +69,9 @@ fits_at : (p : Phase) (plan : List Instruction) (m : Standing) → p ≡ phase.A
 fits_at p plan m e h = let q : fits_in phase.Asking plan m = subst (λ x. fits_in x plan m) e h in q
 
 -- If a machine asks, no call has failed so far.
-pub no_failure_yet : (w : ℕ) (plan : List Instruction) (run : Run) (before mid : Account) (old m : Standing) → Turned plan turn.Ask old m → Progress w run (run_left plan old) old.before (given old.replies) before mid → mid.failures ≡ before.failures
+pub no_failure_yet : (w : ℕ) (plan : List Instruction) (run : Run) (before mid : Account) (old m : Standing) → Turned plan turn.Ask old m → Progress w run (run_left plan old) old.before (all_replies old.replies) before mid → mid.failures ≡ before.failures
 no_failure_yet w plan run before mid old m t p =
-    let none = no_failures (replies_in before.attempts (length (all_jobs p.groups)) p.since) (ap first_refused p.heeded.whole ∙ answered_both p.heeded.earlier (given old.replies) p.heeded.answered t.refusals) in
+    let none = no_failures (replies_in before.attempts (length (all_jobs p.groups)) p.since) (ap first_refused p.heeded.whole ∙ answered_both p.heeded.earlier (all_replies old.replies) p.heeded.answered t.refusals) in
     omega (arith, p.failures, none)
 
 -- What follows the replies to the jobs that a machine asks for.
@@ -82,14 +82,14 @@ after_replies : (plan : List Instruction) (m : Standing) (rs : List Reply) → m
 after_replies plan m rs asking =
     ap (λ p. left_in p plan (record m { replies = map Some rs })) asking ∙ ap (next_of plan m) (given-map rs)
 
-served_ready : (w : ℕ) (plan : List Instruction) (run : Run) (before mid now : Account) (old m : Standing) (replies : List (Option Reply)) → Turned plan turn.Ask old m → Fits plan old → Progress w run (run_left plan old) old.before (given old.replies) before mid → (served : Served w mid m.jobs replies now) → Ready w plan run before now (record m { replies = map Some (replies_in mid.attempts (length m.jobs) served.since) }) (asks_left plan m)
+served_ready : (w : ℕ) (plan : List Instruction) (run : Run) (before mid now : Account) (old m : Standing) (replies : List (Option Reply)) → Turned plan turn.Ask old m → Fits plan old → Progress w run (run_left plan old) old.before (all_replies old.replies) before mid → (served : Served w mid m.jobs replies now) → Ready w plan run before now (record m { replies = map Some (replies_in mid.attempts (length m.jobs) served.since) }) (asks_left plan m)
 served_ready w plan run before mid now old m replies t fits p served =
     let rs = replies_in mid.attempts (length m.jobs) served.since in
     let asking = shows_ask (run_at plan m) m t.shows in
     let at : Holds plan m = fits_at m.phase plan m asking t.fits in
     let asks : Asks m.jobs (next_of plan m) ≡ run_left plan old = sym (ap (λ p. run_in p plan m) asking) ∙ t.same in
-    let count : m.before ≡ old.before + length (given old.replies) = omega (arith, t.before, length-given old.replies, places old.phase plan old fits) in
-    let heard = progress_heard w run (run_left plan old) old.before m.before (given old.replies) before mid t.refusals count p in
+    let count : m.before ≡ old.before + length (all_replies old.replies) = omega (arith, t.before, length-given old.replies, places old.phase plan old fits) in
+    let heard = progress_heard w run (run_left plan old) old.before m.before (all_replies old.replies) before mid t.refusals count p in
     let q = progress_group w run m.jobs (next_of plan m) m.before before mid now replies (progress_same w run (run_left plan old) (Asks m.jobs (next_of plan m)) m.before [] before mid asks heard) served in
     let len : length (map Some rs) ≡ length m.jobs = length-somes rs ∙ length-replies mid.attempts (length m.jobs) served.since in
     let same : asks_left plan (record m { replies = map Some rs }) ≡ asks_left plan m =
@@ -102,7 +102,7 @@ served_ready w plan run before mid now old m replies t fits p served =
       asks = same;
     }
 
-pub serves : (w : ℕ) (plan : List Instruction) (run : Run) (before mid now : Account) (old m new : Standing) → Turned plan turn.Ask old m → Fits plan old → Progress w run (run_left plan old) old.before (given old.replies) before mid → Served w mid m.jobs new.replies now → new ≡ record m { replies = new.replies } → Ready w plan run before now new (asks_left plan m)
+pub serves : (w : ℕ) (plan : List Instruction) (run : Run) (before mid now : Account) (old m new : Standing) → Turned plan turn.Ask old m → Fits plan old → Progress w run (run_left plan old) old.before (all_replies old.replies) before mid → Served w mid m.jobs new.replies now → new ≡ record m { replies = new.replies } → Ready w plan run before now new (asks_left plan m)
 serves w plan run before mid now old m new t fits p served same =
     let is : new ≡ record m { replies = map Some (replies_in mid.attempts (length m.jobs) served.since) } = same ∙ ap (λ l. record m { replies = l }) served.replied in
     subst (λ x. Ready w plan run before now x (asks_left plan m)) (sym is) (served_ready w plan run before mid now old m new.replies t fits p served)
@@ -114,7 +114,7 @@ PlaceBy turn.Done refused = refused ≡ None
 PlaceBy (turn.Stopped status) refused = refused ≡ None
 PlaceBy (turn.Cut number) refused = refused ≡ Some number
 
-cuts_at : (p : Phase) (number : ℕ) (m : Standing) → Moving p → CutsAt p number m → (k : ℕ) × (first_refused (given m.replies) ≡ Some k) × (number ≡ m.before + k)
+cuts_at : (p : Phase) (number : ℕ) (m : Standing) → Moving p → CutsAt p number m → (k : ℕ) × (first_refused (all_replies m.replies) ≡ Some k) × (number ≡ m.before + k)
 cuts_at phase.Going number m moving h = h
 cuts_at phase.Asking number m moving h = h
 cuts_at phase.Past number m moving h = absurd moving
@@ -123,14 +123,14 @@ cuts_at (phase.Stopped status) number m moving h = absurd moving
 cuts_at (phase.Cut k) number m moving h = absurd moving
 cuts_at phase.Failed number m moving h = absurd moving
 
-place_by : (t : Turn) (m : Standing) (all : List Reply) → Heeded all m.before (given m.replies) → Moving m.phase → Refusals t m → PlaceBy t (first_refused all)
-place_by turn.Ask m all h moving r = ap first_refused h.whole ∙ answered_both h.earlier (given m.replies) h.answered r
-place_by turn.Done m all h moving r = ap first_refused h.whole ∙ answered_both h.earlier (given m.replies) h.answered r
-place_by (turn.Stopped status) m all h moving r = ap first_refused h.whole ∙ answered_both h.earlier (given m.replies) h.answered r
+place_by : (t : Turn) (m : Standing) (all : List Reply) → Heeded all m.before (all_replies m.replies) → Moving m.phase → Refusals t m → PlaceBy t (first_refused all)
+place_by turn.Ask m all h moving r = ap first_refused h.whole ∙ answered_both h.earlier (all_replies m.replies) h.answered r
+place_by turn.Done m all h moving r = ap first_refused h.whole ∙ answered_both h.earlier (all_replies m.replies) h.answered r
+place_by (turn.Stopped status) m all h moving r = ap first_refused h.whole ∙ answered_both h.earlier (all_replies m.replies) h.answered r
 place_by (turn.Cut number) m all h moving r =
     let at = cuts_at m.phase number m moving r in
     let n : length h.earlier + at.0 ≡ number = omega (arith, h.count, at.2) in
-    ap first_refused h.whole ∙ refused_later h.earlier (given m.replies) at.0 h.answered at.1 ∙ ap Some n
+    ap first_refused h.whole ∙ refused_later h.earlier (all_replies m.replies) at.0 h.answered at.1 ∙ ap Some n
 
 -- What a run leaves, from its outcome and the state in which it ends.
 abbrev pub end_of : RunOutcome → State → RunEnd
@@ -168,7 +168,7 @@ ending (turn.Cut number) (Ends Completed st) m end refused ne h leaves place = a
 ending (turn.Cut number) (Ends (Stopped s) st) m end refused ne h leaves place = absurd h
 ending (turn.Cut number) (Asks jobs next) m end refused ne h leaves place = absurd h
 
-pub ends : (w : ℕ) (plan : List Instruction) (run : Run) (before now : Account) (old m : Standing) (t : Turn) (end : RunEnd) → (t ≡ turn.Ask → ⊥) → Turned plan t old m → Moving old.phase → Progress w run (run_left plan old) old.before (given old.replies) before now → Leaves m.phase m end → Ran w run before now end
+pub ends : (w : ℕ) (plan : List Instruction) (run : Run) (before now : Account) (old m : Standing) (t : Turn) (end : RunEnd) → (t ≡ turn.Ask → ⊥) → Turned plan t old m → Moving old.phase → Progress w run (run_left plan old) old.before (all_replies old.replies) before now → Leaves m.phase m end → Ran w run before now end
 ends w plan run before now old m t end ne turned moving p leaves =
     let rs = replies_in before.attempts (length (all_jobs p.groups)) p.since in
     let e = ending t (run_at plan m) m end (first_refused rs) ne turned.shows leaves (place_by t old rs p.heeded moving turned.refusals) in

@@ -7,7 +7,7 @@ use Rattle.std.proofs.lemmas.List.{length-map, length-replicate}
 use Rattle.crew_trait.specs.declared.reply.Reply.{Reply}
 use Rattle.meaning.specs.State.{State, Goes_on, Cut, Run, Ends, Asks}
 use Rattle.plan.specs.declared.step.Step.{Step}
-use Rattle.plan.specs.Walk.{DoesWhat, Instruction, Mind, empty_mind, minded, act, walk, instruction_of}
+use Rattle.plan.specs.Walk.{DoesWhat, Instruction, Mind, empty_mind, mind_of, act, walk, instruction_of}
 use Rattle.plan.specs.Inside.{StaysInside, reach, asks_of, asks_after}
 use Rattle.run_test.specs.declared.flow.Flow.{Flow}
 use Rattle.run_test.specs.declared.flow.Flow.TheVariants as flow
@@ -23,7 +23,7 @@ use Rattle.meaning.specs.Play.{first_refused, refused_after, last_words, whole}
 use Rattle.ac_tree.specs.Script.{Script}
 use Rattle.plan.specs.Broken.{broken_all}
 use Rattle.run_test.proofs.Flows.{continued}
-use Rattle.run_test.specs.Waits.{given, resumed, waits_for}
+use Rattle.run_test.specs.Waits.{all_replies, resumed, waits_for}
 
 -- One step, at an offset.
 walk_at : (steps : List Step) (k : ℕ) (s : Step) (c : Mind) (st : State) → k < length steps → s ≡ get_or steps k s
@@ -84,7 +84,7 @@ leads_pass (flow.Stop status) run c st e h next = cc
 leads_pass (flow.Cut number) run c st e h next = cc
 
 -- Nothing is refused if nothing was asked for.
-no_refusal : (replies : List (Option Reply)) → length replies ≡ 0 → first_refused (given replies) ≡ None
+no_refusal : (replies : List (Option Reply)) → length replies ≡ 0 → first_refused (all_replies replies) ≡ None
 no_refusal [] e = refl
 no_refusal (r ∷ rs) e = absurd (omega arith)
 
@@ -101,7 +101,7 @@ pub record Moves (plan : List Instruction) (f : Flow) (old m : Standing) (refuse
   pub before : m.before ≡ old.before + length old.jobs
   pub asks : asks_now f + asks_after plan (m.place + 1) ≤ asks_left plan old
   pub counted : old.before + (length old.jobs + asks_left plan old) ≤ asks_after plan 0
-  pub none : refused ≡ None → first_refused (given old.replies) ≡ None
+  pub none : refused ≡ None → first_refused (all_replies old.replies) ≡ None
   pub cuts : (number : ℕ) → refused ≡ Some number → CutsAt old.phase number old
 
 -- A turn.
@@ -260,40 +260,40 @@ none_from before (Some k) e = cc
 
 -- The replies have been taken.
 pub told_all : (plan : List Instruction) (f : Flow) (old m : Standing) → old.phase ≡ phase.Asking → Holds plan old
-    → m ≡ record old { phase = phase.Failed; mind = minded m.mind.scope old.mind.open_tests; state = m.state; wait = waits.Nothing; before = old.before + length old.jobs; jobs = []; replies = [] }
-    → asks_now f ≤ waits_for old.wait → IsGroup f → Heeds f (refused_after old.before (given old.replies))
-    → Leads f (λ tests next. resumed tests old.wait old.jobs (given old.replies) (next 0) old.mind.scope old.state) m.mind.scope m.state
-    → Moves plan f old m (refused_after old.before (given old.replies)) (λ next. resumed old.mind.open_tests old.wait old.jobs (given old.replies) (λ scope. next 0 (minded scope old.mind.open_tests)) old.mind.scope old.state)
+    → m ≡ record old { phase = phase.Failed; mind = mind_of m.mind.scope old.mind.open_tests; state = m.state; wait = waits.Nothing; before = old.before + length old.jobs; jobs = []; replies = [] }
+    → asks_now f ≤ waits_for old.wait → IsGroup f → Heeds f (refused_after old.before (all_replies old.replies))
+    → Leads f (λ tests next. resumed tests old.wait old.jobs (all_replies old.replies) (next 0) old.mind.scope old.state) m.mind.scope m.state
+    → Moves plan f old m (refused_after old.before (all_replies old.replies)) (λ next. resumed old.mind.open_tests old.wait old.jobs (all_replies old.replies) (λ scope. next 0 (mind_of scope old.mind.open_tests)) old.mind.scope old.state)
 told_all plan f old m asking holds moved asks group heeds leads =
     let place : m.place ≡ old.place = ap (λ x. x.place) moved in
     let n : m.place + 1 + 0 ≡ old.place + 1 = omega arith in
     let before : m.before ≡ old.before + length old.jobs = ap (λ x. x.before) moved in
     let left : asks_left plan old ≡ waits_for old.wait + asks_after plan (old.place + 1) = ap (λ p. asks_in p plan old) asking in
     record {
-      leads = subst (λ x. Continues f (λ next. resumed old.mind.open_tests old.wait old.jobs (given old.replies) (λ scope. next 0 (minded scope old.mind.open_tests)) old.mind.scope old.state) x m.state)
+      leads = subst (λ x. Continues f (λ next. resumed old.mind.open_tests old.wait old.jobs (all_replies old.replies) (λ scope. next 0 (mind_of scope old.mind.open_tests)) old.mind.scope old.state) x m.state)
           (sym (ap (λ x. x.mind) moved))
-          (continued f m.mind.scope old.mind.open_tests m.state (λ tests next. resumed tests old.wait old.jobs (given old.replies) (next 0) old.mind.scope old.state) _ (λ next. refl) leads);
+          (continued f m.mind.scope old.mind.open_tests m.state (λ tests next. resumed tests old.wait old.jobs (all_replies old.replies) (next 0) old.mind.scope old.state) _ (λ next. refl) leads);
       place = omega (arith, place, holds.place);
       jobs = ap (λ x. x.jobs) moved;
       replies = ap (λ x. x.replies) moved;
       whole =
-          ap (λ b. last_words b (refused_after old.before (given old.replies)) (resumed old.mind.open_tests old.wait old.jobs (given old.replies) (walk_inside plan (m.place + 1 + 0) old.mind) old.mind.scope old.state)) before
-          ∙ ap (λ k. last_words (old.before + length old.jobs) (refused_after old.before (given old.replies)) (resumed old.mind.open_tests old.wait old.jobs (given old.replies) (walk_inside plan k old.mind) old.mind.scope old.state)) n
+          ap (λ b. last_words b (refused_after old.before (all_replies old.replies)) (resumed old.mind.open_tests old.wait old.jobs (all_replies old.replies) (walk_inside plan (m.place + 1 + 0) old.mind) old.mind.scope old.state)) before
+          ∙ ap (λ k. last_words (old.before + length old.jobs) (refused_after old.before (all_replies old.replies)) (resumed old.mind.open_tests old.wait old.jobs (all_replies old.replies) (walk_inside plan k old.mind) old.mind.scope old.state)) n
           ∙ sym (ap (λ p. left_in p plan old) asking);
       heeds = heeds;
       group = group;
       before = before;
       asks = omega (arith, asks, left, ap (λ k. asks_after plan (k + 1)) place);
       counted = holds.counted;
-      none = none_from old.before (first_refused (given old.replies));
-      cuts = λ number e. subst (λ p. CutsAt p number old) (sym asking) (number_from old.before (first_refused (given old.replies)) number e);
+      none = none_from old.before (first_refused (all_replies old.replies));
+      cuts = λ number e. subst (λ p. CutsAt p number old) (sym asking) (number_from old.before (first_refused (all_replies old.replies)) number e);
     }
 
-refusals_after : (t : Turn) (old mid : Standing) → first_refused (given old.replies) ≡ None → mid.replies ≡ [] → Refusals t (with_phase phase.Going mid) → Refusals t old
+refusals_after : (t : Turn) (old mid : Standing) → first_refused (all_replies old.replies) ≡ None → mid.replies ≡ [] → Refusals t (with_phase phase.Going mid) → Refusals t old
 refusals_after turn.Ask old mid none empty h = none
 refusals_after turn.Done old mid none empty h = none
 refusals_after (turn.Stopped status) old mid none empty h = none
-refusals_after (turn.Cut number) old mid none empty h = let e : None ≡ Some h.0 = sym (ap (λ l. first_refused (given l)) empty) ∙ h.1 in cc
+refusals_after (turn.Cut number) old mid none empty h = let e : None ≡ Some h.0 = sym (ap (λ l. first_refused (all_replies l)) empty) ∙ h.1 in cc
 
 none_heard : (f : Flow) (refused : Option ℕ) → turn_by f ≡ None → Heeds f refused → refused ≡ None
 none_heard (flow.Pass more) refused e h = h
@@ -304,7 +304,7 @@ none_heard (flow.Cut number) refused e h = cc
 
 -- The replies have been taken, and the machine is before the next step.
 pub record Onward (plan : List Instruction) (old mid : Standing) : Type 0 where
-  pub none : first_refused (given old.replies) ≡ None
+  pub none : first_refused (all_replies old.replies) ≡ None
   pub same : last_words mid.before None (walk plan mid.place mid.mind mid.state) ≡ run_left plan old
   pub jobs : mid.jobs ≡ []
   pub replies : mid.replies ≡ []

@@ -13,7 +13,7 @@ use Rattle.run_machine.specs.declared.machine.RunOutcome.{RunOutcome}
 use Rattle.run_machine.specs.declared.machine.RunOutcome.TheVariants as outcome
 use Rattle.run_test.specs.declared.wait.Wait.{Wait}
 use Rattle.meaning.specs.Play.{first_refused, refused_after, last_words}
-use Rattle.run_test.specs.Waits.{Awaits, given, resumed, waits_for}
+use Rattle.run_test.specs.Waits.{Awaits, all_replies, resumed, waits_for}
 
 -- A machine, as contracts see it: its place is the number of steps that are passed; while it asks, `jobs` are asked
 -- for, after `before` others, and `replies` has room for the reply to each. (own)
@@ -59,7 +59,7 @@ run_at plan m = run_in m.phase plan m
 
 -- The run that remains once the given replies are taken. (own)
 abbrev pub left_in : Phase → List Instruction → Standing → Run
-left_in phase.Asking plan m = run_under (given m.replies) plan m
+left_in phase.Asking plan m = run_under (all_replies m.replies) plan m
 left_in p plan m = run_in p plan m
 
 -- The same, in the machine's own phase. (own)
@@ -79,14 +79,14 @@ Shows t run m = ⊥
 -- A cut reports the number of the first refused child of the run. (own)
 abbrev pub CutsAt : Phase → ℕ → Standing → Type 0
 CutsAt (phase.Cut k) number m = number ≡ k
-CutsAt p number m = (k : ℕ) × (first_refused (given m.replies) ≡ Some k) × (number ≡ m.before + k)
+CutsAt p number m = (k : ℕ) × (first_refused (all_replies m.replies) ≡ Some k) × (number ≡ m.before + k)
 
 -- A turn is a cut exactly if a reply is refused. (own)
 abbrev pub Refusals : Turn → Standing → Type 0
 Refusals (turn.Cut number) m = CutsAt m.phase number m
-Refusals turn.Ask m = first_refused (given m.replies) ≡ None
-Refusals turn.Done m = first_refused (given m.replies) ≡ None
-Refusals (turn.Stopped status) m = first_refused (given m.replies) ≡ None
+Refusals turn.Ask m = first_refused (all_replies m.replies) ≡ None
+Refusals turn.Done m = first_refused (all_replies m.replies) ≡ None
+Refusals (turn.Stopped status) m = first_refused (all_replies m.replies) ≡ None
 
 -- How many jobs may be asked for after those of now. (own)
 abbrev pub asks_in : Phase → List Instruction → Standing → ℕ

@@ -7,12 +7,12 @@ ghost use Rattle.meaning.specs.Play.{refused_after, whole, with_cut_line};
 ghost use Rattle.meaning.specs.State.{opened};
 ghost use Rattle.plan.specs.Broken.{refused_all, unset_all};
 ghost use Rattle.plan.specs.Inside.{StaysInside, asks_after, asks_of, reach};
-ghost use Rattle.plan.specs.Walk.{DoesWhat, act, empty_mind, minded, instruction_of};
+ghost use Rattle.plan.specs.Walk.{DoesWhat, act, empty_mind, mind_of, instruction_of};
 ghost use Rattle.run_test.specs.Flows.{Continues, Heeds, IsGroup, IsStep, Leads, asks_now, passed};
 ghost use Rattle.run_machine.specs.Moves.{arrived, turn_by};
 ghost use Rattle.run_machine.specs.Standing.{Fits, Holds, Rests, Turned, outcome_of, run_at, with_phase};
 ghost use Rattle.ac_tree.specs.Script.{Script};
-ghost use Rattle.run_test.specs.Waits.{Awaits, given, refused_rest, resumed, waits_for};
+ghost use Rattle.run_test.specs.Waits.{Awaits, all_replies, refused_rest, resumed, waits_for};
 ghost use Rattle.run_test.specs.declared.wait.Wait.TheVariants as waits;
 
 use crew_jobs::Job;
@@ -127,11 +127,11 @@ impl Drop for Machine {
 impl Model for Machine {
     ghost use Rattle.std.specs.Coded.{codes};
     ghost use Rattle.run_machine.specs.Standing.{Standing};
-    ghost use Rattle.plan.specs.Walk.{minded};
+    ghost use Rattle.plan.specs.Walk.{mind_of};
 
     ghost Value = { Standing };
 
-    ghost view = { λ m. record { phase = m.phase; place = m.place; mind = minded m.about m.tests; state = m.store; wait = m.wait; before = m.before; jobs = m.jobs.items; replies = m.replies.items } };
+    ghost view = { λ m. record { phase = m.phase; place = m.place; mind = mind_of m.about m.tests; state = m.store; wait = m.wait; before = m.before; jobs = m.jobs.items; replies = m.replies.items } };
 }
 
 impl Machine {
@@ -299,7 +299,7 @@ impl Machine {
             self.new
             ≡ record self.old {
               phase = Phase.Failed;
-              mind = minded self.new.mind.scope self.old.mind.open_tests;
+              mind = mind_of self.new.mind.scope self.old.mind.open_tests;
               state = self.new.state;
               wait = waits.Nothing;
               before = self.old.before + length self.old.jobs;
@@ -310,7 +310,7 @@ impl Machine {
             self.new
             ≡ record self.old {
               phase = Phase.Failed;
-              mind = minded self.new.mind.scope self.old.mind.open_tests;
+              mind = mind_of self.new.mind.scope self.old.mind.open_tests;
               state = self.new.state;
               wait = waits.Nothing;
               before = self.old.before + length self.old.jobs;
@@ -319,10 +319,10 @@ impl Machine {
             }) }
         ensures step { IfOk result (
             IsStep (waits_for self.old.wait) (
-            refused_after self.old.before (given self.old.replies))) }
+            refused_after self.old.before (all_replies self.old.replies))) }
         ensures leads { IfOk result (λ flow.
             Leads flow (λ tests next.
-            resumed tests self.old.wait self.old.jobs (given self.old.replies) (next 0)
+            resumed tests self.old.wait self.old.jobs (all_replies self.old.replies) (next 0)
             self.old.mind.scope self.old.state) self.new.mind.scope self.new.state) }
     {
         self.phase = Phase::Failed;
@@ -385,7 +385,7 @@ impl Machine {
         ensures { self.new
             ≡ record self.old {
               phase = phase;
-              mind = minded self.old.mind.scope [];
+              mind = mind_of self.old.mind.scope [];
               state = unset_all self.old.mind.open_tests self.old.state;
             } }
     {
@@ -398,7 +398,7 @@ impl Machine {
         ensures moved { OnOk result (
             self.new
             ≡ record self.old {
-              mind = minded self.old.mind.scope [];
+              mind = mind_of self.old.mind.scope [];
               state = refused_all self.old.mind.open_tests self.old.state;
             }) }
         ensures err { OnErr result (
@@ -415,7 +415,7 @@ impl Machine {
             self.new
             ≡ record self.old {
               phase = Phase.Cut number;
-              mind = minded self.old.mind.scope [];
+              mind = mind_of self.old.mind.scope [];
               state = with_cut_line (Some number)
                   (refused_all self.old.mind.open_tests self.old.state);
             }) }

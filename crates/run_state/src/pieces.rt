@@ -3,10 +3,10 @@
 ghost use Rattle.std.specs.Prelude.{◌≡◌, ◌++◌, IfOk, OnOk, codes, decimal};
 ghost use Rattle.deftable.specs.declared.note.Stream.TheVariants.{Err};
 ghost use Rattle.meaning.specs.Asking.{no_compiler};
-ghost use Rattle.meaning.specs.Messages.{form_of, said};
+ghost use Rattle.meaning.specs.Messages.{form_of, with_message};
 ghost use Rattle.meaning.specs.Play.{cut_line};
 ghost use Rattle.meaning.specs.Rows.{text_or_no};
-ghost use Rattle.meaning.specs.State.{Cut, told};
+ghost use Rattle.meaning.specs.State.{Cut, with_note};
 ghost use Rattle.meaning.specs.Tests.{broken, checking, with_result};
 
 use crate::store::Store;
@@ -67,7 +67,7 @@ pub fn say(
     message: Message,
     text: &[u8],
 ) -> Result<(), AllocError>
-    ensures { OnOk result (store.new ≡ said message text.now store.old) }
+    ensures { OnOk result (store.new ≡ with_message message text.now store.old) }
 {
     let form = form_of(message);
     store.tell(alloc, form.stream, form.before, text, form.after)
@@ -150,7 +150,7 @@ pub fn break_test(alloc: Global, store: &mut Store, name: &[u8]) -> Result<(), A
 
 /// Prints that there is no compiler.
 pub fn report_no_compiler(alloc: Global, store: &mut Store) -> Result<(), AllocError>
-    ensures { OnOk result (store.new ≡ told Err no_compiler store.old) }
+    ensures { OnOk result (store.new ≡ with_note Err no_compiler store.old) }
 {
     say(
         alloc,
@@ -169,7 +169,7 @@ fn digits(alloc: Global, number: u64) -> Result<Bytes, AllocError>
 
 /// Prints that the run is cut short at the child of this number.
 pub fn report_cut(alloc: Global, store: &mut Store, number: u64) -> Result<(), AllocError>
-    ensures { OnOk result (store.new ≡ told Err (cut_line number) store.old) }
+    ensures { OnOk result (store.new ≡ with_note Err (cut_line number) store.old) }
 {
     let digits = digits(alloc, number)?;
     store.tell(

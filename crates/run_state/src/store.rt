@@ -7,7 +7,7 @@ ghost use Rattle.shellword.specs.Truth.{truth};
 ghost use Rattle.shellword.specs.Value.{word_value};
 ghost use Rattle.meaning.specs.Meaning.{has_value, is_full_name, is_unsettled, settled, with_prefixes};
 ghost use Rattle.meaning.specs.Rows.{value_or_empty};
-ghost use Rattle.meaning.specs.State.{opened, told, with_child, with_definition, with_variable, without_variable};
+ghost use Rattle.meaning.specs.State.{opened, with_note, with_child, with_definition, with_variable, without_variable};
 ghost use Rattle.meaning.specs.Tries.{text_of};
 ghost use Rattle.run_state.specs.Copies.{Copied};
 
@@ -77,7 +77,7 @@ impl Store {
     }
 
     fn put_piece(&mut self, alloc: Global, stream: Stream, text: Bytes) -> Result<(), AllocError>
-        ensures { OnOk result (self.new ≡ told stream text self.old) }
+        ensures { OnOk result (self.new ≡ with_note stream text self.old) }
     {
         let copy = text.copy(alloc)?;
         self.messages.push(Note { stream, text })?;
@@ -94,7 +94,7 @@ impl Store {
         after: &[u8],
     ) -> Result<(), AllocError>
         ensures { OnOk result (
-            self.new ≡ told stream (before.now ++ text.now ++ after.now) self.old) }
+            self.new ≡ with_note stream (before.now ++ text.now ++ after.now) self.old) }
     {
         let piece = Bytes::concat(alloc, &[before, text, after])?;
         self.put_piece(alloc, stream, piece)

@@ -13,8 +13,8 @@ use Rattle.shellword.specs.declared.part.Part.{Part}
 use Rattle.ac_tree.specs.declared.listed.Listed.{Listed}
 use Rattle.ac_tree.specs.declared.listed.Listed.TheVariants.{Header, Function, Declaration}
 use Rattle.ac_tree.specs.declared.listed.Sought.TheVariants.{ListEntry}
-use Rattle.meaning.specs.State.{State, told, with_child, with_variable, How, Goes_on, Stopped, Cut, Run, Ends, Asks, then_run, as_is}
-use Rattle.meaning.specs.Asking.{success, only_reply, heard, no_compiler, without_compiler}
+use Rattle.meaning.specs.State.{State, with_note, with_child, with_variable, How, Goes_on, Stopped, Cut, Run, Ends, Asks, then_run, as_is}
+use Rattle.meaning.specs.Asking.{success, only_reply, after_child, no_compiler, without_compiler}
 use Rattle.meaning.specs.Batches.{Batch, is_known, job_for, asking, jobs_in, asks_all, with_body, yes_or_no, replied, commits, committed, batched}
 use Rattle.meaning.specs.Rows.{Single, entry_name, entry_job, is_yes, row_of}
 use Rattle.meaning.specs.Tests.{guarded, checking, with_result, Row, may_begin, test_by, tested, tested_by}
@@ -22,7 +22,7 @@ use Rattle.plan.specs.Broken.{broken_all, guarded_all}
 use Rattle.meaning.proofs.Values.{same_text, value_here, value_there, without_unset}
 use Rattle.run_test.proofs.Rows.{entry_vars}
 use Rattle.run_test.specs.Courses.{entry_test}
-use Rattle.run_test.specs.Entries.{begun, heard_end, known, known_end}
+use Rattle.run_test.specs.Entries.{after_entry_message, heard_end, known, known_end}
 use Rattle.run_test.specs.Batched.{after_entries, at_once, batch_end, is_refused, refuses}
 use Rattle.run_test.specs.declared.wait.Waiting as waiting
 use Rattle.run_step.specs.Waiting.{any_asks, front_end, fronted, job_at, jobs_of, waiting_at, waiting_for}
@@ -45,7 +45,7 @@ is_missing None = true
 is_missing (Some value) = false
 
 quiet_by : (batch : Batch) (entry : List ℕ) (reply : Reply) (first now : State) (o : Option (List ℕ)) → value_of now.vars (entry_name batch.listed entry) ≡ o → (o ≡ None → (row_at batch entry None reply first).ready ≡ true)
-    → tested (row_at batch entry None reply first) now ≡ Ends (how_if (is_missing o)) (known_end o (entry_test (ListEntry batch.listed) entry true) (begun (entry_test (ListEntry batch.listed) entry true) now))
+    → tested (row_at batch entry None reply first) now ≡ Ends (how_if (is_missing o)) (known_end o (entry_test (ListEntry batch.listed) entry true) (after_entry_message (entry_test (ListEntry batch.listed) entry true) now))
 quiet_by batch entry reply first now None e ready =
     let r = row_at batch entry None reply first in
     ap (λ o. tested_by (may_begin o r.ready) r now) e
@@ -59,7 +59,7 @@ quiet_by batch entry reply first now (Some value) e ready =
     ∙ ap (λ o. Ends Goes_on (r.after o last)) e
 
 asked_by : (batch : Batch) (entry : List ℕ) (job : Job) (reply : Reply) (first now : State) (s : Option Bool) → success reply ≡ s → value_of now.vars (entry_name batch.listed entry) ≡ None → (row_at batch entry (Some job) reply first).ready ≡ true
-    → tested (row_at batch entry (Some job) reply first) now ≡ Ends (how_if (refuses s)) (heard_end s (entry_test (ListEntry batch.listed) entry true) (with_child job reply (begun (entry_test (ListEntry batch.listed) entry true) now)))
+    → tested (row_at batch entry (Some job) reply first) now ≡ Ends (how_if (refuses s)) (heard_end s (entry_test (ListEntry batch.listed) entry true) (with_child job reply (after_entry_message (entry_test (ListEntry batch.listed) entry true) now)))
 asked_by batch entry job reply first now s h e ready =
     let r = row_at batch entry (Some job) reply first in
     let name = entry_name batch.listed entry in
@@ -67,13 +67,13 @@ asked_by batch entry job reply first now s h e ready =
     ap (λ o. tested_by (may_begin o r.ready) r now) e
     ∙ ap (λ b. tested_by b r now) ready
     ∙ ap (λ o. then_run (test_by o r.test (checking r.test.message now)) (λ later. Ends Goes_on (r.after (value_of later.vars r.test.name) later))) e
-    ∙ ap (λ x. then_run (then_run (guarded name (heard as_is x st (λ found later. Ends Goes_on (with_variable name (yes_or_no found) later)))) (λ later. Ends Goes_on (with_result (r.test.shown (value_of later.vars name)) later))) (λ later. Ends Goes_on (r.after (value_of later.vars name) later))) h
+    ∙ ap (λ x. then_run (then_run (guarded name (after_child as_is x st (λ found later. Ends Goes_on (with_variable name (yes_or_no found) later)))) (λ later. Ends Goes_on (with_result (r.test.shown (value_of later.vars name)) later))) (λ later. Ends Goes_on (r.after (value_of later.vars name) later))) h
     ∙ ends s
   where
     ends : (s : Option Bool)
         → (let name = entry_name batch.listed entry in let r = row_at batch entry (Some job) reply first in let st = with_child job reply (checking r.test.message now) in
-        then_run (then_run (guarded name (heard as_is s st (λ found later. Ends Goes_on (with_variable name (yes_or_no found) later)))) (λ later. Ends Goes_on (with_result (r.test.shown (value_of later.vars name)) later))) (λ later. Ends Goes_on (r.after (value_of later.vars name) later)))
-        ≡ Ends (how_if (refuses s)) (heard_end s (entry_test (ListEntry batch.listed) entry true) (with_child job reply (begun (entry_test (ListEntry batch.listed) entry true) now)))
+        then_run (then_run (guarded name (after_child as_is s st (λ found later. Ends Goes_on (with_variable name (yes_or_no found) later)))) (λ later. Ends Goes_on (with_result (r.test.shown (value_of later.vars name)) later))) (λ later. Ends Goes_on (r.after (value_of later.vars name) later)))
+        ≡ Ends (how_if (refuses s)) (heard_end s (entry_test (ListEntry batch.listed) entry true) (with_child job reply (after_entry_message (entry_test (ListEntry batch.listed) entry true) now)))
     ends None = refl
     ends (Some b) =
         let name = entry_name batch.listed entry in
@@ -184,20 +184,20 @@ unknown name earlier refused first now s k =
 
 -- The variables after an entry.
 quiet_vars : (listed : Listed) (entry : List ℕ) (now : State) (o : Option (List ℕ)) → value_of now.vars (entry_name listed entry) ≡ o
-    → (known_end o (entry_test (ListEntry listed) entry true) (begun (entry_test (ListEntry listed) entry true) now)).vars ≡ now.vars
+    → (known_end o (entry_test (ListEntry listed) entry true) (after_entry_message (entry_test (ListEntry listed) entry true) now)).vars ≡ now.vars
 quiet_vars listed entry now None e = without_unset now.vars (entry_name listed entry) e
-quiet_vars listed entry now (Some value) e = entry_vars true (ListEntry listed) entry (is_yes (Some value)) (with_result (codes "(cached) " ++ value) (begun (entry_test (ListEntry listed) entry true) now))
+quiet_vars listed entry now (Some value) e = entry_vars true (ListEntry listed) entry (is_yes (Some value)) (with_result (codes "(cached) " ++ value) (after_entry_message (entry_test (ListEntry listed) entry true) now))
 
 abbrev set_by : Option Bool → List ℕ → List (List ℕ × List ℕ) → List (List ℕ × List ℕ)
 set_by None name vars = vars
 set_by (Some b) name vars = with_entry vars name (yes_or_no b)
 
 heard_vars : (listed : Listed) (entry : List ℕ) (job : Job) (reply : Reply) (now : State) (s : Option Bool) → value_of now.vars (entry_name listed entry) ≡ None
-    → (heard_end s (entry_test (ListEntry listed) entry true) (with_child job reply (begun (entry_test (ListEntry listed) entry true) now))).vars ≡ set_by s (entry_name listed entry) now.vars
+    → (heard_end s (entry_test (ListEntry listed) entry true) (with_child job reply (after_entry_message (entry_test (ListEntry listed) entry true) now))).vars ≡ set_by s (entry_name listed entry) now.vars
 heard_vars listed entry job reply now None e = without_unset now.vars (entry_name listed entry) e
 heard_vars listed entry job reply now (Some b) e =
     let t = entry_test (ListEntry listed) entry true in
-    entry_vars true (ListEntry listed) entry (is_yes (Some (yes_or_no b))) (with_result (yes_or_no b) (with_variable t.name (yes_or_no b) (with_child job reply (begun t now))))
+    entry_vars true (ListEntry listed) entry (is_yes (Some (yes_or_no b))) (with_result (yes_or_no b) (with_variable t.name (yes_or_no b) (with_child job reply (after_entry_message t now))))
 
 after_quiet : (name : List ℕ) (earlier : List (List ℕ)) (refused : Bool) (first now s : State) → Stands earlier refused first now → is_known name earlier first ≡ true → s.vars ≡ now.vars → Stands (name ∷ earlier) refused first s
 after_quiet name earlier refused first now s stands k same = record {
@@ -223,22 +223,22 @@ or_left : (a b : Bool) → a ≡ true → a || b ≡ true
 or_left true b e = refl
 or_left false b e = absurd cc
 
-after_heard : (name : List ℕ) (earlier : List (List ℕ)) (refused : Bool) (first now s : State) (heard : Option Bool) → Stands earlier refused first now → is_known name earlier first ≡ false → s.vars ≡ set_by heard name now.vars
-    → Stands (name ∷ earlier) (refuses heard || refused) first s
-after_heard name earlier refused first now s heard stands k is = record {
+after_heard : (name : List ℕ) (earlier : List (List ℕ)) (refused : Bool) (first now s : State) (succeeded : Option Bool) → Stands earlier refused first now → is_known name earlier first ≡ false → s.vars ≡ set_by succeeded name now.vars
+    → Stands (name ∷ earlier) (refuses succeeded || refused) first s
+after_heard name earlier refused first now s succeeded stands k is = record {
   early = λ n h e.
-      let gone : value_of (set_by heard name now.vars) n ≡ None = ap (λ l. value_of l n) (sym is) ∙ e in
+      let gone : value_of (set_by succeeded name now.vars) n ≡ None = ap (λ l. value_of l n) (sym is) ∙ e in
       ⊎_elim
-      (λ t. or_left (refuses heard) refused (unset_refuses heard now.vars name (subst (λ x. value_of (set_by heard name now.vars) x ≡ None) (same_text n name t) gone)))
-      (λ f. or_right (refuses heard) refused (stands.early n (in_earlier n f h) (sym (set_there heard now.vars name n f) ∙ gone)))
+      (λ t. or_left (refuses succeeded) refused (unset_refuses succeeded now.vars name (subst (λ x. value_of (set_by succeeded name now.vars) x ≡ None) (same_text n name t) gone)))
+      (λ f. or_right (refuses succeeded) refused (stands.early n (in_earlier n f h) (sym (set_there succeeded now.vars name n f) ∙ gone)))
       (cases_Bool (bytes_eq n name));
   kept = λ n v h.
       ap (λ l. value_of l n) is
-      ∙ set_there heard now.vars name n (apart_from n v h)
+      ∙ set_there succeeded now.vars name n (apart_from n v h)
       ∙ stands.kept n v h;
   others = λ n h.
       let p = or_false (bytes_eq n name) (list_any (bytes_eq n) earlier) h in
-      ap (λ l. value_of l n) is ∙ set_there heard now.vars name n p.0 ∙ stands.others n p.1;
+      ap (λ l. value_of l n) is ∙ set_there succeeded now.vars name n p.0 ∙ stands.others n p.1;
 }
   where
     in_earlier : (n : List ℕ) → bytes_eq n name ≡ false → bytes_eq n name || list_any (bytes_eq n) earlier ≡ true → list_any (bytes_eq n) earlier ≡ true
@@ -281,11 +281,11 @@ quiet_commits : (batch : Batch) (entry : List ℕ) (tail : List (List ℕ × Opt
     → (value_of now.vars (entry_name batch.listed entry) ≡ None → refused ≡ true)
     → ((s : State) → s.vars ≡ now.vars → committed batch first tail replies refused s ≡ ends s)
     → committed batch first ((entry, None) ∷ tail) replies refused now
-    ≡ ends (known_end (value_of now.vars (entry_name batch.listed entry)) (entry_test (ListEntry batch.listed) entry true) (begun (entry_test (ListEntry batch.listed) entry true) now))
+    ≡ ends (known_end (value_of now.vars (entry_name batch.listed entry)) (entry_test (ListEntry batch.listed) entry true) (after_entry_message (entry_test (ListEntry batch.listed) entry true) now))
 quiet_commits batch entry tail replies refused first now ends ready known rest =
     let o = value_of now.vars (entry_name batch.listed entry) in
     let t = entry_test (ListEntry batch.listed) entry true in
-    let s = known_end o t (begun t now) in
+    let s = known_end o t (after_entry_message t now) in
     commit_one (is_missing o) refused _ s (committed batch first tail replies) (quiet_by batch entry (only_reply replies) first now o refl ready)
     ∙ ap (λ b. committed batch first tail replies b s) (missing_flag o refused known)
     ∙ rest s (quiet_vars batch.listed entry now o refl)
@@ -306,7 +306,7 @@ asked_comes : (batch : Batch) (entry : List ℕ) (job : Job) (tail : List (List 
 asked_comes batch entry job tail more replies refused first now has unset rest =
     let reply = only_reply replies in
     let t = entry_test (ListEntry batch.listed) entry true in
-    let s = heard_end (success reply) t (with_child job reply (begun t now)) in
+    let s = heard_end (success reply) t (with_child job reply (after_entry_message t now)) in
     commit_one (refuses (success reply)) refused _ s (committed batch first tail (drop 1 replies)) (asked_by batch entry job reply first now (success reply) refl unset (is_ready batch entry (Some job) reply first has))
     ∙ rest s (heard_vars batch.listed entry job reply now (success reply) unset)
     ∙ ap (λ b. Ends (how_if b) (after_entries more (jobs_in tail) (drop 1 replies) s)) (or_swap (refuses (success reply)) refused (is_refused more (drop 1 replies)))
@@ -411,7 +411,7 @@ batch_asks batch tests st next some =
     ∙ ends_as tests (is_refused entries replies) (after_entries entries (jobs_in asks) replies st) next))
 
 fronted_as : (tests : List (List ℕ)) (asks : Bool) (st : State) (next : State → Run)
-    → then_run (guarded_all tests (fronts asks st)) next ≡ cond asks (Ends (Stopped 1) (broken_all tests (Stopped 1) (told streams.Err no_compiler st))) (next st)
+    → then_run (guarded_all tests (fronts asks st)) next ≡ cond asks (Ends (Stopped 1) (broken_all tests (Stopped 1) (with_note streams.Err no_compiler st))) (next st)
 fronted_as tests true st next = refl
 fronted_as tests false st next = refl
 

@@ -16,11 +16,11 @@ use Rattle.ac_tree.specs.declared.statement.ProgramValue.{ProgramValue}
 use Rattle.ac_tree.specs.declared.statement.ProgramValue.TheVariants.{Text, FullName}
 use Rattle.meaning.specs.State.{State, Scope, answered, Run, Ends, Goes_on, then_run}
 use Rattle.meaning.specs.Asking.{child, compiled}
-use Rattle.meaning.specs.Meaning.{effect, begun, check_prog, has_value, first_found, program_test}
+use Rattle.meaning.specs.Meaning.{effect, after_subject, check_prog, has_value, first_found, program_test}
 use Rattle.meaning.specs.Rows.{TestKind, kind_for}
 use Rattle.plan.specs.Broken.{broken_all, guarded_all}
 use Rattle.plan.specs.Inside.{asks_to_try}
-use Rattle.plan.specs.Walk.{Mind, minded}
+use Rattle.plan.specs.Walk.{Mind, mind_of}
 use Rattle.run_step.specs.BatchRuns.{list_run}
 use Rattle.run_test.specs.declared.flow.Flow.{Flow}
 use Rattle.run_test.specs.declared.wait.Wait.TheVariants as waits
@@ -72,12 +72,12 @@ first_leads what (entry ∷ more) includes scope st tests next some = entry_lead
 
 pub round_leads : (what : Sought) (entry : List ℕ) (includes : Option (List Part)) (scope : Scope) (st : State) (tests : List (List ℕ)) (next : ℕ → Scope → State → Run)
     → kind_run (kind_for what entry includes true) scope st tests next ≡ round what entry includes st tests next
-unfolding begun
+unfolding after_subject
 round_leads what entry includes scope st tests next = entry_leads what entry includes true scope st tests next
 
 pub continued_ok : (r : Result Flow AllocError) (c : Scope) (tests : List (List ℕ)) (st : State) (run : List (List ℕ) → (ℕ → Scope → State → Run) → Run) (step : (ℕ → Mind → State → Run) → Run)
-    → ((next : ℕ → Mind → State → Run) → step next ≡ run tests (λ n scope. next n (minded scope tests)))
-    → Led r run c st → IfOk r (λ f. Continues f step (minded c tests) st)
+    → ((next : ℕ → Mind → State → Run) → step next ≡ run tests (λ n scope. next n (mind_of scope tests)))
+    → Led r run c st → IfOk r (λ f. Continues f step (mind_of c tests) st)
 continued_ok (Ok f) c tests st run step e h = continued f c tests st run step e h
 continued_ok (Err x) c tests st run step e h = h
 

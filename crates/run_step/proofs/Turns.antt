@@ -19,8 +19,8 @@ use Rattle.meaning.specs.Batches.{is_known}
 use Rattle.meaning.specs.Play.{refused_here, first_refused}
 use Rattle.meaning.specs.Rows.{entry_name}
 use Rattle.run_test.specs.Courses.{entry_test}
-use Rattle.run_test.specs.Entries.{begun, known_end, heard_end}
-use Rattle.run_test.specs.Waits.{given}
+use Rattle.run_test.specs.Entries.{after_entry_message, known_end, heard_end}
+use Rattle.run_test.specs.Waits.{all_replies}
 use Rattle.run_test.specs.Batched.{after_entries, at_once, batch_end, entry_end, entry_refused, is_refused, refuses, rest_after, with_asked}
 use Rattle.run_test.specs.declared.course.EntryTest.{EntryTest}
 use Rattle.run_test.specs.declared.wait.Waiting as waiting
@@ -87,7 +87,7 @@ jobs_more listed includes jobs new entries i number e st job whole lt is n j mad
 -- ---- the front
 
 pub front_more : (entries : List waiting.Waiting) (i : ℕ) (e : waiting.Waiting) (st now last : State) (asks : Bool) → i < length entries → e ≡ get_or entries i e → e.asks ≡ false
-    → now ≡ known_end (value_of st.vars e.test.name) e.test (begun e.test st)
+    → now ≡ known_end (value_of st.vars e.test.name) e.test (after_entry_message e.test st)
     → (any_asks (drop i entries) ≡ asks) × (front_end (drop i entries) st ≡ last)
     → (any_asks (drop (i + 1) entries) ≡ asks) × (front_end (drop (i + 1) entries) now ≡ last)
 front_more entries i e st now last asks lt is no_ask moved so_far =
@@ -95,7 +95,7 @@ front_more entries i e st now last asks lt is no_ask moved so_far =
     let here : drop i entries ≡ e ∷ rest = drop_more entries i e lt ∙ ap (λ (x : waiting.Waiting). x ∷ rest) (sym is) in (
       ap (λ b. b || any_asks rest) (sym no_ask) ∙ ap any_asks (sym here) ∙ so_far.0,
       ap (front_end rest) moved
-          ∙ ap (λ b. cond b st (front_end rest (known_end (value_of st.vars e.test.name) e.test (begun e.test st)))) (sym no_ask)
+          ∙ ap (λ b. cond b st (front_end rest (known_end (value_of st.vars e.test.name) e.test (after_entry_message e.test st)))) (sym no_ask)
           ∙ ap (λ l. front_end l st) (sym here) ∙ so_far.1,
     )
 
@@ -105,7 +105,7 @@ front_asks entries i e st last asks lt is ask so_far =
     let rest = drop (i + 1) entries in
     let here : drop i entries ≡ e ∷ rest = drop_more entries i e lt ∙ ap (λ (x : waiting.Waiting). x ∷ rest) (sym is) in (
       ap (λ b. b || any_asks rest) (sym ask) ∙ ap any_asks (sym here) ∙ so_far.0,
-      ap (λ b. cond b st (front_end rest (known_end (value_of st.vars e.test.name) e.test (begun e.test st)))) (sym ask)
+      ap (λ b. cond b st (front_end rest (known_end (value_of st.vars e.test.name) e.test (after_entry_message e.test st)))) (sym ask)
           ∙ ap (λ l. front_end l st) (sym here) ∙ so_far.1,
     )
 
@@ -114,9 +114,9 @@ front_asks entries i e st last asks lt is ask so_far =
 entry_by : (asks : Bool) (t : EntryTest) (jobs left taken : List Job) (replies rest : List Reply) (reply : Reply) (st : State) → Takes asks jobs left taken → TakesReply asks replies rest reply
     → (entry_end asks t taken (reply ∷ []) st ≡ entry_end asks t jobs replies st) × (left ≡ rest_after asks jobs) × (rest ≡ rest_after asks replies)
 entry_by true t [] left taken replies rest reply st job r =
-    (ap (λ (x : List Job). heard_end (success reply) t (with_asked x (reply ∷ []) (begun t st))) job.0 ∙ ap (λ (x : Reply). heard_end (success x) t (begun t st)) r.0, job.1, r.1)
+    (ap (λ (x : List Job). heard_end (success reply) t (with_asked x (reply ∷ []) (after_entry_message t st))) job.0 ∙ ap (λ (x : Reply). heard_end (success x) t (after_entry_message t st)) r.0, job.1, r.1)
 entry_by true t (j ∷ js) left taken replies rest reply st job r =
-    (ap (λ (x : List Job). heard_end (success reply) t (with_asked x (reply ∷ []) (begun t st))) job.0 ∙ ap (λ (x : Reply). heard_end (success x) t (with_child j x (begun t st))) r.0, job.1, r.1)
+    (ap (λ (x : List Job). heard_end (success reply) t (with_asked x (reply ∷ []) (after_entry_message t st))) job.0 ∙ ap (λ (x : Reply). heard_end (success x) t (with_child j x (after_entry_message t st))) r.0, job.1, r.1)
 entry_by false t jobs left taken replies rest reply st job r = (refl, job.1, r.1)
 
 pub entries_more : (entries : List waiting.Waiting) (i : ℕ) (e : waiting.Waiting) (jobs left taken : List Job) (replies rest : List Reply) (reply : Reply) (st now last : State) → i < length entries → e ≡ get_or entries i e
@@ -134,22 +134,22 @@ entries_more entries i e jobs left taken replies rest reply st now last lt is jo
     ∙ so_far
 
 pub entries_start : (entries : List waiting.Waiting) (jobs back : List Job) (replies turned : List (Option Reply)) (st : State) → back ≡ reverse jobs → turned ≡ reverse replies
-    → after_entries entries (reverse back) (given (reverse turned)) st ≡ after_entries entries jobs (given replies) st
+    → after_entries entries (reverse back) (all_replies (reverse turned)) st ≡ after_entries entries jobs (all_replies replies) st
 entries_start entries jobs back replies turned st b t =
-    ap (λ l. after_entries entries (reverse l) (given (reverse turned)) st) b
-    ∙ ap (λ l. after_entries entries l (given (reverse turned)) st) (reverse-reverse jobs)
-    ∙ ap (λ l. after_entries entries jobs (given (reverse l)) st) t
-    ∙ ap (λ l. after_entries entries jobs (given l) st) (reverse-reverse replies)
+    ap (λ l. after_entries entries (reverse l) (all_replies (reverse turned)) st) b
+    ∙ ap (λ l. after_entries entries l (all_replies (reverse turned)) st) (reverse-reverse jobs)
+    ∙ ap (λ l. after_entries entries jobs (all_replies (reverse l)) st) t
+    ∙ ap (λ l. after_entries entries jobs (all_replies l) st) (reverse-reverse replies)
 
 -- ---- the first refused reply
 
 pub heard_more : (replies : List (Option Reply)) (i : ℕ) (r : Option Reply) (whole : Option ℕ) → i < length replies → r ≡ get_or replies i r → is_some (success (unwrap_or r StartRefused)) ≡ true
-    → option_map (λ k. i + k) (first_refused (given (drop i replies))) ≡ whole → option_map (λ k. i + 1 + k) (first_refused (given (drop (i + 1) replies))) ≡ whole
+    → option_map (λ k. i + k) (first_refused (all_replies (drop i replies))) ≡ whole → option_map (λ k. i + 1 + k) (first_refused (all_replies (drop (i + 1) replies))) ≡ whole
 heard_more replies i r whole lt is answered so_far =
     let rest = drop (i + 1) replies in
-    shifted (first_refused (given rest)) (success (unwrap_or r StartRefused)) answered
-    ∙ ap (λ x. option_map (λ k. i + k) (refused_here (success (unwrap_or x StartRefused)) (first_refused (given rest)))) is
-    ∙ ap (λ l. option_map (λ k. i + k) (first_refused (given l))) (sym (drop_more replies i r lt))
+    shifted (first_refused (all_replies rest)) (success (unwrap_or r StartRefused)) answered
+    ∙ ap (λ x. option_map (λ k. i + k) (refused_here (success (unwrap_or x StartRefused)) (first_refused (all_replies rest)))) is
+    ∙ ap (λ l. option_map (λ k. i + k) (first_refused (all_replies l))) (sym (drop_more replies i r lt))
     ∙ so_far
   where
     moved : (k : ℕ) → i + 1 + k ≡ i + suc k
@@ -161,13 +161,13 @@ heard_more replies i r whole lt is answered so_far =
     shifted (Some k) (Some b) e = ap Some (moved k)
 
 pub refused_found : (replies : List (Option Reply)) (i number : ℕ) (r : Option Reply) (whole : Option ℕ) → i < length replies → r ≡ get_or replies i r → is_some (success (unwrap_or r StartRefused)) ≡ false
-    → number ≡ i + 1 → option_map (λ k. i + k) (first_refused (given (drop i replies))) ≡ whole → Some number ≡ whole
+    → number ≡ i + 1 → option_map (λ k. i + k) (first_refused (all_replies (drop i replies))) ≡ whole → Some number ≡ whole
 refused_found replies i number r whole lt is refused n so_far =
     let rest = drop (i + 1) replies in
     ap Some n
-    ∙ here (first_refused (given rest)) (success (unwrap_or r StartRefused)) refused
-    ∙ ap (λ x. option_map (λ k. i + k) (refused_here (success (unwrap_or x StartRefused)) (first_refused (given rest)))) is
-    ∙ ap (λ l. option_map (λ k. i + k) (first_refused (given l))) (sym (drop_more replies i r lt))
+    ∙ here (first_refused (all_replies rest)) (success (unwrap_or r StartRefused)) refused
+    ∙ ap (λ x. option_map (λ k. i + k) (refused_here (success (unwrap_or x StartRefused)) (first_refused (all_replies rest)))) is
+    ∙ ap (λ l. option_map (λ k. i + k) (first_refused (all_replies l))) (sym (drop_more replies i r lt))
     ∙ so_far
   where
     here : (o : Option ℕ) (s : Option Bool) → is_some s ≡ false → Some (i + 1) ≡ option_map (λ k. i + k) (refused_here s o)
@@ -197,7 +197,7 @@ refused_same (w ∷ more) replies e = by w.asks replies (refused_same more) e
     by true (r ∷ rs) rec e = none_first (success r) (first_refused rs) (is_refused more rs) (rec rs (omega (arith, e)))
     by false replies rec e = rec replies e
 
-pub given_length : (replies : List (Option Reply)) → length (given replies) ≡ length replies
+pub given_length : (replies : List (Option Reply)) → length (all_replies replies) ≡ length replies
 given_length [] = refl
 given_length (r ∷ rs) = ap suc (given_length rs)
 
@@ -216,23 +216,23 @@ refused_within (r ∷ rs) n e = by (success r) (first_refused rs) (λ k h. refus
 -- ---- the end
 
 pub batch_cut : (entries view : List waiting.Waiting) (jobs : List Job) (replies shown : List (Option Reply)) (n : ℕ) (st now : State) (tests : List (List ℕ)) (next : State → Run) → shown ≡ replies → view ≡ entries
-    → length replies ≡ length jobs → length jobs ≡ at_once entries → Some n ≡ first_refused (given shown) → now ≡ after_entries view jobs (given replies) st
-    → batch_end tests (is_refused entries (given replies)) next (after_entries entries jobs (given replies) st) ≡ Ends Cut (broken_all tests Cut now)
+    → length replies ≡ length jobs → length jobs ≡ at_once entries → Some n ≡ first_refused (all_replies shown) → now ≡ after_entries view jobs (all_replies replies) st
+    → batch_end tests (is_refused entries (all_replies replies)) next (after_entries entries jobs (all_replies replies) st) ≡ Ends Cut (broken_all tests Cut now)
 batch_cut entries view jobs replies shown n st now tests next s v same asked cut is =
-    ap (λ b. batch_end tests b next (after_entries entries jobs (given replies) st))
-    (refused_same entries (given replies) (given_length replies ∙ same ∙ asked) ∙ ap is_some (ap (λ l. first_refused (given l)) (sym s) ∙ sym cut))
-    ∙ ap (λ x. Ends Cut (broken_all tests Cut x)) (sym (is ∙ ap (λ l. after_entries l jobs (given replies) st) v))
+    ap (λ b. batch_end tests b next (after_entries entries jobs (all_replies replies) st))
+    (refused_same entries (all_replies replies) (given_length replies ∙ same ∙ asked) ∙ ap is_some (ap (λ l. first_refused (all_replies l)) (sym s) ∙ sym cut))
+    ∙ ap (λ x. Ends Cut (broken_all tests Cut x)) (sym (is ∙ ap (λ l. after_entries l jobs (all_replies replies) st) v))
 
 pub batch_ends : (entries view : List waiting.Waiting) (jobs : List Job) (replies shown : List (Option Reply)) (st now : State) (tests : List (List ℕ)) (next : State → Run) → shown ≡ replies → view ≡ entries
-    → length replies ≡ length jobs → length jobs ≡ at_once entries → None ≡ first_refused (given shown) → now ≡ after_entries view jobs (given replies) st
-    → batch_end tests (is_refused entries (given replies)) next (after_entries entries jobs (given replies) st) ≡ next now
+    → length replies ≡ length jobs → length jobs ≡ at_once entries → None ≡ first_refused (all_replies shown) → now ≡ after_entries view jobs (all_replies replies) st
+    → batch_end tests (is_refused entries (all_replies replies)) next (after_entries entries jobs (all_replies replies) st) ≡ next now
 batch_ends entries view jobs replies shown st now tests next s v same asked goes is =
-    ap (λ b. batch_end tests b next (after_entries entries jobs (given replies) st))
-    (refused_same entries (given replies) (given_length replies ∙ same ∙ asked) ∙ ap is_some (ap (λ l. first_refused (given l)) (sym s) ∙ sym goes))
-    ∙ ap next (sym (is ∙ ap (λ l. after_entries l jobs (given replies) st) v))
+    ap (λ b. batch_end tests b next (after_entries entries jobs (all_replies replies) st))
+    (refused_same entries (all_replies replies) (given_length replies ∙ same ∙ asked) ∙ ap is_some (ap (λ l. first_refused (all_replies l)) (sym s) ∙ sym goes))
+    ∙ ap next (sym (is ∙ ap (λ l. after_entries l jobs (all_replies replies) st) v))
 
-pub within_asked : (replies shown : List (Option Reply)) (n : ℕ) → shown ≡ replies → Some n ≡ first_refused (given shown) → n ≤ length replies
-within_asked replies shown n s cut = omega (arith, refused_within (given replies) n (ap (λ l. first_refused (given l)) (sym s) ∙ sym cut), given_length replies)
+pub within_asked : (replies shown : List (Option Reply)) (n : ℕ) → shown ≡ replies → Some n ≡ first_refused (all_replies shown) → n ≤ length replies
+within_asked replies shown n s cut = omega (arith, refused_within (all_replies replies) n (ap (λ l. first_refused (all_replies l)) (sym s) ∙ sym cut), given_length replies)
 
 pub is_nothing : {A : Type 0} (xs : List A) (n : ℕ) → n ≡ length xs → true ≡ (n == 0) → xs ≡ []
 is_nothing [] n e t = refl

@@ -7,7 +7,7 @@ use Rattle.meaning.specs.State.{State, Scope}
 use Rattle.meaning.specs.Play.{refused_after}
 use Rattle.run_test.specs.Batched.{at_once}
 use Rattle.run_test.specs.Flows.{IsStep, Leads}
-use Rattle.run_test.specs.Waits.{Suits, given, is_single, resumed_one, waits_for}
+use Rattle.run_test.specs.Waits.{Suits, all_replies, is_single, resumed_one, waits_for}
 use Rattle.run_test.specs.declared.flow.Flow.{Flow}
 use Rattle.run_test.specs.declared.wait.Waiting as waiting
 use Rattle.run_test.specs.declared.wait.Wait.{Wait}
@@ -28,13 +28,13 @@ single_of (waits.Attempt trial ends_on value) h = refl
 single_of (waits.Batch entries) h = absurd (h entries refl)
 
 -- The only job and the only reply are all of them.
-pub single_leads : (f : Flow) (r : Replied) (job : Option Job) (reply : Reply) (scope about : Scope) (st now : State) → is_single r.wait ≡ true → option_to_list job ≡ r.jobs.items → reply ∷ [] ≡ given r.replies.items
+pub single_leads : (f : Flow) (r : Replied) (job : Option Job) (reply : Reply) (scope about : Scope) (st now : State) → is_single r.wait ≡ true → option_to_list job ≡ r.jobs.items → reply ∷ [] ≡ all_replies r.replies.items
     → Leads f (one_run r.wait job reply scope st) about now → Leads f (replied_run r scope st) about now
 single_leads f r job reply scope about st now single j p h =
     led f about now _ _
     (λ tests next. ap (λ l. resumed_one tests r.wait l (reply ∷ []) (next 0) scope st) j ∙ ap (λ l. resumed_one tests r.wait r.jobs.items l (next 0) scope st) p
-    ∙ sym (resumed_single tests r.wait r.jobs.items (given r.replies.items) (next 0) scope st single))
+    ∙ sym (resumed_single tests r.wait r.jobs.items (all_replies r.replies.items) (next 0) scope st single))
     h
 
-pub single_step : (f : Flow) (r : Replied) (reply : Reply) (before : ℕ) → reply ∷ [] ≡ given r.replies.items → IsStep (waits_for r.wait) (refused_after before (reply ∷ [])) f → IsStep (waits_for r.wait) (cut_by before r) f
+pub single_step : (f : Flow) (r : Replied) (reply : Reply) (before : ℕ) → reply ∷ [] ≡ all_replies r.replies.items → IsStep (waits_for r.wait) (refused_after before (reply ∷ [])) f → IsStep (waits_for r.wait) (cut_by before r) f
 single_step f r reply before p h = subst (λ l. IsStep (waits_for r.wait) (refused_after before l) f) p h

@@ -13,9 +13,9 @@ use Rattle.run_test.specs.declared.course.EntryTest.{EntryTest}
 use Rattle.run_test.specs.declared.wait.Waiting as waiting
 use Rattle.run_test.specs.declared.wait.Wait.TheVariants as wait
 use Rattle.run_test.specs.Batched.{after_entries, entry_end}
-use Rattle.run_test.specs.Entries.{begun, known_end}
+use Rattle.run_test.specs.Entries.{after_entry_message, known_end}
 use Rattle.run_test.specs.Flows.{Inside}
-use Rattle.run_test.specs.Waits.{given, resumed}
+use Rattle.run_test.specs.Waits.{all_replies, resumed}
 use Rattle.run_step.specs.Waiting.{any_asks, front_end, fronted}
 
 -- A batch. (Autoconf's manual, "Generic Headers" to "Generic Declarations")
@@ -33,11 +33,11 @@ front_run entries scope st tests next = fronted tests entries (next 0 scope) st
 -- What follows the replies to the jobs of a batch. (own)
 abbrev pub end_run : Vec waiting.Waiting → List Job → List (Option Reply) → Scope → State → Inside
 end_run batch jobs replies scope st tests next =
-    resumed tests (wait.Batch batch) jobs (given replies) (next 0) scope st
+    resumed tests (wait.Batch batch) jobs (all_replies replies) (next 0) scope st
 
 -- The state after an entry that asked for no child. (own)
 abbrev pub quiet_end : EntryTest → State → State
-quiet_end test st = known_end (value_of st.vars test.name) test (begun test st)
+quiet_end test st = known_end (value_of st.vars test.name) test (after_entry_message test st)
 
 -- The state after an entry that asked for this job and got this reply. (own)
 abbrev pub asked_end : EntryTest → Option Job → Reply → State → State
@@ -49,11 +49,11 @@ waiting_end entry job reply st = entry_end entry.asks entry.test (option_to_list
 
 -- The state after all entries. A missing reply is a refused start. (own)
 abbrev pub all_ended : List waiting.Waiting → List Job → List (Option Reply) → State → State
-all_ended entries jobs replies st = after_entries entries jobs (given replies) st
+all_ended entries jobs replies st = after_entries entries jobs (all_replies replies) st
 
 -- The replies, of which the last is taken first. (own)
 abbrev pub given_last : List (Option Reply) → List Reply
-given_last replies = given (reverse replies)
+given_last replies = all_replies (reverse replies)
 
 -- The entries before the first that asks for a child have ended; the Boolean reports whether there is one. (own)
 abbrev pub IsFronted : List waiting.Waiting → State → State → Bool → Type 0

@@ -11,8 +11,8 @@ use Rattle.run_test.specs.declared.flow.Flow.{Flow}
 use Rattle.run_test.specs.declared.flow.Flow.TheVariants as flow
 
 -- What a check checks is printed. (Autoconf's manual, "Caching Results")
-abbrev pub begun : List Part → State → State
-begun message st = checking (word_value message st.vars) st
+abbrev pub after_message : List Part → State → State
+after_message message st = checking (word_value message st.vars) st
 
 -- The value of the name of a check is printed. (Autoconf's manual, "Caching Results")
 abbrev pub shown_of : List ℕ → State → State
@@ -32,4 +32,4 @@ IsOpened name steps before tests old new f = opened_by (value_of old.vars name) 
 -- A check begins: what it checks is printed, and then its test is open, or its value is printed. (own)
 abbrev pub Begins : List Part → List ℕ → ℕ → Result Flow AllocError → List (List ℕ) → List (List ℕ) → State → State → Type 0
 Begins message name steps result before tests old new =
-    IfOk result (opened_by (value_of old.vars name) name steps before tests (begun message old) new)
+    IfOk result (opened_by (value_of old.vars name) name steps before tests (after_message message old) new)

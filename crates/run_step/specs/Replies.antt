@@ -3,12 +3,12 @@ use Rattle.std.specs.Prelude.{ℕ, Bool, [], ◌∷◌, Option, None, ◌+◌, o
 use Rattle.crew_jobs.specs.declared.job.Job.{Job}
 use Rattle.crew_trait.specs.declared.reply.Reply.{Reply}
 use Rattle.meaning.specs.State.{State, Scope}
-use Rattle.meaning.specs.Asking.{heard}
+use Rattle.meaning.specs.Asking.{after_child}
 use Rattle.meaning.specs.Play.{refused_after, refused_here}
 use Rattle.plan.specs.Broken.{broken_all}
 use Rattle.run_test.specs.declared.wait.Wait.{Wait}
 use Rattle.run_test.specs.Flows.{Inside}
-use Rattle.run_test.specs.Waits.{after_reply, given, names_around, resumed, resumed_one}
+use Rattle.run_test.specs.Waits.{after_reply, all_replies, names_around, resumed, resumed_one}
 use Rattle.run_step.specs.declared.replying.Replied.{Replied}
 
 -- What follows an answer. (own)
@@ -18,7 +18,7 @@ answer_run wait b scope st tests next = after_reply tests wait b (next 0) scope 
 -- What follows a reply, by whether the child succeeded, if it answered. (own)
 abbrev pub heard_run : Wait → Option Bool → Scope → State → Inside
 heard_run wait succeeded scope st tests next =
-    heard (broken_all (names_around wait tests)) succeeded st (λ b now. after_reply tests wait b (next 0) scope now)
+    after_child (broken_all (names_around wait tests)) succeeded st (λ b now. after_reply tests wait b (next 0) scope now)
 
 -- What follows the reply to the only job. (own)
 abbrev pub one_run : Wait → Option Job → Reply → Scope → State → Inside
@@ -26,12 +26,12 @@ one_run wait job reply scope st tests next = resumed_one tests wait (option_to_l
 
 -- What follows the replies. (own)
 abbrev pub replied_run : Replied → Scope → State → Inside
-replied_run r scope st tests next = resumed tests r.wait r.jobs.items (given r.replies.items) (next 0) scope st
+replied_run r scope st tests next = resumed tests r.wait r.jobs.items (all_replies r.replies.items) (next 0) scope st
 
 -- The number of the child, if this is no answer; so many were asked for before. (own)
 abbrev pub refused_by : ℕ → Option Bool → Option ℕ
-refused_by before heard = option_map (λ k. before + k) (refused_here heard None)
+refused_by before after_child = option_map (λ k. before + k) (refused_here after_child None)
 
 -- The number of the first refused child, if there is one; so many were asked for before. (own)
 abbrev pub cut_by : ℕ → Replied → Option ℕ
-cut_by before r = refused_after before (given r.replies.items)
+cut_by before r = refused_after before (all_replies r.replies.items)

@@ -14,12 +14,12 @@ use Rattle.ac_tree.specs.declared.statement.Question.TheVariants.{ChecksEach}
 use Rattle.ac_tree.specs.declared.tree.Subject.{Subject}
 use Rattle.ac_tree.specs.declared.tree.Subject.TheVariants.{Asked}
 use Rattle.ac_tree.specs.declared.tree.When.{When}
-use Rattle.meaning.specs.Meaning.{asked, begun, found_by, given, is_taken, looks}
+use Rattle.meaning.specs.Meaning.{after_question, after_subject, found_by, after_option, is_taken, looks}
 use Rattle.meaning.specs.Rows.{TestKind}
 use Rattle.meaning.specs.State.{State, Scope, answered, then_run}
 use Rattle.meaning.specs.Tries.{text_of, tried}
 use Rattle.plan.specs.Broken.{broken_all, guarded_all}
-use Rattle.plan.specs.Walk.{act, minded, own_effect, instruction_of}
+use Rattle.plan.specs.Walk.{act, mind_of, own_effect, instruction_of}
 use Rattle.plan.specs.declared.step.Step.{Step}
 use Rattle.run_test.specs.declared.flow.Flow.{Flow}
 use Rattle.run_test.specs.Attempts.{tried_job}
@@ -43,7 +43,7 @@ first_job kind program st = tried_job kind (text_of program st.vars) 0 st
 
 -- The question whether an option is given. (own)
 abbrev pub given_run : OptionKind → List ℕ → State → Inside
-given_run kind variable st tests next = given (value_of st.vars variable) kind st (next 0)
+given_run kind variable st tests next = after_option (value_of st.vars variable) kind st (next 0)
 
 -- A test as a question. (own)
 abbrev pub found_run : TestKind → State → Inside
@@ -51,11 +51,11 @@ found_run kind st tests next = found_by (broken_all tests) kind st (next 0)
 
 -- A question. (own)
 abbrev pub asked_run : Question → State → Inside
-asked_run question st tests next = asked (broken_all tests) question st (next 0)
+asked_run question st tests next = after_question (broken_all tests) question st (next 0)
 
 -- The beginning of a choice. (own)
 abbrev pub subject_run : Subject → State → Inside
-subject_run subject st tests next = begun (broken_all tests) subject st (next 0)
+subject_run subject st tests next = after_subject (broken_all tests) subject st (next 0)
 
 -- A round of a list: its only entry is tested, and what is found is defined. (own)
 abbrev pub round : Sought → List ℕ → Option (List Part) → State → Inside
@@ -68,4 +68,4 @@ skipped when scope st steps = if is_taken when scope st.vars then 0 else steps
 -- A step, with what follows it, continues as its flow says, from one subject, open tests and state to others. (own)
 abbrev pub Act : Step → Result Flow AllocError → Scope → Scope → List (List ℕ) → List (List ℕ) → State → State → Type 0
 Act step result about now before tests old new =
-    IfOk result (λ flow. Continues flow (λ next. act (instruction_of step) next (minded about before) old) (minded now tests) new)
+    IfOk result (λ flow. Continues flow (λ next. act (instruction_of step) next (mind_of about before) old) (mind_of now tests) new)

@@ -4,7 +4,7 @@ use Rattle.shellword.specs.declared.part.Part.{Part}
 use Rattle.shellword.specs.Value.{word_value}
 use Rattle.ac_tree.specs.declared.statement.Message.{Message}
 use Rattle.meaning.specs.Meaning.{defaulted}
-use Rattle.meaning.specs.Messages.{said}
+use Rattle.meaning.specs.Messages.{with_message}
 use Rattle.meaning.specs.State.{State, with_definition, with_variable}
 
 -- A variable gets the value of a word. (POSIX shell, "Variable Assignment")
@@ -17,7 +17,7 @@ defined name value st = with_definition name (word_value value st.vars) st
 
 -- A message is printed. (Autoconf's manual, "Printing Messages")
 abbrev pub printed : Message → List Part → State → State
-printed message text st = said message (word_value text st.vars) st
+printed message text st = with_message message (word_value text st.vars) st
 
 -- A variable that is empty gets its default. (Autoconf's manual, "Generic Programs")
 abbrev pub with_default : List ℕ → List Part → State → State

@@ -7,13 +7,13 @@ use Rattle.deftable.specs.declared.note.Stream.TheVariants as streams
 use Rattle.shellword.specs.declared.part.Part.{Part}
 use Rattle.ac_tree.specs.declared.listed.Listed.{Listed}
 use Rattle.ac_tree.specs.declared.listed.Sought.TheVariants.{ListEntry}
-use Rattle.meaning.specs.State.{State, Run, Ends, Stopped, told}
+use Rattle.meaning.specs.State.{State, Run, Ends, Stopped, with_note}
 use Rattle.meaning.specs.Asking.{no_compiler}
 use Rattle.meaning.specs.Batches.{is_known}
 use Rattle.meaning.specs.Rows.{entry_job, entry_name}
 use Rattle.plan.specs.Broken.{broken_all}
 use Rattle.run_test.specs.Courses.{entry_test}
-use Rattle.run_test.specs.Entries.{begun, known_end}
+use Rattle.run_test.specs.Entries.{after_entry_message, known_end}
 use Rattle.run_test.specs.declared.wait.Waiting as waiting
 
 -- One of the entries has this cached name. (own)
@@ -52,12 +52,12 @@ any_asks (e ∷ more) = e.asks || any_asks more
 -- The state after the entries before the first that asks for a child. (own)
 abbrev pub front_end : List waiting.Waiting → State → State
 front_end [] st = st
-front_end (e ∷ more) st = if e.asks then st else front_end more (known_end (value_of st.vars e.test.name) e.test (begun e.test st))
+front_end (e ∷ more) st = if e.asks then st else front_end more (known_end (value_of st.vars e.test.name) e.test (after_entry_message e.test st))
 
 -- What follows inside these tests if nothing is asked for: an entry that asks for a child stops the run, since there is no
 -- compiler. (Autoconf's manual, "Running the Compiler")
 abbrev pub fronted : List (List ℕ) → List waiting.Waiting → (State → Run) → State → Run
 fronted tests entries next st =
     if any_asks entries
-    then Ends (Stopped 1) (broken_all tests (Stopped 1) (told streams.Err no_compiler (front_end entries st)))
+    then Ends (Stopped 1) (broken_all tests (Stopped 1) (with_note streams.Err no_compiler (front_end entries st)))
     else next (front_end entries st)

@@ -159,7 +159,7 @@ fn ask(
 }
 
 /// Begins a round of a list: the test of its entry.
-#[tactic(auto, unfolding(meaning::specs::Meaning::begun))]
+#[tactic(auto, unfolding(meaning::specs::Meaning::after_subject))]
 pub(crate) fn begin_round(
     alloc: Global,
     store: &mut Store,
@@ -177,7 +177,7 @@ pub(crate) fn begin_round(
 }
 
 /// Begins a choice.
-#[tactic(auto, unfolding(meaning::specs::Meaning::begun))]
+#[tactic(auto, unfolding(meaning::specs::Meaning::after_subject))]
 pub(crate) fn begin(
     alloc: Global,
     store: &mut Store,

@@ -6,7 +6,7 @@ ghost use Rattle.meaning.specs.Play.{first_refused, refused_after};
 ghost use Rattle.crew_trait.specs.declared.reply.Reply.TheVariants.{StartRefused};
 ghost use Rattle.run_test.specs.Batched.{at_once};
 ghost use Rattle.run_test.specs.Flows.{IsStep, LedOn};
-ghost use Rattle.run_test.specs.Waits.{given};
+ghost use Rattle.run_test.specs.Waits.{all_replies};
 ghost use Rattle.run_step.specs.BatchRuns.{all_ended, asked_end, given_last, end_run, waiting_end};
 ghost use Rattle.run_step.specs.Taking.{Takes, TakesReply};
 
@@ -94,7 +94,7 @@ fn end_all(
 }
 
 /// Returns whether the child with this reply succeeded. A missing reply is no answer.
-fn heard(reply: &Option<Reply>) -> Option<bool>
+fn success_of(reply: &Option<Reply>) -> Option<bool>
     ensures { result ≡ success (unwrap_or reply.now StartRefused) }
 {
     match reply {
@@ -106,10 +106,10 @@ fn heard(reply: &Option<Reply>) -> Option<bool>
 /// Returns the number of the first refused reply, from 1.
 fn first_refused(replies: &[Option<Reply>]) -> Option<u64>
     requires { length replies.now < 2 ^ 64 }
-    ensures { result ≡ first_refused (given replies.now) }
+    ensures { result ≡ first_refused (all_replies replies.now) }
 {
     for i in 0..replies.len() {
-        if heard(&replies[i]).is_none() {
+        if success_of(&replies[i]).is_none() {
             return Some(i as u64 + 1);
         }
     }
@@ -130,7 +130,7 @@ pub fn hear_batch(
     requires asked { length jobs.items ≡ at_once batch.now.items }
     requires replies { length replies.items ≡ length jobs.items }
     requires room { before + length jobs.items < 2 ^ 64 }
-    ensures step { IfOk result (IsStep 0 (refused_after before (given replies.items))) }
+    ensures step { IfOk result (IsStep 0 (refused_after before (all_replies replies.items))) }
     ensures leads { LedOn result (end_run batch.now jobs.items replies.items) store.old store.new }
 {
     let refused = first_refused(replies.as_slice());

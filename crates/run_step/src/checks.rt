@@ -2,7 +2,7 @@
 
 ghost use Rattle.std.specs.Prelude.{◌≡◌, IfOk, OnOk};
 ghost use Rattle.plan.specs.Walk.{outer_tests};
-ghost use Rattle.run_step.specs.Checks.{Begins, IsOpened, begun, shown_of};
+ghost use Rattle.run_step.specs.Checks.{Begins, IsOpened, after_message, shown_of};
 ghost use Rattle.run_test.specs.declared.flow.Flow.TheVariants.{Pass};
 
 use run_state::pieces::{begin_check, end_check, end_known_check};
@@ -13,7 +13,7 @@ use std::alloc::{AllocError, Global};
 
 /// Prints what a check checks.
 fn begin_message(alloc: Global, store: &mut Store, message: &HereText) -> Result<(), AllocError>
-    ensures { OnOk result (store.new ≡ begun message.now store.old) }
+    ensures { OnOk result (store.new ≡ after_message message.now store.old) }
 {
     let message = store.here_text(alloc, message)?;
     begin_check(alloc, store, message.as_slice())

@@ -7,7 +7,7 @@ ghost use Rattle.meaning.specs.Play.{refused_after};
 ghost use Rattle.run_step.specs.Replies.{answer_run, cut_by, heard_run, one_run, refused_by, replied_run};
 ghost use Rattle.run_test.specs.Flows.{IsStep, Led, LedAnywhere};
 ghost use Rattle.run_test.specs.Runs.{question_run};
-ghost use Rattle.run_test.specs.Waits.{Awaits, cut_state, given, waits_for};
+ghost use Rattle.run_test.specs.Waits.{Awaits, cut_state, all_replies, waits_for};
 ghost use Rattle.run_test.specs.declared.flow.Flow.TheVariants.{Cut};
 
 use crate::hear_batch;
@@ -151,7 +151,7 @@ fn only_job(mut jobs: Vec<Job>) -> Option<Job>
 /// Returns the only reply. A missing one is a refused start.
 fn only_reply(mut replies: Vec<Option<Reply>>) -> Reply
     requires { length replies.items ≡ 1 }
-    ensures { result ∷ [] ≡ given replies.items }
+    ensures { result ∷ [] ≡ all_replies replies.items }
 {
     match replies.pop() {
         Some(Some(reply)) => reply,

@@ -4,7 +4,7 @@ use Rattle.std.specs.declared.alloc.AllocError.{AllocError}
 use Rattle.crew_jobs.specs.declared.job.Job.{Job}
 use Rattle.crew_trait.specs.declared.reply.Reply.{Reply}
 use Rattle.meaning.specs.State.{State, Scope, Run, Asks}
-use Rattle.plan.specs.Walk.{Mind, minded}
+use Rattle.plan.specs.Walk.{Mind, mind_of}
 use Rattle.run_test.specs.declared.flow.Flow.{Flow}
 use Rattle.run_test.specs.declared.flow.Flow.TheVariants as flow
 use Rattle.run_test.specs.Flows.{Inside, Leads, Led, Continues, IsStep}
@@ -80,8 +80,8 @@ fewer_ok (Err e) n m refused le h = h
 
 -- A run inside tests continues as it does inside any.
 pub continued : (f : Flow) (c : Scope) (tests : List (List ℕ)) (st : State) (run : Inside) (step : (ℕ → Mind → State → Run) → Run)
-    → ((next : ℕ → Mind → State → Run) → step next ≡ run tests (λ n scope. next n (minded scope tests)))
-    → Leads f run c st → Continues f step (minded c tests) st
+    → ((next : ℕ → Mind → State → Run) → step next ≡ run tests (λ n scope. next n (mind_of scope tests)))
+    → Leads f run c st → Continues f step (mind_of c tests) st
 continued (flow.Pass more) c tests st run step e h = λ next. e next ∙ h tests _
 continued (flow.Ask jobs wait) c tests st run step e h = λ next. e next ∙ h tests _
 continued flow.Complete c tests st run step e h = λ next. e next ∙ h tests _

@@ -8,7 +8,7 @@ use Rattle.crew_trait.specs.declared.reply.Reply.{Reply}
 use Rattle.meaning.specs.State.{State, Scope, How, with_child, Stopped, Run, Ends, Asks}
 use Rattle.meaning.specs.Tests.{checking}
 use Rattle.meaning.specs.Asking as asking
-use Rattle.meaning.specs.Asking.{child, compiled, attempted, same, heard, success, only_reply, without_compiler}
+use Rattle.meaning.specs.Asking.{child, compiled, attempted, same, after_child, success, only_reply, without_compiler}
 use Rattle.plan.specs.Broken.{broken_all}
 use Rattle.run_test.specs.declared.course.Course.{Course}
 use Rattle.run_test.specs.declared.course.Trial.{Trial}
@@ -50,8 +50,8 @@ place_before c st place a h =
 -- A child changes neither variables nor definitions.
 by_reply : (early : How → State → State) (tests : List (List ℕ)) (t : Trial) (ends_on : Bool) (value : List ℕ) (job : Job) (next : Scope → State → Run) (scope : Scope) (st : State) (o : Option Bool) (r : Reply)
     → early ≡ broken_all (name_in t.course ∷ tests)
-    → heard early o (with_child job r st) (λ b now. cond (same ends_on b) (test_end t.course (Some value) next scope now) (attempted early (drop t.next (attempts_in t.course st.vars st.defs)) (otherwise_in t.course) now (λ v later. test_end t.course v next scope later)))
-    ≡ heard early o (with_child job r st) (λ b now. after_attempt tests t value (same ends_on b) next scope now)
+    → after_child early o (with_child job r st) (λ b now. cond (same ends_on b) (test_end t.course (Some value) next scope now) (attempted early (drop t.next (attempts_in t.course st.vars st.defs)) (otherwise_in t.course) now (λ v later. test_end t.course v next scope later)))
+    ≡ after_child early o (with_child job r st) (λ b now. after_attempt tests t value (same ends_on b) next scope now)
 by_reply early tests t ends_on value job next scope st None r e = refl
 by_reply early tests t ends_on value job next scope st (Some b) r e =
     ap (λ x. cond (same ends_on b) (test_end t.course (Some value) next scope (with_child job r st)) (attempted x (drop t.next (attempts_in t.course st.vars st.defs)) (otherwise_in t.course) (with_child job r st) (λ v later. test_end t.course v next scope later))) e

@@ -8,7 +8,7 @@ use Rattle.meaning.specs.Asking.{success, only_reply}
 use Rattle.plan.specs.Broken.{broken_all}
 use Rattle.run_test.specs.declared.course.EntryTest.{EntryTest}
 use Rattle.run_test.specs.declared.wait.Waiting as waiting
-use Rattle.run_test.specs.Entries.{begun, heard_end, known_end}
+use Rattle.run_test.specs.Entries.{after_entry_message, heard_end, known_end}
 
 -- The log gets the job that was asked for, with its reply. (own)
 abbrev pub with_asked : List Job → List Reply → State → State
@@ -22,8 +22,8 @@ rest_after false xs = xs
 
 -- The end of an entry of a batch: it asked for the first of these jobs, or for none. (own)
 abbrev pub entry_end : Bool → EntryTest → List Job → List Reply → State → State
-entry_end true t jobs replies st = heard_end (success (only_reply replies)) t (with_asked jobs replies (begun t st))
-entry_end false t jobs replies st = known_end (value_of st.vars t.name) t (begun t st)
+entry_end true t jobs replies st = heard_end (success (only_reply replies)) t (with_asked jobs replies (after_entry_message t st))
+entry_end false t jobs replies st = known_end (value_of st.vars t.name) t (after_entry_message t st)
 
 -- The state after the entries of a batch, in the order of the list. (own)
 abbrev pub after_entries : List waiting.Waiting → List Job → List Reply → State → State

@@ -25,8 +25,8 @@ abbrev pub entry_result : EntryTest → Bool → State → State
 entry_result t found st = entry_defined t.defines t.sought t.entry found st
 
 -- What is checked is printed. (Autoconf's manual, "Printing Messages")
-abbrev pub begun : EntryTest → State → State
-begun t st = checking (sought_message t.sought t.entry) st
+abbrev pub after_entry_message : EntryTest → State → State
+after_entry_message t st = checking (sought_message t.sought t.entry) st
 
 -- The test ends with a value: its name gets it, it is printed, and what it defines is defined. (Autoconf's manual, "Generic
 -- Headers" to "Generic Types")

@@ -2,7 +2,7 @@
 use Rattle.std.specs.Prelude.{ℕ, ◌+◌, ◌-◌, Bool, List, ◌∷◌, ◌++◌, Option, Some, codes, drop, if◌then◌else◌}
 use Rattle.deftable.specs.Table.{value_of}
 use Rattle.deftable.specs.declared.note.Stream.TheVariants as streams
-use Rattle.meaning.specs.State.{State, Scope, told, without_variable, Run}
+use Rattle.meaning.specs.State.{State, Scope, with_note, without_variable, Run}
 use Rattle.meaning.specs.Asking.{attempted, no_compiler}
 use Rattle.meaning.specs.Tests.{checking, with_result, with_value}
 use Rattle.plan.specs.Broken.{broken_all}
@@ -65,7 +65,7 @@ after_attempt tests trial value ends next scope st =
 
 -- The state of a run that wants a compiler inside a test, and has none: the name of the test is unset. (own)
 abbrev pub stopped_in : Course → State → State
-stopped_in c st = without_variable (name_in c) (told streams.Err no_compiler st)
+stopped_in c st = without_variable (name_in c) (with_note streams.Err no_compiler st)
 
 -- How many attempts are left. (own)
 abbrev pub left_in : Trial → ℕ

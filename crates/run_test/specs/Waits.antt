@@ -5,7 +5,7 @@ use Rattle.crew_jobs.specs.Probe.{run_of}
 use Rattle.crew_trait.specs.declared.reply.Reply.{Reply}
 use Rattle.crew_trait.specs.declared.reply.Reply.TheVariants.{StartRefused}
 use Rattle.meaning.specs.State.{State, Scope, answered, Cut, Run}
-use Rattle.meaning.specs.Asking.{success, only_reply, heard, child, same}
+use Rattle.meaning.specs.Asking.{success, only_reply, after_child, child, same}
 use Rattle.meaning.specs.Tests.{broken}
 use Rattle.plan.specs.Broken.{broken_all}
 use Rattle.run_test.specs.Batched.{with_asked, after_entries, is_refused, at_once, batch_end}
@@ -15,9 +15,9 @@ use Rattle.run_test.specs.declared.wait.Wait.{Wait}
 use Rattle.run_test.specs.declared.wait.Wait.TheVariants as wait
 
 -- The replies, with a refused start for each job without one. (own)
-abbrev pub given : List (Option Reply) → List Reply
-given [] = []
-given (r ∷ rs) = unwrap_or r StartRefused ∷ given rs
+abbrev pub all_replies : List (Option Reply) → List Reply
+all_replies [] = []
+all_replies (r ∷ rs) = unwrap_or r StartRefused ∷ all_replies rs
 
 -- Each job without a reply gets a refused start. (own)
 abbrev pub refused_rest : List (Option Reply) → List (Option Reply)
@@ -51,7 +51,7 @@ after_reply tests (wait.Batch entries) b next scope st = next scope st
 -- What follows the reply to the only job, inside these tests. (own)
 abbrev pub resumed_one : List (List ℕ) → Wait → List Job → List Reply → (Scope → State → Run) → Scope → State → Run
 resumed_one tests wait jobs replies next scope st =
-    heard (broken_all (names_around wait tests)) (success (only_reply replies)) (with_asked jobs replies st) (λ b now. after_reply tests wait b next scope now)
+    after_child (broken_all (names_around wait tests)) (success (only_reply replies)) (with_asked jobs replies st) (λ b now. after_reply tests wait b next scope now)
 
 -- One job is asked for at a time. (own)
 abbrev pub is_single : Wait → Bool

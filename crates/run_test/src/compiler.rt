@@ -3,7 +3,7 @@
 ghost use Rattle.std.specs.Prelude.{◌≡◌, ◌++◌, IfOk, OnOk, codes};
 ghost use Rattle.deftable.specs.declared.note.Stream.TheVariants as streams;
 ghost use Rattle.meaning.specs.Asking.{no_compiler};
-ghost use Rattle.meaning.specs.State.{told};
+ghost use Rattle.meaning.specs.State.{with_note};
 ghost use Rattle.run_test.specs.Attempts.{job_with, tried_job};
 ghost use Rattle.run_test.specs.declared.flow.Flow.TheVariants.{Stop};
 
@@ -76,7 +76,7 @@ pub(crate) fn job_with(
 /// Stops the run because there is no compiler.
 pub fn stop_without_compiler(alloc: Global, store: &mut Store) -> Result<Flow, AllocError>
     ensures stops { IfOk result (λ flow. flow ≡ Stop 1) }
-    ensures prints { OnOk result (store.new ≡ told streams.Err no_compiler store.old) }
+    ensures prints { OnOk result (store.new ≡ with_note streams.Err no_compiler store.old) }
 {
     report_no_compiler(alloc, store)?;
     Ok(Flow::Stop { status: 1 })

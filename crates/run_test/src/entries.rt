@@ -5,7 +5,7 @@ ghost use Rattle.std.specs.Prelude.{◌≡◌, IfOk, OnOk};
 ghost use Rattle.meaning.specs.Batches.{yes_or_no};
 ghost use Rattle.meaning.specs.Rows.{entry_job, is_yes};
 ghost use Rattle.run_test.specs.Courses.{entry_test, entry_used, value_in};
-ghost use Rattle.run_test.specs.Entries.{begun, decided, digit_of, entry_result, heard_end, known, with_declaration, with_have};
+ghost use Rattle.run_test.specs.Entries.{after_entry_message, decided, digit_of, entry_result, heard_end, known, with_declaration, with_have};
 
 use crate::attempts::{includes_of, listed_job};
 use crate::course::EntryTest;
@@ -72,7 +72,7 @@ pub fn entry_job(
 
 /// Prints what a test checks.
 pub fn begin_entry(alloc: Global, store: &mut Store, test: &EntryTest) -> Result<(), AllocError>
-    ensures { OnOk result (store.new ≡ begun test.now store.old) }
+    ensures { OnOk result (store.new ≡ after_entry_message test.now store.old) }
 {
     match test.sought {
         Sought::ListEntry(Listed::Declaration) => {

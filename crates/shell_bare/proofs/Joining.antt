@@ -7,7 +7,7 @@ use Rattle.shell_bare.specs.declared.continuation.BareContext.{BareContext}
 use Rattle.shell_bare.specs.declared.continuation.BareContext.TheVariants.{Start}
 use Rattle.shell_bare.specs.declared.continuation.State.{State}
 use Rattle.shell_bare.specs.Continuation.{escapes, following, after_quoted, IsJoined, at_end, continued, quoted, last, other}
-use Rattle.shell_bare.specs.Joining.{state, written, next, left, joined_from, joined}
+use Rattle.shell_bare.specs.Joining.{state, written, next, bytes_left, joined_from, joined}
 
 joined-read : {p : BareContext} {text out : List ℕ} → IsJoined p text out → joined_from (state p false) text ≡ out
 unfolding joined_from
@@ -83,7 +83,7 @@ lines_more out pushed s t i text lt e following =
     ∙ append_assoc out (written s b) (joined_from (next s b) (drop (i + 1) text))
     ∙ ap (λ (r : List ℕ). out ++ joined_from s r) (sym (drop_more text i 0 lt))
 
-pub lines_end : (out pushed : List ℕ) (s : State) (i : ℕ) (text : List ℕ) → length text ≤ i → pushed ≡ out ++ left s → pushed ≡ out ++ joined_from s (drop i text)
+pub lines_end : (out pushed : List ℕ) (s : State) (i : ℕ) (text : List ℕ) → length text ≤ i → pushed ≡ out ++ bytes_left s → pushed ≡ out ++ joined_from s (drop i text)
 unfolding joined_from
 lines_end out pushed s i text le e = e ∙ ap (λ (t : List ℕ). out ++ joined_from s t) (sym (drop_all i text le))
 

@@ -23,12 +23,12 @@ next s b =
     else (if b == backslash && escapes s.place then state s.place true else state (following s.place b) false)
 
 -- The bytes that remain at the end of the text.
-abbrev pub left : State → List ℕ
-left s = if s.escaped then backslash ∷ [] else []
+abbrev pub bytes_left : State → List ℕ
+bytes_left s = if s.escaped then backslash ∷ [] else []
 
 -- The rest of bare text without its line continuations, from a state on.
 unfoldable pub joined_from : State → List ℕ → List ℕ
-joined_from s [] = left s
+joined_from s [] = bytes_left s
 joined_from s (b ∷ bs) = written s b ++ joined_from (next s b) bs
 
 -- Bare text without its line continuations.

@@ -132,7 +132,7 @@ fn push_byte(out: &mut Vec<u8>, state: State, byte: u8) -> Result<(), AllocError
 
 /// Appends the backslash at the end of the text, if there is one that quotes nothing.
 fn push_end(out: &mut Vec<u8>, state: State) -> Result<(), AllocError>
-    ensures { OnOk result (out.new.items ≡ out.old.items ++ joining.left state) }
+    ensures { OnOk result (out.new.items ≡ out.old.items ++ joining.bytes_left state) }
 {
     if state.escaped {
         out.push(b'\\')?;

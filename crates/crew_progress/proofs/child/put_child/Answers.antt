@@ -11,4 +11,4 @@ returns c = λ text h.
     let third = c.put_purpose.ensures _ second in
     let fourth = c.put-3.ensures _ third in
     let fifth = c.put_words.ensures _ fourth in
-    child_is _ _ text _ _ _ _ _ c.args.number c.args.job.now refl (c.as_bytes.ensures.value ∙ c.format.ensures.text) (ap purpose c.told_by.ensures) refl (ap words_of c.as_slice.ensures) fifth
+    child_is _ _ text _ _ _ _ _ c.args.number c.args.job.now refl (c.as_bytes.ensures.value ∙ c.format.ensures.text) (ap purpose c.subject_of_file.ensures) refl (ap words_of c.as_slice.ensures) fifth

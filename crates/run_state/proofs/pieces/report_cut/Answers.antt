@@ -1,9 +1,9 @@
 use Rattle.std.proofs.Common.{◌≡◌, ◌++◌, ◌∙◌, subst, OnOk, codes}
 use Rattle.deftable.specs.declared.note.Stream.TheVariants.{Err}
-use Rattle.meaning.specs.State.{told}
+use Rattle.meaning.specs.State.{with_note}
 use Rattle.run_state.proofs.pieces.report_cut.Goals as goal
 
 pub returns : goal.returns
 returns c =
-    subst (λ t. OnOk c.tell.result (c.tell.new.self ≡ told Err (codes "configure: cut short at child " ++ t ++ codes "\n") c.args.store.now))
+    subst (λ t. OnOk c.tell.result (c.tell.new.self ≡ with_note Err (codes "configure: cut short at child " ++ t ++ codes "\n") c.args.store.now))
     (c.as_slice.ensures ∙ c.in_ok-digits.ensures) c.tell.ensures

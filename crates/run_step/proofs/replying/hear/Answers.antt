@@ -1,6 +1,6 @@
 use Rattle.std.proofs.Common.{sym, subst}
 use Rattle.run_test.specs.Flows.{Leads}
-use Rattle.run_test.specs.Waits.{given, resumed}
+use Rattle.run_test.specs.Waits.{all_replies, resumed}
 use Rattle.run_test.proofs.Flows.{single_suits}
 use Rattle.run_step.proofs.Waiting.{batch_fits, single_leads, single_of, single_step}
 use Rattle.run_step.proofs.replying.hear.Goals as goal
@@ -11,7 +11,7 @@ hear_batch-requires-clause-asked c = batch_fits c.in-Batch.entries c.args.replie
 pub returns-in-Batch-clause-leads : goal.returns-in-Batch-clause-leads
 returns-in-Batch-clause-leads c =
     let r = c.args.replied in let about = c.args.about.now in
-    subst (λ w. Leads c.in_ok-flow.flow (λ tests next. resumed tests w r.jobs.items (given r.replies.items) (next 0) about c.args.store.now) about c.hear_batch.new.store)
+    subst (λ w. Leads c.in_ok-flow.flow (λ tests next. resumed tests w r.jobs.items (all_replies r.replies.items) (next 0) about c.args.store.now) about c.hear_batch.new.store)
     (sym c.in-Batch.is) (c.in_ok-flow.ensures.leads about)
 
 pub only_job-job-requires : goal.only_job-job-requires
