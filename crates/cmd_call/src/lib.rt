@@ -33,7 +33,7 @@ pub use call::{ProgramCall, call_of};
 pub use error_lines::{
     FAULT, tell_file, tell_memory, tell_named, tell_precious, tell_put, tell_usage,
 };
-pub use printing::{LOG, print_all, print_lines, tell_text, write_log};
+pub use printing::{LOG, print_all, print_lines, write_errors, write_log};
 pub use process::{environment, words};
 pub use progress::{Showing, showing_of};
 pub use supplies::{Supplies, keep_inputs, read_supplies, read_templates, record_templates};

@@ -138,7 +138,7 @@ fn is_error(note: &Note) -> bool
 
 /// Writes a text, as far as the stream takes it.
 #[tactic(auto, using(crate::proofs::Fronts::told_front))]
-pub fn tell_text<E: Write>(text: &[u8], errors: &mut E)
+pub fn write_errors<E: Write>(text: &[u8], errors: &mut E)
     ensures { AreTold (E.contents errors.old) (E.contents errors.new) (text.now ∷ []) }
 {
     let _ = write_front(text, errors);
@@ -146,11 +146,11 @@ pub fn tell_text<E: Write>(text: &[u8], errors: &mut E)
 
 /// Prints a piece for standard error, as far as it takes it.
 #[tactic(auto, using(crate::proofs::Fronts::told_nothing))]
-fn tell_piece<E: Write>(note: &Note, errors: &mut E)
+fn print_error<E: Write>(note: &Note, errors: &mut E)
     ensures { AreTold (E.contents errors.old) (E.contents errors.new) (error_of note.now) }
 {
     match note.stream {
-        Stream::Err => tell_text(note.text.as_slice(), errors),
+        Stream::Err => write_errors(note.text.as_slice(), errors),
         Stream::Out => {}
     }
 }
@@ -184,7 +184,7 @@ pub fn print_all<W: Write, E: Write>(
             done = print_next(alloc, done, &notes[start..i], b"", quiet, output);
             start = i + 1;
         }
-        tell_piece(&notes[i], errors);
+        print_error(&notes[i], errors);
     }
     print_next(alloc, done, &notes[start..], lines, quiet, output)
 }

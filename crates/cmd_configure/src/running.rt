@@ -19,7 +19,7 @@ use ac_tree::Source;
 use acparse::parse;
 use cmd_call::{Supplies, Terminal, keep_inputs, read_supplies, tell_memory};
 use cmd_explain::{Given, Why};
-use cmd_status::{tell_result, tell_run, tell_shown, tell_unread};
+use cmd_status::{finish_run, print_shown, tell_run, tell_unread};
 use crew_refusals::Causes;
 use crew_trait::Crew;
 use deftable::Bytes;
@@ -88,7 +88,7 @@ fn run_supplied<D: Disk, C: Crew + Causes, R: Read, W: Write, E: Write>(
     let cache = cache_of(supplies);
     let answer = go(alloc, needs, cache, templates, crew, outputs, window);
     let given = given_of(needs, cache);
-    tell_result(terminal, why, &given, answer, crew)
+    finish_run(terminal, why, &given, answer, crew)
 }
 
 /// Reads what a source that was judged needs, runs it, and returns the exit status.
@@ -149,7 +149,7 @@ fn run_source<D: Disk, C: Crew + Causes, R: Read, W: Write, E: Write>(
     ensures input { terminal.new.input ≡ terminal.old.input }
 {
     match judge(terminal.alloc, source, why.args, terminal.env) {
-        Ok(Judged::Shows(report)) => tell_shown(terminal, &report),
+        Ok(Judged::Shows(report)) => print_shown(terminal, &report),
         Ok(Judged::Runs(needs)) => run_needs(terminal, window, why, &needs, crew),
         Err(fault) => {
             let disk = terminal.outputs.disk();

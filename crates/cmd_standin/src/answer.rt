@@ -141,7 +141,7 @@ fn judge<E: Write>(
 {
     match first_barred(alloc, list, conftest)? {
         Some(line) => {
-            let _ = tell_line(errors, line);
+            let _ = write_line(errors, line);
             Ok(1)
         }
         None => Ok(0),
@@ -149,7 +149,7 @@ fn judge<E: Write>(
 }
 
 /// Writes a line.
-fn tell_line<E: Write>(errors: &mut E, line: &[u8]) -> std::io::Result<()>
+fn write_line<E: Write>(errors: &mut E, line: &[u8]) -> std::io::Result<()>
     ensures { OnOk result (
         Appends (E.contents errors.old) (E.contents errors.new) (line.now ++ 10 ∷ [])) }
 {

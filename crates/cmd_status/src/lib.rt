@@ -1,7 +1,7 @@
 //! The commands that start no child, and what the command that does leaves for its user.
 //!
 //! [`run_status`] makes the outputs of a record again, and [`run_standin`] answers in place of a
-//! compiler. [`tell_result`] prints and logs the result of a whole run, and [`tell_shown`] prints a
+//! compiler. [`finish_run`] prints and logs the result of a whole run, and [`print_shown`] prints a
 //! text that is shown. The crate `cmd_configure` makes that run, with given arguments or with those
 //! of a record. So this crate needs `engine_frame`, and no crate that runs a plan.
 //!
@@ -22,4 +22,4 @@ mod reporting;
 pub use answering::run_standin;
 pub use fault_lines::{tell_remake, tell_run, tell_unread};
 pub use remaking::{RECORD, run_status};
-pub use reporting::{tell_result, tell_shown};
+pub use reporting::{finish_run, print_shown};

@@ -125,7 +125,7 @@ fn log_report<D: Disk, E: Write>(
 }
 
 /// Prints and writes what a run leaves for its user, and returns the exit status.
-fn tell_report<D: Disk, C: Causes, R: Read, W: Write, E: Write>(
+fn finish_report<D: Disk, C: Causes, R: Read, W: Write, E: Write>(
     terminal: &mut Terminal<'_, D, R, W, E>,
     settings: &Settings,
     report: &Report,
@@ -163,7 +163,7 @@ fn tell_report<D: Disk, C: Causes, R: Read, W: Write, E: Write>(
 /// which is told then. Any other fault is told alone. The status is 2 if there is a fault, if the
 /// log can't be written, or if standard output doesn't take all of it. If it is asked, it also says
 /// why: of a cut run by what the crew knows, and of a refused put by what the outputs know.
-pub fn tell_result<D: Disk, C: Causes, R: Read, W: Write, E: Write>(
+pub fn finish_run<D: Disk, C: Causes, R: Read, W: Write, E: Write>(
     terminal: &mut Terminal<'_, D, R, W, E>,
     why: &Why<'_>,
     given: &Given<'_>,
@@ -181,9 +181,9 @@ pub fn tell_result<D: Disk, C: Causes, R: Read, W: Write, E: Write>(
     ensures input { terminal.new.input ≡ terminal.old.input }
 {
     match answer {
-        Ok(report) => tell_report(terminal, given.settings, &report, None, crew),
+        Ok(report) => finish_report(terminal, given.settings, &report, None, crew),
         Err(Fault::PutRefused(number, report)) => {
-            tell_report(terminal, given.settings, &report, Some(number), crew)
+            finish_report(terminal, given.settings, &report, Some(number), crew)
         }
         Err(fault) => {
             let disk = terminal.outputs.disk();
@@ -201,7 +201,7 @@ pub fn tell_result<D: Disk, C: Causes, R: Read, W: Write, E: Write>(
 
 /// Prints the text of a report that shows one, and returns the exit status, which is 0 if standard
 /// output takes it.
-pub fn tell_shown<D: Disk, R: Read, W: Write, E: Write>(
+pub fn print_shown<D: Disk, R: Read, W: Write, E: Write>(
     terminal: &mut Terminal<'_, D, R, W, E>,
     report: &Report,
 ) -> u8

@@ -41,15 +41,15 @@ declaration_in text = named (codes " declaration ") (codes "  (void) ") (codes "
 
 -- What the text of a conftest tests: the header that it includes last, the function that it calls, the name that it uses if that is no
 -- macro, or the type whose size it takes. (own)
-abbrev pub subject_of : List ℕ → Option (List ℕ)
-subject_of text =
+abbrev pub subject_in : List ℕ → Option (List ℕ)
+subject_in text =
     option_or (named (codes " header ") (codes "#include <") (codes ">\n") text)
     (option_or (function_in text) (option_or (declaration_in text) (type_in text)))
 
 -- What the conftest of a job tests. (own)
 abbrev pub subject_of_file : Option (List ℕ × List ℕ) → Option (List ℕ)
 subject_of_file None = None
-subject_of_file (Some file) = subject_of file.1
+subject_of_file (Some file) = subject_in file.1
 
 -- The words of a command, each after a blank. (own)
 unfoldable pub words_of : List (List ℕ) → List ℕ

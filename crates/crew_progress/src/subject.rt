@@ -59,8 +59,8 @@ fn named<'a>(
 }
 
 /// Returns what the text of a conftest tests.
-fn subject_of(text: &[u8]) -> Option<(&[u8], &[u8])>
-    ensures { option_map (λ t. t.0.now ++ t.1.now) result ≡ subject.subject_of text.now }
+fn subject_in(text: &[u8]) -> Option<(&[u8], &[u8])>
+    ensures { option_map (λ t. t.0.now ++ t.1.now) result ≡ subject.subject_in text.now }
 {
     named(b" header ", b"#include <", b">\n", text).or(function_in(text).or(declaration_in(text).or(
         type_in(text),
@@ -106,7 +106,7 @@ pub(crate) fn subject_of_file(file: &Option<(Bytes, Bytes)>) -> Option<(&[u8], &
     ensures { option_map (λ t. t.0.now ++ t.1.now) result ≡ subject.subject_of_file file.now }
 {
     match file {
-        Some((_, text)) => subject_of(text.as_slice()),
+        Some((_, text)) => subject_in(text.as_slice()),
         None => None,
     }
 }

@@ -172,7 +172,7 @@ fn push_texts(alloc: Global, parts: &[&[u8]], out: &mut Vec<Bytes>) -> Result<bo
 /// # Errors
 ///
 /// Fails only if memory runs out.
-pub fn put_texts(alloc: Global, parts: &[&[u8]]) -> Result<Option<Vec<Bytes>>, AllocError>
+pub fn joined_texts(alloc: Global, parts: &[&[u8]]) -> Result<Option<Vec<Bytes>>, AllocError>
     ensures { IfOk result (λ o.
         IfSome o (λ v. specs.AllBecome (map (λ p. p.now) parts.now) v.items)) }
 {

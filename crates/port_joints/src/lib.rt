@@ -14,4 +14,4 @@
 mod conditions;
 mod joints;
 
-pub use conditions::put_texts;
+pub use conditions::joined_texts;

@@ -6,7 +6,7 @@ ghost use Rattle.port_shell.specs.Formed as specs;
 
 use crate::cut::Cut;
 use crate::lists::cuts_of;
-use crate::puts::{put_for_case, put_for_guard, put_for_if};
+use crate::puts::{call_for_case, call_for_guard, call_for_if};
 use port_compounds::{CaseCut, GuardCut, IfCut, reads_status};
 use std::alloc::{AllocError, Global};
 
@@ -68,7 +68,7 @@ fn pass_if(alloc: Global, text: &[u8], cut: &IfCut, pass: &mut Pass) -> Result<(
     if cut.start < pass.at {
         return Ok(());
     }
-    match put_for_if(alloc, text, cut)? {
+    match call_for_if(alloc, text, cut)? {
         Some(put) => put_found(text, cut.start, cut.end, put.as_slice(), pass),
         None => Ok(()),
     }
@@ -82,7 +82,7 @@ fn pass_case(alloc: Global, text: &[u8], cut: &CaseCut, pass: &mut Pass) -> Resu
     if cut.start < pass.at {
         return Ok(());
     }
-    match put_for_case(alloc, text, cut)? {
+    match call_for_case(alloc, text, cut)? {
         Some(put) => put_found(text, cut.start, cut.end, put.as_slice(), pass),
         None => Ok(()),
     }
@@ -98,7 +98,7 @@ fn pass_unread(alloc: Global, text: &[u8], cut: GuardCut, pass: &mut Pass) -> Re
     if cut.start < pass.at {
         return Ok(());
     }
-    match put_for_guard(alloc, text, cut)? {
+    match call_for_guard(alloc, text, cut)? {
         Some(put) => put_found(text, cut.start, cut.end, put.as_slice(), pass),
         None => Ok(()),
     }

@@ -11,7 +11,7 @@ ghost use Rattle.port_shell.specs.Formed as specs;
 use crate::calls::accepted_call;
 use deftable::Bytes;
 use port_compounds::{CaseCut, GuardCut, IfCut, case_parts, guard_parts, if_parts};
-use port_joints::put_texts;
+use port_joints::joined_texts;
 use std::alloc::{AllocError, Global};
 
 /// Returns the texts as slices.
@@ -35,7 +35,7 @@ fn if_call(alloc: Global, texts: &[Bytes]) -> Result<Option<Vec<u8>>, AllocError
 
 /// Returns the call for an `if` with these parts, which become these texts, unless acrun doesn't
 /// accept it.
-fn put_if(
+fn call_with_if(
     alloc: Global,
     text: &[u8],
     cut: &IfCut,
@@ -54,7 +54,7 @@ fn put_if(
 }
 
 /// Returns the call for an `if` with these parts, unless acrun doesn't accept it.
-fn put_if_of(
+fn call_of_if(
     alloc: Global,
     text: &[u8],
     cut: &IfCut,
@@ -64,14 +64,14 @@ fn put_if_of(
     ensures { IfOk result (λ o.
         IfSome o (λ v. specs.MayPut text.now cut.now.start cut.now.end v.items)) }
 {
-    match put_texts(alloc, parts)? {
-        Some(texts) => put_if(alloc, text, cut, parts, texts.as_slice()),
+    match joined_texts(alloc, parts)? {
+        Some(texts) => call_with_if(alloc, text, cut, parts, texts.as_slice()),
         None => Ok(None),
     }
 }
 
 /// Returns the call for an `if`, unless it is none, or acrun doesn't accept it.
-pub(crate) fn put_for_if(
+pub(crate) fn call_for_if(
     alloc: Global,
     text: &[u8],
     cut: &IfCut,
@@ -80,13 +80,13 @@ pub(crate) fn put_for_if(
         IfSome o (λ v. specs.MayPut text.now cut.now.start cut.now.end v.items)) }
 {
     match if_parts(alloc, text, cut)? {
-        Some(parts) => put_if_of(alloc, text, cut, parts.as_slice()),
+        Some(parts) => call_of_if(alloc, text, cut, parts.as_slice()),
         None => Ok(None),
     }
 }
 
 /// Returns the call for a `case` with these parts, unless acrun doesn't accept it.
-fn put_case(
+fn call_of_case(
     alloc: Global,
     text: &[u8],
     cut: &CaseCut,
@@ -102,7 +102,7 @@ fn put_case(
 }
 
 /// Returns the call for a `case`, unless it is none, or acrun doesn't accept it.
-pub(crate) fn put_for_case(
+pub(crate) fn call_for_case(
     alloc: Global,
     text: &[u8],
     cut: &CaseCut,
@@ -111,14 +111,14 @@ pub(crate) fn put_for_case(
         IfSome o (λ v. specs.MayPut text.now cut.now.start cut.now.end v.items)) }
 {
     match case_parts(alloc, text, cut)? {
-        Some(parts) => put_case(alloc, text, cut, parts.as_slice()),
+        Some(parts) => call_of_case(alloc, text, cut, parts.as_slice()),
         None => Ok(None),
     }
 }
 
 /// Returns the call for a statement that a condition guards, with these parts, which become these
 /// texts, unless acrun doesn't accept it.
-fn put_guard(
+fn call_with_guard(
     alloc: Global,
     text: &[u8],
     cut: GuardCut,
@@ -138,7 +138,7 @@ fn put_guard(
 
 /// Returns the call for a statement that a condition guards, with these parts, unless acrun doesn't
 /// accept it.
-fn put_guard_of(
+fn call_of_guard(
     alloc: Global,
     text: &[u8],
     cut: GuardCut,
@@ -148,15 +148,15 @@ fn put_guard_of(
     requires no_status { ReadsStatus text.now → ⊥ }
     ensures { IfOk result (λ o. IfSome o (λ v. specs.MayPut text.now cut.start cut.end v.items)) }
 {
-    match put_texts(alloc, parts)? {
-        Some(texts) => put_guard(alloc, text, cut, parts, texts.as_slice()),
+    match joined_texts(alloc, parts)? {
+        Some(texts) => call_with_guard(alloc, text, cut, parts, texts.as_slice()),
         None => Ok(None),
     }
 }
 
 /// Returns the call for a statement that a condition guards, unless it is none, or acrun doesn't
 /// accept it.
-pub(crate) fn put_for_guard(
+pub(crate) fn call_for_guard(
     alloc: Global,
     text: &[u8],
     cut: GuardCut,
@@ -165,7 +165,7 @@ pub(crate) fn put_for_guard(
     ensures { IfOk result (λ o. IfSome o (λ v. specs.MayPut text.now cut.start cut.end v.items)) }
 {
     match guard_parts(alloc, text, cut)? {
-        Some(parts) => put_guard_of(alloc, text, cut, parts.as_slice()),
+        Some(parts) => call_of_guard(alloc, text, cut, parts.as_slice()),
         None => Ok(None),
     }
 }

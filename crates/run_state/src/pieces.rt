@@ -70,14 +70,14 @@ pub fn say(
     ensures { OnOk result (store.new ≡ with_message message text.now store.old) }
 {
     let form = form_of(message);
-    store.tell(alloc, form.stream, form.before, text, form.after)
+    store.add_note(alloc, form.stream, form.before, text, form.after)
 }
 
 /// Prints that a program is looked for.
 pub fn begin_search(alloc: Global, store: &mut Store, program: &[u8]) -> Result<(), AllocError>
     ensures { OnOk result (store.new ≡ checking (codes "for " ++ program.now) store.old) }
 {
-    store.tell(alloc, Stream::Out, b"checking for ", program, b"... ")
+    store.add_note(alloc, Stream::Out, b"checking for ", program, b"... ")
 }
 
 /// Prints what a check checks.
@@ -92,7 +92,7 @@ pub fn begin_declaration(alloc: Global, store: &mut Store, name: &[u8]) -> Resul
     ensures { OnOk result (
         store.new ≡ checking (codes "whether " ++ name.now ++ codes " is declared") store.old) }
 {
-    store.tell(
+    store.add_note(
         alloc,
         Stream::Out,
         b"checking whether ",
@@ -112,7 +112,7 @@ pub fn end_check(alloc: Global, store: &mut Store, value: &[u8]) -> Result<(), A
 pub fn end_known_check(alloc: Global, store: &mut Store, value: &[u8]) -> Result<(), AllocError>
     ensures { OnOk result (store.new ≡ with_result (codes "(cached) " ++ value.now) store.old) }
 {
-    store.tell(alloc, Stream::Out, b"(cached) ", value, b"\n")
+    store.add_note(alloc, Stream::Out, b"(cached) ", value, b"\n")
 }
 
 /// Returns `no` if the text is empty.
@@ -145,7 +145,7 @@ pub fn break_test(alloc: Global, store: &mut Store, name: &[u8]) -> Result<(), A
     ensures { OnOk result (store.new ≡ broken name.now Cut store.old) }
 {
     store.unset(name);
-    store.tell(alloc, Stream::Out, b"refused", b"", b"\n")
+    store.add_note(alloc, Stream::Out, b"refused", b"", b"\n")
 }
 
 /// Prints that there is no compiler.
@@ -172,7 +172,7 @@ pub fn report_cut(alloc: Global, store: &mut Store, number: u64) -> Result<(), A
     ensures { OnOk result (store.new ≡ with_note Err (cut_line number) store.old) }
 {
     let digits = digits(alloc, number)?;
-    store.tell(
+    store.add_note(
         alloc,
         Stream::Err,
         b"configure: cut short at child ",

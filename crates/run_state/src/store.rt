@@ -85,7 +85,7 @@ impl Store {
     }
 
     /// Adds a piece to the messages, and to the log: a text between two others.
-    pub fn tell(
+    pub fn add_note(
         &mut self,
         alloc: Global,
         stream: Stream,

@@ -47,7 +47,7 @@ fn is_end(ends_on: bool, succeeded: bool) -> bool
 }
 
 /// Continues with whether the child succeeded.
-fn tell(
+fn continue_with(
     alloc: Global,
     store: &mut Store,
     about: &mut About,
@@ -116,7 +116,7 @@ fn hear_reply(
     ensures leads { Led result (heard_run wait heard about.old store.old) about.new store.new }
 {
     match heard {
-        Some(succeeded) => tell(alloc, store, about, wait, succeeded),
+        Some(succeeded) => continue_with(alloc, store, about, wait, succeeded),
         None => cut(alloc, store, &wait, before + 1),
     }
 }

@@ -5,7 +5,7 @@ ghost use Rattle.std.specs.Io.KnownBytes.{Appends};
 ghost use Rattle.cmd_filter.specs.Filtered.{IsFiltered};
 ghost use Rattle.cmd_call.specs.Errors.{AreTold};
 
-use cmd_call::{FAULT, tell_text};
+use cmd_call::{FAULT, write_errors};
 use cmd_explain::{Why, explain_source, explain_usage};
 use cmd_filter::{FilterFault, Filtered, filter_keeping, source_part, tell};
 use std::alloc::Global;
@@ -58,14 +58,14 @@ fn tell_filter<E: Write>(
 
 /// Writes what the source says on standard error, as far as it takes it.
 #[tactic(auto, using(cmd_call::proofs::Fronts::told_blank))]
-fn tell_said<E: Write>(said: &[u8], errors: &mut E)
+fn write_said<E: Write>(said: &[u8], errors: &mut E)
     ensures silent { said.now ≡ [] → errors.new ≡ errors.old }
     ensures told { AreTold (E.contents errors.old) (E.contents errors.new) (said.now ∷ []) }
 {
     if said.is_empty() {
         return;
     }
-    tell_text(said, errors);
+    write_errors(said, errors);
 }
 
 /// Filters the input, and returns the exit status.
@@ -91,7 +91,7 @@ pub(crate) fn run_filter<R: Read, W: Write, E: Write>(
                 errors: said,
             },
         ) => {
-            tell_said(said.as_slice(), errors);
+            write_said(said.as_slice(), errors);
             status
         }
         Err(fault) => tell_filter(alloc, why, text.as_slice(), &fault, errors),

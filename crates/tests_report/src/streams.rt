@@ -3,7 +3,7 @@
 
 ghost use Rattle.std.specs.Prelude.{◌≤◌, length};
 
-use cmd_call::{print_all, tell_text};
+use cmd_call::{print_all, write_errors};
 use crew_tally::Counted;
 use deftable::{Bytes, Note, Notes, Stream};
 use std::cell::RefCell;
@@ -166,7 +166,7 @@ fn put_call<'a>(
 ) {
     match verb {
         b"print" => put_printed(page, &mut output, &mut errors, words),
-        b"tell" => tell_text(words, &mut errors),
+        b"tell" => write_errors(words, &mut errors),
         b"shown" => put_texts(page, &mut Shown::new(output, true), false, words),
         b"shown once" => put_texts(page, &mut Shown::new(output, true), true, words),
         b"plain" => put_texts(page, &mut Shown::new(output, false), false, words),

@@ -20,13 +20,13 @@ notes-preserved g c =
             before = omega arith;
             written = run_more _ _ _ _ _ _ _ _ _ _ c.notes.invariant.before c.notes-test.true c.index-notes-i.is (c.is_error.ensures.stream w.if-is_error.true)
                 w.print_next-done.ensures.before c.notes.invariant.written w.print_next-done.ensures.run;
-            told = told_more _ _ _ _ _ _ c.notes-test.true c.index-notes-i-in-notes.is c.notes.invariant.told c.tell_piece.ensures;
+            told = told_more _ _ _ _ _ _ c.notes-test.true c.index-notes-i-in-notes.is c.notes.invariant.told c.print_error.ensures;
           })
       | else-is_error w ↦
           rw (w.output-is, w.done-is, w.start-is) (record {
             before = omega arith;
             written = c.notes.invariant.written;
-            told = told_more _ _ _ _ _ _ c.notes-test.true c.index-notes-i-in-notes.is c.notes.invariant.told c.tell_piece.ensures;
+            told = told_more _ _ _ _ _ _ c.notes-test.true c.index-notes-i-in-notes.is c.notes.invariant.told c.print_error.ensures;
           })
     ]
 

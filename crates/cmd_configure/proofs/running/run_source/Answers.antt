@@ -11,13 +11,13 @@ run_needs-requires-clause-source g c =
 
 pub returns-in-Ok-Shows-clause-run : goal.returns-in-Ok-Shows-clause-run
 returns-in-Ok-Shows-clause-run g c = λ other.
-    let told = c.tell_shown.ensures.run other in
+    let told = c.print_shown.ensures.run other in
     let report = c.in-Ok-Shows.report in (
       printed false report.messages [],
       errors_of report.messages,
-      is_shown c.args.window c.args.why.now.args.now c.args.terminal.now.env.now (g.C.Crew.account c.args.crew.now) (g.D.Disk.known c.args.terminal.now.outputs.disk) (g.D.Disk.known c.tell_shown.new.terminal.outputs.disk)
-          c.args.why.now.text.now (script_of c.args.source.now) _ report c.tell_shown.result
-          c.requires.found c.requires.source c.in-Ok-Shows.ensures.exact c.in-Ok-Shows.field-0-is (ap (λ o. g.D.Disk.known o.disk) c.tell_shown.ensures.outputs) told.0,
+      is_shown c.args.window c.args.why.now.args.now c.args.terminal.now.env.now (g.C.Crew.account c.args.crew.now) (g.D.Disk.known c.args.terminal.now.outputs.disk) (g.D.Disk.known c.print_shown.new.terminal.outputs.disk)
+          c.args.why.now.text.now (script_of c.args.source.now) _ report c.print_shown.result
+          c.requires.found c.requires.source c.in-Ok-Shows.ensures.exact c.in-Ok-Shows.field-0-is (ap (λ o. g.D.Disk.known o.disk) c.print_shown.ensures.outputs) told.0,
       told.1,
       λ quiet. told.2,
     )

@@ -20,12 +20,12 @@ returns-clause-run g c = λ other.
     let srcdir_is : c.as_slice-srcdir.result.now ≡ n.settings.srcdir = c.as_slice-srcdir.ensures ∙ ap (λ s. s.srcdir) c.settings.ensures.settings in
     let guarded : AreGuarded (g.D.Disk.known kept.disk) kept.guards (inputs_of n.settings.srcdir c.as_slice-templates.result.now) =
     subst (λ s. AreGuarded (g.D.Disk.known kept.disk) kept.guards (inputs_of s c.as_slice-templates.result.now)) srcdir_is c.in-Ok.ensures.guarded in
-    let told = c.tell_result.ensures.run other in
+    let told = c.finish_run.ensures.run other in
     let answer = c.go-answer in (
       printed c.given_of-given.result.settings.now.quiet told.0.messages answer.new.outputs.lines,
       errors_of told.0.messages,
-      run_done g.D.Disk.known c.args.terminal.now.outputs.disk c.keep_inputs.new.outputs answer.new.outputs c.tell_result.new.terminal.outputs c.args.window n.arguments (script_in n) n.settings _ _
-          (g.C.Crew.account c.args.crew.now) (g.C.Crew.account answer.new.crew) answer.result told.0 c.given_of-given.result.settings.now c.tell_result.result
+      run_done g.D.Disk.known c.args.terminal.now.outputs.disk c.keep_inputs.new.outputs answer.new.outputs c.finish_run.new.terminal.outputs c.args.window n.arguments (script_in n) n.settings _ _
+          (g.C.Crew.account c.args.crew.now) (g.C.Crew.account answer.new.crew) answer.result told.0 c.given_of-given.result.settings.now c.finish_run.result
           (more_unused _ _ (fresh_unused _ _ c.requires.fresh) c.keep_inputs.ensures.more) (ap (λ o. o.disk) c.keep_inputs.ensures.more.1) guarded (ap (λ l. l.guards) answer.ensures.lasting) (ap (λ l. l.files) answer.ensures.lasting) given
           answer.ensures.accepted answer.ensures.meaning answer.ensures.artifacts answer.ensures.remakes c.given_of-given.ensures told.1 told.2 told.4,
       told.3,

@@ -1,6 +1,6 @@
 use Rattle.std.proofs.Common.{map}
 use Rattle.port_shell.proofs.Steps.{if_put}
-use Rattle.port_shell.proofs.puts.put_if.Goals as goal
+use Rattle.port_shell.proofs.puts.call_with_if.Goals as goal
 
 pub returns : goal.returns
 returns c =

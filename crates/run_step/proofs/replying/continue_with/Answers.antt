@@ -2,7 +2,7 @@ use Rattle.std.proofs.Common.{subst, sym}
 use Rattle.run_test.specs.Flows.{Leads}
 use Rattle.run_test.specs.declared.wait.Wait.TheVariants as waits
 use Rattle.run_step.specs.Replies.{answer_run}
-use Rattle.run_step.proofs.replying.tell.Goals as goal
+use Rattle.run_step.proofs.replying.continue_with.Goals as goal
 
 pub returns-in-Link-clause-leads : goal.returns-in-Link-clause-leads
 returns-in-Link-clause-leads c =

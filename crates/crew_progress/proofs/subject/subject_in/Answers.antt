@@ -1,5 +1,5 @@
 use Rattle.crew_progress.proofs.Parts.{either_told}
-use Rattle.crew_progress.proofs.subject.subject_of.Goals as goal
+use Rattle.crew_progress.proofs.subject.subject_in.Goals as goal
 
 pub returns : goal.returns
 returns c =

@@ -1,6 +1,6 @@
 use Rattle.std.proofs.Common.{map}
 use Rattle.port_shell.proofs.Steps.{guard_put}
-use Rattle.port_shell.proofs.puts.put_guard.Goals as goal
+use Rattle.port_shell.proofs.puts.call_with_guard.Goals as goal
 
 pub returns : goal.returns
 returns c =

@@ -2,7 +2,7 @@ use Rattle.std.proofs.Common.{subst, sym, ◌∙◌}
 use Rattle.cfglog.specs.Texts.{log_of}
 use Rattle.cmd_call.specs.Errors.{AreTold, errors_of}
 use Rattle.cmd_call.specs.Logged.{HasLogged}
-use Rattle.cmd_status.proofs.reporting.tell_report.Goals as goal
+use Rattle.cmd_status.proofs.reporting.finish_report.Goals as goal
 
 pub returns-then-is_logged-clause-run : goal.returns-then-is_logged-clause-run
 returns-then-is_logged-clause-run g c = λ other.

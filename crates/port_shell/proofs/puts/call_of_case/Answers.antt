@@ -1,6 +1,6 @@
 use Rattle.std.proofs.Common.{map}
 use Rattle.port_shell.proofs.Steps.{case_put}
-use Rattle.port_shell.proofs.puts.put_case.Goals as goal
+use Rattle.port_shell.proofs.puts.call_of_case.Goals as goal
 
 pub returns : goal.returns
 returns c =
