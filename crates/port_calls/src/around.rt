@@ -3,6 +3,7 @@
 ghost use Rattle.std.specs.Prelude.{◌≡◌, true};
 ghost use Rattle.std.specs.List.{list_all};
 ghost use Rattle.port_calls.specs.Put as specs;
+ghost use Rattle.port_calls.specs.Rewritten as rewritten;
 
 use crate::spots::Spot;
 use lint_text::{before, from, part};
@@ -14,8 +15,16 @@ pub(crate) fn is_space(byte: u8) -> bool
     byte == b' ' || byte == b'\t' || byte == b'\r'
 }
 
-fn is_blank(byte: u8) -> bool {
-    is_space(byte) || byte == b'\n'
+fn is_blank(byte: u8) -> bool
+    ensures { result ≡ rewritten.is_blank byte }
+{
+    byte == b' ' || byte == b'\t' || byte == b'\r' || byte == b'\n'
+}
+
+pub(crate) fn are_blank(text: &[u8]) -> bool
+    ensures { result ≡ list_all rewritten.is_blank text.now }
+{
+    text.iter().all(|byte| is_blank(*byte))
 }
 
 /// Returns the number of spaces and tabs at the front.

@@ -1,6 +1,6 @@
 use Rattle.ac_calls.specs.Calls.{calls_in, macro_call_of}
 use Rattle.port_calls.proofs.Steps.{has_call}
-use Rattle.port_calls.proofs.passing.is_in_call.Goals as goal
+use Rattle.port_calls.proofs.brackets.is_in_call.Goals as goal
 
 pub returns-then-at-call-2 : goal.returns-then-at-call-2
 returns-then-at-call-2 c =

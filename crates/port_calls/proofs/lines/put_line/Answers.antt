@@ -1,7 +1,7 @@
 use Rattle.ac_calls.specs.Calls.{macro_call_of}
 use Rattle.std.proofs.Common.{arith, refl, ◌∙◌}
 use Rattle.port_calls.proofs.Steps.{on_ok, line_step}
-use Rattle.port_calls.proofs.passing.put_line.Goals as goal
+use Rattle.port_calls.proofs.lines.put_line.Goals as goal
 
 pub returns : goal.returns
 returns c =

@@ -1,7 +1,7 @@
 use Rattle.ac_calls.specs.Calls.{macro_call_of}
 use Rattle.std.proofs.Common.{arith, refl, ◌∙◌}
 use Rattle.port_calls.proofs.Steps.{on_ok, bracket_step}
-use Rattle.port_calls.proofs.passing.put_brackets.Goals as goal
+use Rattle.port_calls.proofs.brackets.put_brackets.Goals as goal
 
 pub returns : goal.returns
 returns c =

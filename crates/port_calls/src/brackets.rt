@@ -1,0 +1,194 @@
+//! Writes arguments that have a compound statement of a shell in brackets.
+
+ghost use Rattle.std.specs.Prelude.{◌≡◌, ◌≤◌, ◌<◌, true, Some, map, length, slice_get, slice_index, slice_range, ℕ, Contains, IfOk, OnOk, IsTrue};
+ghost use Rattle.ac_calls.specs.Calls.{calls_in, macro_call_of};
+ghost use Rattle.port_calls.specs.Rewritten as specs;
+
+use crate::around::{are_blank, has_compound, without_end_blanks};
+use crate::idioms::Idioms;
+use crate::writing::{Pass, write_change};
+use ac_calls::{CallAt, Extent};
+use lint_text::part;
+use std::alloc::{AllocError, Global};
+
+/// Returns an argument of the call.
+fn argument_at(call: &CallAt, index: usize) -> Option<Extent>
+    ensures { result ≡ slice_get (macro_call_of call.now).args index }
+{
+    call.args.get(index).copied()
+}
+
+fn is_bracket(byte: u8) -> bool
+    ensures { result ≡ specs.is_bracket byte }
+{
+    byte == b'[' || byte == b']'
+}
+
+/// Returns whether an offset is in one of the calls from the one at an index on, if it begins in
+/// the argument. They are in order of their offsets.
+fn is_in_call(text: &[u8], calls: &[CallAt], first: usize, arg: Extent, at: usize) -> bool
+    requires calls { map macro_call_of calls.now ≡ calls_in text.now }
+    ensures { IsTrue result → specs.IsInCall text.now arg at }
+{
+    let _ = text;
+    for i in first..calls.len() {
+        let call = &calls[i];
+        if at < call.start {
+            return false;
+        }
+        if arg.start <= call.start && at < call.end {
+            return true;
+        }
+    }
+    false
+}
+
+/// Returns whether the byte at an offset is no bracket, or is in a call that begins in the
+/// argument.
+fn is_plain_at(text: &[u8], calls: &[CallAt], first: usize, arg: Extent, at: usize) -> bool
+    requires calls { map macro_call_of calls.now ≡ calls_in text.now }
+    ensures { IsTrue result
+        → specs.is_bracket (slice_index text.now at) ≡ true
+        → specs.IsInCall text.now arg at }
+{
+    at < text.len() && (!is_bracket(text[at]) || is_in_call(text, calls, first, arg, at))
+}
+
+/// Returns whether each bracket of an argument up to an offset is in a call.
+fn is_plain(text: &[u8], calls: &[CallAt], first: usize, arg: Extent, end: usize) -> bool
+    requires calls { map macro_call_of calls.now ≡ calls_in text.now }
+    ensures { IsTrue result
+        → (at : ℕ) → arg.start ≤ at → at < end → specs.is_bracket (slice_index text.now at) ≡ true
+        → specs.IsInCall text.now arg at }
+{
+    for at in arg.start..end {
+        if !is_plain_at(text, calls, first, arg, at) {
+            return false;
+        }
+    }
+    true
+}
+
+/// Returns whether each bracket of an argument up to an offset is in a call, and nothing but blanks
+/// is after it.
+fn is_bare(text: &[u8], calls: &[CallAt], first: usize, arg: Extent, end: usize) -> bool
+    requires calls { map macro_call_of calls.now ≡ calls_in text.now }
+    ensures { IsTrue result
+        → specs.IsBare text.now arg end × (arg.start ≤ end) × (end ≤ length text.now) }
+{
+    let is_there = arg.start <= end && end <= arg.end && arg.end <= text.len();
+    is_there && is_plain(text, calls, first, arg, end) && are_blank(&text[end..arg.end])
+}
+
+/// Returns the text between two offsets in brackets.
+fn in_brackets(alloc: Global, text: &[u8], start: usize, end: usize) -> Result<Vec<u8>, AllocError>
+    requires { (start ≤ end) × (end ≤ length text.now) }
+    ensures { IfOk result (λ v. v.items ≡ specs.in_brackets (slice_range text.now start end)) }
+{
+    let mut out = Vec::new(alloc);
+    out.push(b'[')?;
+    out.extend_from_slice(&text[start..end])?;
+    out.push(b']')?;
+    Ok(out)
+}
+
+/// Writes the argument at an index, up to an offset, in brackets, unless it has some outside its
+/// calls, or is not after what was read.
+fn put_brackets(
+    alloc: Global,
+    idioms: Idioms,
+    text: &[u8],
+    calls: &[CallAt],
+    first: usize,
+    call: &CallAt,
+    index: usize,
+    arg: Extent,
+    end: usize,
+    pass: &mut Pass,
+) -> Result<(), AllocError>
+    requires calls { map macro_call_of calls.now ≡ calls_in text.now }
+    requires call { Contains (calls_in text.now) (macro_call_of call.now) }
+    requires read { (macro_call_of call.now).is_of_profile ≡ true }
+    requires arg { slice_get (macro_call_of call.now).args index ≡ Some arg }
+    requires begun { specs.IsPass idioms text.now pass.old.at pass.old.out.items }
+    ensures { OnOk result (specs.IsPass idioms text.now pass.new.at pass.new.out.items) }
+{
+    let _ = idioms;
+    let _ = call;
+    let _ = index;
+    if arg.start < pass.at || !is_bare(text, calls, first, arg, end) {
+        return Ok(());
+    }
+    let put = in_brackets(alloc, text, arg.start, end)?;
+    write_change(text, arg.start, end, put.as_slice(), pass)
+}
+
+/// The length of the longest argument that gets brackets. Each bracket in it is looked for in the
+/// calls of the argument.
+const LONGEST: usize = 2000;
+
+/// Returns the offset after the last byte of an argument that is no blank, if it is no longer than
+/// `LONGEST`, and one of its lines begins a compound statement of a shell.
+fn compound_end(text: &[u8], arg: Extent) -> Option<usize> {
+    let written = without_end_blanks(part(text, arg.start, arg.end));
+    if written.len() <= LONGEST && has_compound(written) {
+        Some(arg.start.saturating_add(written.len()))
+    } else {
+        None
+    }
+}
+
+/// Writes the argument of a call at an index in brackets, if it has none and a compound statement
+/// of a shell is in it: a call that takes the place of that has commas, at which m4 would cut the
+/// argument.
+fn pass_argument(
+    alloc: Global,
+    idioms: Idioms,
+    text: &[u8],
+    calls: &[CallAt],
+    first: usize,
+    call: &CallAt,
+    index: usize,
+    pass: &mut Pass,
+) -> Result<(), AllocError>
+    requires calls { map macro_call_of calls.now ≡ calls_in text.now }
+    requires call { Contains (calls_in text.now) (macro_call_of call.now) }
+    requires read { (macro_call_of call.now).is_of_profile ≡ true }
+    requires begun { specs.IsPass idioms text.now pass.old.at pass.old.out.items }
+    ensures { OnOk result (specs.IsPass idioms text.now pass.new.at pass.new.out.items) }
+{
+    let Some(arg) = argument_at(call, index) else {
+        return Ok(());
+    };
+    match compound_end(text, arg) {
+        Some(end) => put_brackets(
+            alloc, idioms, text, calls, first, call, index, arg, end, pass,
+        ),
+        None => Ok(()),
+    }
+}
+
+/// Writes each argument of a call in brackets that has none, if acrun reads the macro and a compound
+/// statement of a shell is in the argument. The first one is no list of statements.
+pub(crate) fn pass_arguments(
+    alloc: Global,
+    idioms: Idioms,
+    text: &[u8],
+    calls: &[CallAt],
+    first: usize,
+    call: &CallAt,
+    pass: &mut Pass,
+) -> Result<(), AllocError>
+    requires calls { map macro_call_of calls.now ≡ calls_in text.now }
+    requires call { Contains (calls_in text.now) (macro_call_of call.now) }
+    requires begun { specs.IsPass idioms text.now pass.old.at pass.old.out.items }
+    ensures { OnOk result (specs.IsPass idioms text.now pass.new.at pass.new.out.items) }
+{
+    if !call.is_of_profile {
+        return Ok(());
+    }
+    for index in 1..call.args.len() {
+        pass_argument(alloc, idioms, text, calls, first, call, index, pass)?;
+    }
+    Ok(())
+}
