@@ -1,45 +1,41 @@
-//! Tests of what `acrun lint` and `acrun why` report, and of how text is shown.
+//! Tests of what `acrun lint` and `acrun why` report, of what `acrun port` rewrites, and of how text
+//! is shown.
 //!
-//! `calls` has which calls are found in a source, `error_rows` which errors, `reading_on` those that
-//! are found by reading on after each, `warned` which warnings, and `shows` what is shown of them.
-//! `ifs`, `cases`, `guards` and `echoes` have which statements of a shell become calls. `log_lines` has what
-//! each line of a log is, and `whys` the command why over files: no contract says what it prints,
-//! so a row compares the exit status and both streams. Each of these tests is a table of rows, in
-//! the form that the crate `test_rows` reads. `offsets` has the places of offsets in a text,
-//! `terminal` a text as a terminal is given it, and `last_line` the last line of a run on a
-//! terminal, and `parts` what is put in the places of words. `streams` has what is written to
-//! streams that take a part, are interrupted or fail.
+//! Each crate has a module, `of_` and its name, and port_shell has four. No contract says what the
+//! command why prints over files, so a row of `of_cmd_why` compares the exit status and both
+//! streams. `of_cmd_call` has what is written to streams that take a part, are interrupted or fail.
+//! Most tests are a table of rows, in the form that the crate `test_rows` reads.
 #![tactic(auto)]
 
 #[cfg(test)]
-mod calls;
+mod of_ac_calls;
 #[cfg(test)]
-mod cases;
+mod of_cfglog;
 #[cfg(test)]
-mod echoes;
+mod of_cmd_call;
 #[cfg(test)]
-mod error_rows;
+mod of_cmd_why;
 #[cfg(test)]
-mod guards;
+mod of_crew_tally;
 #[cfg(test)]
-mod ifs;
+mod of_lint_all;
 #[cfg(test)]
-mod last_line;
+mod of_lint_errors;
 #[cfg(test)]
-mod log_lines;
+mod of_lint_excerpts;
 #[cfg(test)]
-mod offsets;
+mod of_lint_table;
 #[cfg(test)]
-mod parts;
+mod of_lint_text;
 #[cfg(test)]
-mod reading_on;
+mod of_lint_warnings;
 #[cfg(test)]
-mod shows;
+mod of_port_shell;
 #[cfg(test)]
-mod streams;
+mod of_port_shell_cases;
 #[cfg(test)]
-mod terminal;
+mod of_port_shell_echoes;
 #[cfg(test)]
-mod warned;
+mod of_port_shell_guards;
 #[cfg(test)]
-mod whys;
+mod of_text_controls;

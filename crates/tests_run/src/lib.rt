@@ -1,25 +1,23 @@
 //! Tests of the crates that run a source: crews, real children, and an ordinary answer of each
 //! call.
 //!
-//! No clause can say that memory is left, or what the system answers. `crews` has crews in memory
-//! and real children, `ended_children` real children of which one that has ended is taken first,
-//! `causes_of_starts` why starts are refused, `broken_children` those whose pipe or end fails,
-//! `progress` crews that show how far they are, `plans` what a source weighs and its steps, and
-//! `machines` a machine that a test answers. Whole runs of sources are cases of the crate
-//! `tests_cases`.
+//! No clause can say that memory is left, or what the system answers. Each crate has a module, `of_`
+//! and its name. Of crew, `of_crew` has crews in memory and real children, `of_crew_ends` real
+//! children of which one that has ended is taken first, and `of_crew_broken` those whose pipe or
+//! end fails. Whole runs of sources are cases of the crate `tests_cases`.
 #![tactic(auto)]
 
 #[cfg(test)]
-mod broken_children;
+mod of_crew;
 #[cfg(test)]
-mod causes_of_starts;
+mod of_crew_broken;
 #[cfg(test)]
-mod crews;
+mod of_crew_ends;
 #[cfg(test)]
-mod ended_children;
+mod of_crew_progress;
 #[cfg(test)]
-mod machines;
+mod of_crew_refusals;
 #[cfg(test)]
-mod plans;
+mod of_plan;
 #[cfg(test)]
-mod progress;
+mod of_run_machine;

@@ -2,30 +2,28 @@
 //! call, with ample memory, worked examples, and what no clause says, as the text of an error.
 //!
 //! Each test is a table of rows, in the form that the crate `test_rows` reads. A row begins with
-//! the name of a call. There is a module for each crate: `shell_words` for shellword, `bare_texts`
-//! for shell_bare, `arguments` for ac_args, `entry_lists` for entries, `macros` for ac_macros,
-//! `sources` for acparse, and for options `command_lines` and `precious`. `sizes` has calls of them
-//! that are given many arguments or entries. `told` has how answers are written. The crate
-//! `tests_cases` has more sources and command lines, in files.
+//! the name of a call. Each crate has a module, `of_` and its name, and ac_args and options have a
+//! second one. `sizes` has calls of them that are given many arguments or entries. `told` has how
+//! answers are written. The crate `tests_cases` has more sources and command lines, in files.
 #![tactic(auto)]
 
 #[cfg(test)]
-mod arguments;
+mod of_ac_args;
 #[cfg(test)]
-mod bare_texts;
+mod of_ac_args_entries;
 #[cfg(test)]
-mod command_lines;
+mod of_ac_macros;
 #[cfg(test)]
-mod entry_lists;
+mod of_acparse;
 #[cfg(test)]
-mod macros;
+mod of_options;
 #[cfg(test)]
-mod precious;
+mod of_options_precious;
 #[cfg(test)]
-mod shell_words;
+mod of_shell_bare;
+#[cfg(test)]
+mod of_shellword;
 #[cfg(test)]
 mod sizes;
-#[cfg(test)]
-mod sources;
 #[cfg(test)]
 mod told;

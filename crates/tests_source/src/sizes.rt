@@ -1,7 +1,7 @@
 //! Command lines, help texts and precious variables of about 10,000 arguments, or as many entries
 //! as a source may have.
 
-use crate::{command_lines, precious};
+use crate::{of_options, of_options_precious};
 use std::test::Fail;
 use test_rows::{Large, Named, Page, RowCall, try_rows};
 
@@ -16,8 +16,8 @@ const ROWS: [(&[u8], Rows); 2] = [(b"line", Rows::Lines), (b"precious", Rows::Pr
 impl RowCall for Rows {
     fn put(&self, page: &mut Page, given: &[u8]) {
         match self {
-            Rows::Lines => Named(&command_lines::READERS).put(page, given),
-            Rows::Precious => Named(&precious::READERS).put(page, given),
+            Rows::Lines => Named(&of_options::READERS).put(page, given),
+            Rows::Precious => Named(&of_options_precious::READERS).put(page, given),
         }
     }
 }

@@ -1,6 +1,5 @@
-//! Tests of the crates that hold, cut and make texts, and hand them over: deftable, text_cut,
-//! m4quote, cachefile, status_record, conftest_source, conftest, cfglog, template, making, outputs
-//! and lint_macros.
+//! Tests of the crates that hold, cut and make texts, and hand them over. Each crate has a module,
+//! `of_` and its name; template has two more. `sizes` has calls that are given many bytes.
 //!
 //! They have what no clause says: an ordinary answer of each call, with ample memory; worked
 //! examples, each answer found by hand from the rules; and printed text. An example is a row of a
@@ -9,30 +8,30 @@
 #![tactic(auto)]
 
 #[cfg(test)]
-mod caches;
+mod of_cachefile;
 #[cfg(test)]
-mod conftests;
+mod of_cfglog;
 #[cfg(test)]
-mod cuts;
+mod of_conftest;
 #[cfg(test)]
-mod headers;
+mod of_deftable;
 #[cfg(test)]
-mod logs;
+mod of_lint_macros;
 #[cfg(test)]
-mod made;
+mod of_m4quote;
 #[cfg(test)]
-mod others;
+mod of_output_make;
 #[cfg(test)]
-mod pieces;
+mod of_output_put;
 #[cfg(test)]
-mod quoting;
+mod of_status_record;
 #[cfg(test)]
-mod receiver;
+mod of_template;
 #[cfg(test)]
-mod records;
+mod of_template_headers;
+#[cfg(test)]
+mod of_template_pieces;
+#[cfg(test)]
+mod of_text_cut;
 #[cfg(test)]
 mod sizes;
-#[cfg(test)]
-mod tables;
-#[cfg(test)]
-mod templates;

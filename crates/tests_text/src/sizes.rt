@@ -1,14 +1,14 @@
 //! Calls that are given about a mebibyte, or 10,000 entries.
 
-use crate::caches::Caches;
-use crate::conftests::Sources;
-use crate::headers::Headers;
-use crate::logs::Logs;
-use crate::made::Making;
-use crate::pieces::Pieces;
-use crate::records::Records;
-use crate::tables::Steps;
-use crate::templates::Filling;
+use crate::of_cachefile::Caches;
+use crate::of_cfglog::Logs;
+use crate::of_conftest::Sources;
+use crate::of_deftable::Steps;
+use crate::of_output_make::Making;
+use crate::of_status_record::Records;
+use crate::of_template::Filling;
+use crate::of_template_headers::Headers;
+use crate::of_template_pieces::Pieces;
 use std::test::Fail;
 use test_rows::{Large, Named, Page, RowCall, try_rows};
 

@@ -1,7 +1,7 @@
 //! options: precious variables and caches.
 
-use crate::command_lines::arguments_of;
-use crate::sources::read_source;
+use crate::of_acparse::read_source;
+use crate::of_options::arguments_of;
 use crate::told::{Next, put_next};
 use acparse::Source;
 use cachefile::{CacheFault, OldCache, read_cache};

@@ -1,6 +1,6 @@
 //! conftest_source and conftest: test programs, and the jobs that a run asks for.
 
-use crate::tables::{Tables, text_of};
+use crate::of_deftable::{Tables, text_of};
 use conftest::{
     Job, JobFault, Words, compile_job, link_job, link_job_with, path_job, preproc_job, run_job,
 };

@@ -1,6 +1,6 @@
 //! Statements of a shell after `&&` and `||` that become calls.
 
-use crate::ifs::Forms;
+use crate::of_port_shell::Forms;
 use std::test::Fail;
 use test_rows::try_rows;
 

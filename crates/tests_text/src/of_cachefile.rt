@@ -1,6 +1,6 @@
 //! cachefile: what cache texts set, their errors, and how they are written.
 
-use crate::tables::Tables;
+use crate::of_deftable::Tables;
 use cachefile::{OldCache, cache_text, is_cache_name, read_cache, word_text};
 use deftable::Vars;
 use std::alloc::AllocError;

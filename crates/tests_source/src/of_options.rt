@@ -1,6 +1,6 @@
 //! Command lines and help texts. The crate `tests_cases` has the table of arguments, one by one.
 
-use crate::sources::read_source;
+use crate::of_acparse::read_source;
 use crate::told::{Next, Told, add, put_if, put_made, put_next};
 use acparse::Source;
 use deftable::{Bytes, Vars};

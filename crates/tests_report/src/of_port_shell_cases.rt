@@ -1,6 +1,6 @@
 //! Statements of a shell with `case` that become calls.
 
-use crate::ifs::Forms;
+use crate::of_port_shell::Forms;
 use std::test::Fail;
 use test_rows::try_rows;
 

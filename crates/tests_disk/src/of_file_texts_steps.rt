@@ -3,8 +3,8 @@
 ghost use Rattle.std.specs.Prelude.{◌≡◌, []};
 
 use crate::done::Step;
-use crate::files::artifacts_of;
 use crate::memory::MemoryDisk;
+use crate::of_file_texts::artifacts_of;
 use deftable::Bytes;
 use file_texts::FileOutputs;
 use output_put::{Artifact, put_all};

@@ -1,6 +1,6 @@
 //! Children whose pipe or end fails where a test says so, or which can't be looked at.
 
-use crate::ended_children::put_ready;
+use crate::of_crew_ends::put_ready;
 use std::alloc::Allocator;
 use std::cell::Cell;
 use std::fs::{Metadata, OpenOptions};
