@@ -70,7 +70,7 @@ Usage: acrun port [--idioms] [FILE]
 Reads FILE, a configure.ac or a directory of one (by default ./configure.ac; - is standard input), and prints it with each call of a
 macro that acrun does not read replaced, if another text does the same exactly, and with statements of the shell that mean the same as
 a call: `if`, and a statement after a test and `&&` or `||`, become AS_IF, and `case` becomes AS_CASE. A statement after AC_DEFINE gets
-a line of its own, an argument with an `if` or a `case` gets brackets, AC_HELP_STRING is AS_HELP_STRING, and backslashes go from the ends
+a line of its own, an argument with an `if` or a `case` gets brackets, AC_HELP_STRING becomes AS_HELP_STRING, and backslashes go from the ends
 of lines of lists. All else is copied. What has to be done by hand has a line `dnl acrun: ..` above it, with what `acrun lint` says
 there. FILE itself is not written.
 

@@ -11,6 +11,7 @@
 //! "own" marks a rule that no manual gives.
 //!
 //! Read `command`, then `reading`, which reads a source, `findings`, which finds, and `showing`.
+//! `words` reads the words of the command, and `templates` the templates of a source.
 #![tactic(auto)]
 
 mod command;

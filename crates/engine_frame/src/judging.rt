@@ -67,7 +67,8 @@ fn source_settings<'a>(
     args: &[Bytes],
     env: &[(Bytes, Bytes)],
 ) -> Result<(Plan<'a>, Settings), Fault>
-    ensures exact { Gives (λ r. r.1) result (source_settings args.now env.now (script_of source.now)) }
+    ensures exact { Gives (λ r. r.1) result
+        (source_settings args.now env.now (script_of source.now)) }
     ensures meaning { IfOk result (λ r. DoesWhat r.0 (script_of source.now)) }
     ensures directory { IfOk result (λ r. r.1.srcdir ≡ srcdir_of args.now) }
 {

@@ -16,8 +16,9 @@
 //! Read `specs/Put` (what is put) and `specs/Rewritten` (what is copied). `port_idioms` says which
 //! idioms are exact. In `src`, read `spots`, `around` and `bare` (where a call is, and what is
 //! before and after it), `changes` and `noting` (what a call becomes), `passing` (one pass over the
-//! calls) with `joints`, `lines` and `brackets`, and then `passes`. The time of a pass is in proportion to the length of the text. A call
-//! fails only if memory runs out. "own" marks a rule that no manual gives.
+//! calls) with `joints`, `lines` and `brackets`, and then `passes`. The time of a pass is in
+//! proportion to the length of the text. A call fails only if memory runs out. "own" marks a rule
+//! that no manual gives.
 #![tactic(auto)]
 
 mod around;

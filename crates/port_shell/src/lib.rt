@@ -15,12 +15,12 @@
 //! ```
 //!
 //! Read the definitions first: those of `port_compounds` say what these statements and their parts
-//! are, `specs/Calls` what is put in their place, and `Formed` what is copied. In `src`, `shell`
-//! (what each byte is to a shell), `compounds` (which statements are open) and `lists` (each list
-//! of statements of a source) look for statements. Nothing is proved of what they find:
-//! `port_compounds` reads the parts, `calls` the new call, and `puts` joins the two. `passing` is
-//! one pass over a text. A call fails only if memory runs out. "own" marks a rule that no manual
-//! gives.
+//! are, `specs/Calls` what is put in their place, `Formed` what is copied, and `Told` what a line
+//! with an `echo` becomes. In `src`, `shell` (what each byte is to a shell), `compounds` (which
+//! statements are open) and `lists` (each list of statements of a source) look for statements.
+//! Nothing is proved of what they find: `port_compounds` reads the parts, `calls` the new call, and
+//! `puts` joins the two. `passing` is one pass over a text, and `echoes` one over its lines with an
+//! `echo`. A call fails only if memory runs out. "own" marks a rule that no manual gives.
 #![tactic(auto)]
 
 mod calls;

@@ -1,5 +1,5 @@
-//! Tests of what `acrun lint` and `acrun why` report, of what `acrun port` rewrites, and of how text
-//! is shown.
+//! Tests of what `acrun lint` and `acrun why` report, of what `acrun port` rewrites, and of how
+//! text is shown.
 //!
 //! Each crate has a module, `of_` and its name, and port_shell has four. No contract says what the
 //! command why prints over files, so a row of `of_cmd_why` compares the exit status and both
