@@ -1,17 +1,19 @@
 -- Saved variables in the order of their names.
-use Rattle.std.proofs.Common.{◌≡◌, ℕ, ◌+◌, ◌≤◌, Bool, true, false, List, [], ◌∷◌, Option, Some, None, ◌⊎◌, inl, inr, cond, length, take, filter, zero, suc, refl, sym, ap, ◌∙◌, subst, arith, Ordering, Less, Equal, Greater}
+use Rattle.std.proofs.Common.{◌≡◌, ℕ, ◌+◌, Bool, true, false, List, [], ◌∷◌, Option, Some, None, ◌⊎◌, inl, inr, cond, length, drop, filter, refl, sym, ap, ◌∙◌, subst, arith, Ordering, Less, Equal, Greater}
 use Rattle.std.specs.Prelude.{fold, slice_get, bytes_eq}
 use Rattle.std.specs.List.{IsDistinct, AllByRecursion}
 use Rattle.std.specs.BTreeMap.{insert_entry}
 use Rattle.std.specs.Ordering.{nat_cmp, match_ordering, is_eq}
 use Rattle.std.specs.Cmp.Lexicographic.{slice_cmp}
 use Rattle.std.proofs.Math.Path.{fun_ext}
-use Rattle.std.proofs.lemmas.List.{take_all}
+use Rattle.std.proofs.lemmas.List.{drop_more}
+use Rattle.std.proofs.Math.ListN.{drop_of_length-le}
+use Rattle.std.proofs.lemmas.Option.{slice_get_within, get_or_from_slice_get}
 use Rattle.std.proofs.lemmas.Map.Keys.{IsDistinct-from_sorted}
 use Rattle.std.proofs.lemmas.Map.Text.{is_eq-slice_cmp}
 use Rattle.std.proofs.lemmas.Slice.Eq.{bytes_eq-Decides}
 use Rattle.deftable.specs.Table.{value_of, names_of, HasDistinctNames}
-use Rattle.cachefile.specs.Text.{is_saved, with_saved, with_placed, in_order, saved_entries, AreInOrder}
+use Rattle.cachefile.specs.Text.{is_saved, with_saved, in_order, saved_entries, AreInOrder}
 
 abbrev pub Entries : Type 0
 Entries = List (List ℕ × List ℕ)
@@ -24,31 +26,23 @@ some_inj x y e = cc
 
 -- ---- one variable further
 
-one_placed : (start : Entries) (vs : Entries) (i : ℕ) (e : List ℕ × List ℕ) → slice_get vs i ≡ Some e
-    → fold with_saved start (take (i + 1) vs) ≡ with_saved (fold with_saved start (take i vs)) e
-one_placed start [] i e at = absurd cc
-one_placed start (x ∷ vs) zero e at = ap (λ y. with_saved start y) (some_inj x e at)
-one_placed start (x ∷ vs) (suc i) e at =
-    let n : suc i + 1 ≡ suc (i + 1) = omega arith in
-    ap (λ k. fold with_saved start (take k (x ∷ vs))) n ∙ one_placed (with_saved start x) vs i e at
-
-pub saved_more : (vs now next : Entries) (i : ℕ) (e : List ℕ × List ℕ) → slice_get vs i ≡ Some e
-    → now ≡ fold with_saved [] (take i vs) → next ≡ with_saved now e → next ≡ fold with_saved [] (take (i + 1) vs)
-saved_more vs now next i e at h put = put ∙ ap (λ s. with_saved s e) h ∙ sym (one_placed [] vs i e at)
-
 pub decided : (b : Bool) → (b ≡ true) ⊎ (b ≡ false)
 decided true = inl refl
 decided false = inr refl
 
-only_saved : (start es : Entries) → fold with_saved start es ≡ fold with_placed start (filter is_saved es)
-only_saved start [] = refl
-only_saved start (e ∷ es) = elim (decided (is_saved e)) [
-  | inl h ↦ rw h (only_saved (with_placed start e) es)
-  | inr h ↦ rw h (only_saved start es)
+dropped : (vs : Entries) (i : ℕ) (e : List ℕ × List ℕ) → slice_get vs i ≡ Some e → drop i vs ≡ e ∷ drop (i + 1) vs
+dropped vs i e at = drop_more vs i e (slice_get_within vs i e at) ∙ ap (λ x. x ∷ drop (i + 1) vs) (get_or_from_slice_get vs i e e at)
+
+saved_before : (e : List ℕ × List ℕ) (es : Entries) → with_saved (saved_entries es) e ≡ saved_entries (e ∷ es)
+saved_before e es = elim (decided (is_saved e)) [
+  | inl h ↦ rw h refl
+  | inr h ↦ rw h refl
 ]
 
-pub saved_end : (vs now : Entries) (i : ℕ) → length vs ≤ i → now ≡ fold with_saved [] (take i vs) → now ≡ saved_entries vs
-saved_end vs now i le h = h ∙ ap (λ t. fold with_saved [] t) (take_all i vs le) ∙ only_saved [] vs
+pub saved_more : (vs now next : Entries) (i : ℕ) (e : List ℕ × List ℕ) → slice_get vs i ≡ Some e
+    → now ≡ saved_entries (drop (i + 1) vs) → next ≡ with_saved now e → next ≡ saved_entries (drop i vs)
+saved_more vs now next i e at h put =
+    put ∙ ap (λ s. with_saved s e) h ∙ saved_before e (drop (i + 1) vs) ∙ ap (λ es. saved_entries es) (sym (dropped vs i e at))
 
 -- ---- a fold that gives each new name its value
 
@@ -113,16 +107,18 @@ unfolding value_of
 put_own [] k v q own = rw own refl
 put_own (e ∷ es) k v q own = put_own_by (order k e.0) e es (insert_entry order es k v) k v q refl own (put_own es k v q own)
 
-placing : Gives with_placed
-placing = record { others = λ vars e q other. put_others vars e.0 e.1 q other; own = λ vars e q own new. put_own vars e.0 e.1 q own }
-
 pub none_set : (q : List ℕ) → value_of [] q ≡ None
 unfolding value_of
 none_set q = refl
 
 -- the order of entries is nothing to their values
-pub in_order_values : (es : Entries) (q : List ℕ) → HasDistinctNames es → value_of (in_order es) q ≡ value_of es q
-in_order_values es q distinct = all_set with_placed placing [] es q distinct (none_set q)
+pub in_order_values : (es : Entries) (q : List ℕ) → value_of (in_order es) q ≡ value_of es q
+unfolding value_of
+in_order_values [] q = refl
+in_order_values (e ∷ es) q = elim (decided (bytes_eq q e.0)) [
+  | inl h ↦ put_own (in_order es) e.0 e.1 q h ∙ sym (rw h refl)
+  | inr h ↦ put_others (in_order es) e.0 e.1 q h ∙ in_order_values es q ∙ sym (rw h refl)
+]
 
 -- names in order are distinct
 pub in_order_distinct : (es : Entries) → AreInOrder es → HasDistinctNames es
@@ -155,9 +151,12 @@ put_saved : (es : Entries) (k v : List ℕ) → is_saved (k, v) ≡ true → Are
 put_saved [] k v ok all = (ok, tt)
 put_saved (e ∷ es) k v ok all = put_saved_by (order k e.0) e es (insert_entry order es k v) k v refl ok all.0 all.1 (put_saved es k v ok all.1)
 
-all_saved : (start es : Entries) → AreSaved start → AreSaved es → AreSaved (fold with_placed start es)
-all_saved start [] first all = first
-all_saved start (e ∷ es) first all = all_saved (with_placed start e) es (put_saved start e.0 e.1 all.0 first) all.1
+all_saved : (es : Entries) → AreSaved es → AreSaved (in_order es)
+all_saved [] all = tt
+all_saved (e ∷ es) all = put_saved (in_order es) e.0 e.1 all.0 (all_saved es all.1)
 
 pub all_saved_entries : (vars : Entries) → AreSaved (saved_entries vars)
-all_saved_entries vars = all_saved [] (filter is_saved vars) tt (filter_saved vars)
+all_saved_entries vars = all_saved (filter is_saved vars) (filter_saved vars)
+
+pub saved_none : (vars : Entries) (n : ℕ) → n ≡ length vars → [] ≡ saved_entries (drop n vars)
+saved_none vars n is = ap (λ es. saved_entries es) (sym (drop_of_length-le vars (omega (arith, is))))

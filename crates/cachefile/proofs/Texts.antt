@@ -1,11 +1,10 @@
 -- The text that is written for variables is read as their settings.
-use Rattle.std.proofs.Common.{◌≡◌, ℕ, ◌+◌, ◌≤◌, nat_lt, Bool, true, false, not, ◌==◌, ◌||◌, ◌<◌, arith, List, [], ◌∷◌, ◌++◌, Some, None, Result, Ok, Err, inl, inr, length, map, filter, refl, sym, ap, ◌∙◌, subst, append_assoc}
+use Rattle.std.proofs.Common.{◌≡◌, ℕ, ◌+◌, ◌≤◌, nat_lt, Bool, true, false, not, ◌==◌, ◌<◌, arith, List, [], ◌∷◌, ◌++◌, Some, None, Result, Ok, Err, inl, inr, length, map, filter, refl, sym, ap, ◌∙◌, subst, append_assoc}
 use Rattle.std.specs.Prelude.{codes, IfOk, fold, bytes_eq, if◌then◌else◌}
 use Rattle.std.specs.List.{onto_first, list_all, IsDistinct, AllByRecursion}
 use Rattle.std.proofs.lemmas.Bool.Decides.{eqb_tells, Decides-ltb}
 use Rattle.std.proofs.lemmas.List.Folds.{list_all-append}
 use Rattle.std.proofs.lemmas.Slice.Eq.{bytes_eq-Decides}
-use Rattle.std.proofs.lemmas.Map.Made.{IsDistinct-keys_filter}
 use Rattle.text_cut.specs.Cuts.{parts, parts_by}
 use Rattle.deftable.specs.Table.{value_of, names_of, HasDistinctNames}
 use Rattle.deftable.specs.ShellName.{is_shell_name_of, starts_name, continues_name}
@@ -217,7 +216,7 @@ filter_values (e ∷ es) q distinct = elim (decided (bytes_eq q e.0)) [
 
 pub values_saved : (vars : Entries) (q : List ℕ) → HasDistinctNames vars → value_of (saved_entries vars) q ≡ saved_value q (value_of vars q)
 values_saved vars q distinct =
-    in_order_values (filter is_saved vars) q (IsDistinct-keys_filter bytes_eq is_saved vars distinct) ∙ filter_values vars q distinct
+    in_order_values (filter is_saved vars) q ∙ filter_values vars q distinct
 
 -- the text is what is to be written
 is_text : (vars : Entries) → HasDistinctNames vars → AreInOrder (saved_entries vars) → IsCacheText vars (cache_text_of vars)

@@ -1,5 +1,5 @@
 -- The cache text that is written for variables.
-use Rattle.std.specs.Prelude.{◌≡◌, ℕ, ◌==◌, ◌||◌, ◌&&◌, Bool, not, List, [], ◌∷◌, ◌++◌, Option, Some, None, flat_map, filter, fold, codes, Ok, if◌then◌else◌}
+use Rattle.std.specs.Prelude.{◌≡◌, ℕ, ◌==◌, ◌||◌, ◌&&◌, Bool, not, List, [], ◌∷◌, ◌++◌, Option, Some, None, flat_map, filter, codes, Ok, if◌then◌else◌}
 use Rattle.std.specs.List.{list_all, list_any}
 use Rattle.std.specs.List.Sorted.{IsStrictlySortedBy}
 use Rattle.std.specs.BTreeMap.{insert_entry}
@@ -86,7 +86,8 @@ with_saved sorted e = if is_saved e then with_placed sorted e else sorted
 
 -- The entries in the byte order of their names. (own)
 abbrev pub in_order : List (List ℕ × List ℕ) → List (List ℕ × List ℕ)
-in_order es = fold with_placed [] es
+in_order [] = []
+in_order (e ∷ es) = with_placed (in_order es) e
 
 -- The variables that are saved, in the byte order of their names. (own)
 abbrev pub saved_entries : List (List ℕ × List ℕ) → List (List ℕ × List ℕ)

@@ -71,8 +71,12 @@ fn saved_entries(alloc: Global, vars: &Vars) -> Result<BTreeMap<Bytes, Bytes>, A
     ensures distinct { IfOk result (λ m. table.HasDistinctNames vars.now) }
 {
     let mut sorted = BTreeMap::new(alloc);
-    'indices: for i in 0..vars.len() {
-        let (name, value) = vars.at(i);
+    // A run with a cache has most of its variables in order. From the last one on, each of them comes
+    // before all that are there, so it is compared with one name in each node on its way.
+    let mut left = vars.len();
+    'indices: while left > 0 {
+        left -= 1;
+        let (name, value) = vars.at(left);
         save(alloc, &mut sorted, name, value)?;
     }
     Ok(sorted)

@@ -9,7 +9,7 @@ use Rattle.std.specs.Ordering.{nat_cmp, match_ordering, is_eq, is_lt}
 use Rattle.std.specs.Cmp.Lexicographic.{slice_cmp, nat_list_cmp_total}
 use Rattle.std.proofs.Math.Path.{fun_ext}
 use Rattle.std.proofs.lemmas.Map.Text.{is_eq-slice_cmp}
-use Rattle.cachefile.specs.Text.{is_saved, saved_value, with_placed, saved_entries, lines_for, cache_text_of}
+use Rattle.cachefile.specs.Text.{is_saved, saved_value, in_order, saved_entries, lines_for, cache_text_of}
 use Rattle.cachefile.proofs.Texts.{values_saved}
 use Rattle.cachefile.proofs.Orders.{Entries}
 use Rattle.deftable.specs.Table.{value_of, with_entry, names_of, HasDistinctNames}
@@ -38,10 +38,10 @@ puts : (es : Entries) (k v : List ℕ) → insert_entry order es k v ≡ put ord
 puts [] k v = refl
 puts (e ∷ es) k v = put_by (order k e.0) ((k, v) ∷ e ∷ es) ((e.0, v) ∷ es) (e ∷ insert_entry order es k v) (e ∷ put order k v es) (ap (λ x. e ∷ x) (puts es k v))
 
-in_order_sorted : (start es : Entries) → T (is_sorted order start) → T (is_sorted order (fold with_placed start es))
-in_order_sorted start [] h = h
-in_order_sorted start (e ∷ es) h =
-    in_order_sorted (with_placed start e) es (subst (λ x. T (is_sorted order x)) (sym (puts start e.0 e.1)) (is_sorted-put order nat_list_cmp_total e.0 e.1 start h))
+in_order_sorted : (es : Entries) → T (is_sorted order (in_order es))
+in_order_sorted [] = tt
+in_order_sorted (e ∷ es) =
+    subst (λ x. T (is_sorted order x)) (sym (puts (in_order es) e.0 e.1)) (is_sorted-put order nat_list_cmp_total e.0 e.1 (in_order es) (in_order_sorted es))
 
 both : (a b : Bool) → T (a && b) → T a × T b
 both true b h = (tt, h)
@@ -66,7 +66,7 @@ sorted_distinct (e ∷ es) h =
     (below_apart e.0 es p.0, sorted_distinct es p.1)
 
 saved_sorted : (vars : Entries) → T (is_sorted order (saved_entries vars))
-saved_sorted vars = in_order_sorted [] (filter is_saved vars) tt
+saved_sorted vars = in_order_sorted (filter is_saved vars)
 
 pub saved_distinct : (vars : Entries) → HasDistinctNames (saved_entries vars)
 saved_distinct vars = sorted_distinct (saved_entries vars) (saved_sorted vars)

@@ -1,10 +1,16 @@
-use Rattle.std.proofs.Common.{rules}
-use Rattle.cachefile.proofs.Orders.{saved_more, saved_end}
+use Rattle.std.proofs.Common.{rules, ◌≡◌, ◌+◌, ◌-◌, ◌∙◌, ap, drop}
+use Rattle.cachefile.specs.Text.{saved_entries}
+use Rattle.cachefile.proofs.Orders.{saved_more, saved_none}
 use Rattle.cachefile.proofs.text.saved_entries.Goals as goal
+
+pub indices-init : goal.indices-init
+indices-init c = (search rules, c.new-sorted.ensures.empty ∙ saved_none c.args.vars.now c.len-left.result c.len-left.ensures.count, search rules)
 
 pub indices-preserved : goal.indices-preserved
 indices-preserved c =
-    (saved_more c.args.vars.now c.indices.sorted.entries c.save.new.sorted.entries c.indices.i _ c.at.ensures c.indices.invariant.0 c.in_ok-save.ensures.entries, c.in_ok-save.ensures.order c.indices.invariant.1)
-
-pub returns-clause-entries : goal.returns-clause-entries
-returns-clause-entries c = saved_end c.args.vars.now c.indices.sorted.entries c.indices.i (search rules) c.indices.invariant.0
+    let n : c.indices.left ≡ c.indices.left - 1 + 1 = search rules in (
+      search rules,
+      saved_more c.args.vars.now c.indices.sorted.entries c.save.new.sorted.entries (c.indices.left - 1) _ c.at.ensures
+          (c.indices.invariant.1 ∙ ap (λ k. saved_entries (drop k c.args.vars.now)) n) c.in_ok-save.ensures.entries,
+      c.in_ok-save.ensures.order c.indices.invariant.2,
+    )

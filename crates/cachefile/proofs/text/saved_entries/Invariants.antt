@@ -1,6 +1,9 @@
-use Rattle.std.proofs.Common.{◌≡◌, take, fold, []}
-use Rattle.cachefile.specs.Text.{with_saved, AreInOrder}
+use Rattle.std.proofs.Common.{◌≡◌, ◌≤◌, drop, length}
+use Rattle.cachefile.specs.Text.{saved_entries, AreInOrder}
 use Rattle.cachefile.proofs.text.saved_entries.Given as goal
 
 abbrev pub invariant-indices : goal.invariant-indices
-invariant-indices l = (l.sorted.entries ≡ fold with_saved [] (take l.i l.vars)) × AreInOrder l.sorted.entries
+invariant-indices l = (l.left ≤ length l.vars) × (l.sorted.entries ≡ saved_entries (drop l.left l.vars)) × AreInOrder l.sorted.entries
+
+abbrev pub decreases-indices : goal.decreases-indices
+decreases-indices l = l.left
