@@ -1,5 +1,5 @@
 #!/usr/bin/env python3
-"""Writes the crate lint_table's keys and text from crates/lint_table/words.txt, which has what acrun says of errors and warnings.
+"""Writes the crate lint_table's keys from crates/lint_table/words.txt, which has what acrun says of errors and warnings.
 
     tools/word_table.py            writes crates/lint_table/src/keys.rt
     tools/word_table.py --check    prints what is wrong with the words and with the calls that name them, and then exits with status 1
@@ -115,42 +115,18 @@ def shown(entry):
     return named(entry, entry.message or help_of(entry).split("\n")[0])
 
 
-def read_text(text):
-    """Returns a text as the program reads it: a place is the byte of its number."""
-    return PLACE.sub(lambda it: "%" if it[1] == "%" else chr(int(it[1])), text)
-
-
-def extents():
-    """Returns the whole text, and where the name, the message and the help of each key are in it."""
-    text, found, helps = "", {}, {}
-    for entry in entries().values():
-        found[entry.key] = []
-        for piece in (entry.key, read_text(entry.message)):
-            found[entry.key].append((len(text), len(text) + len(piece)))
-            text += f"{piece}\n" if piece else ""
-        if not entry.same:
-            helps[entry.key] = (len(text), len(text) + len(read_text(entry.own_help())))
-            text += f"{read_text(entry.own_help())}\n" if entry.lines else ""
-    for entry in entries().values():
-        found[entry.key].append(helps[entry.same or entry.key])
-    return text, found
+def literal(text):
+    """Returns a text as a byte string of the program: a place is the byte of its number."""
+    text = PLACE.sub(lambda it: "%" if it[1] == "%" else chr(int(it[1])), text)
+    return 'b"%s"' % re.sub(r'[\x01-\x03\n"\\]', lambda it: {"\n": "\\n", '"': '\\"', "\\": "\\\\"}.get(it[0], f"\\x0{ord(it[0])}"), text)
 
 
 def text_of_crate():
-    """Returns the crate's file: a constant for each key, and the text."""
-    text, found = extents()
+    """Returns the crate's file: a constant for each key, with its texts."""
     rows = "".join(
-        f"/// {shown(entry)}\npub const {entry.constant()}: Key = Key({', '.join(map(str, found[entry.key]))});\n\n" for entry in entries().values())
-    escaped = re.sub(r"[\x01-\x03]", lambda it: f"\\x0{ord(it[0])}", text.replace("\\", "\\\\").replace('"', '\\"'))
-    return (
-        "//! What is said. `tools/word_table.py` writes this file from `words.txt`.\n\n"
-        "ghost use Rattle.std.specs.Prelude.{◌≡◌};\n\n"
-        "use crate::key::Key;\n\n"
-        f"{rows}"
-        "/// The names, the messages and the help. A place is the byte 1, 2 or 3.\n"
-        f'#[rattlefmt::skip]\nconst TEXT: &[u8] = b"\\\n{escaped}";\n\n'
-        "/// Returns the text.\npub(crate) fn text() -> &'static [u8]\n    ensures { result.now ≡ TEXT.now }\n{\n    TEXT\n}\n"
-    )
+        f"\n/// {shown(entry)}\n#[rattlefmt::skip]\npub const {entry.constant()}: Key = Key({', '.join(map(literal, (entry.key, entry.message, help_of(entry))))});\n"
+        for entry in entries().values())
+    return f"//! What is said. `tools/word_table.py` writes this file from `words.txt`.\n\nuse crate::key::Key;\n{rows}"
 
 
 def without_comments(text):
