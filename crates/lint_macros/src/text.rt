@@ -7,10 +7,10 @@ ghost use Rattle.std.specs.Prelude.{◌≡◌};
 pub const TABLE: &[u8] = b"\
 drop AM_INIT_AUTOMAKE AM_SILENT_RULES AM_MAINTAINER_MODE AM_PROG_CC_C_O AC_PROG_CC_C_O AM_DEP_TRACK AM_MISSING_PROG AM_SANITY_CHECK AM_SET_DEPDIR AM_OUTPUT_DEPENDENCY_COMMANDS AM_EXTRA_RECURSIVE_TARGETS AM_SUBST_NOTMAKE AM_MAKE_INCLUDE
 there is no Automake: write a plain Makefile.in~idiom AC_PROG_INSTALL
-AC_SUBST([INSTALL], [\"install -c\"])
-AC_SUBST([INSTALL_PROGRAM], ['${INSTALL}'])
-AC_SUBST([INSTALL_SCRIPT], ['${INSTALL}'])
-AC_SUBST([INSTALL_DATA], ['${INSTALL} -m 644'])~idiom AM_CONDITIONAL
+AS_IF([test -z \"$INSTALL\"], [AC_SUBST([INSTALL], [\"install -c\"])])
+AS_IF([test -z \"$INSTALL_PROGRAM\"], [AC_SUBST([INSTALL_PROGRAM], ['${INSTALL}'])])
+AS_IF([test -z \"$INSTALL_SCRIPT\"], [AC_SUBST([INSTALL_SCRIPT], ['${INSTALL}'])])
+AS_IF([test -z \"$INSTALL_DATA\"], [AC_SUBST([INSTALL_DATA], ['${INSTALL} -m 644'])])~idiom AM_CONDITIONAL
 AS_IF([$2{TEST}],
   [$1!{NAME}_TRUE= $1!{NAME}_FALSE='#'],
   [$1!{NAME}_TRUE='#' $1!{NAME}_FALSE=])
@@ -159,7 +159,7 @@ AS_IF([test -z \"$AR\"], [AC_MSG_ERROR([there is no ar in PATH])])~idiom AC_PROG
 AC_ARG_VAR([CPP], [C preprocessor])
 AS_IF([test -z \"$CPP\"], [CPP=\"$CC -E\"])~idiom AC_PROG_LN_S AC_LN_S
 AC_SUBST([LN_S], [\"ln -s\"])~idiom AC_PROG_MKDIR_P AM_PROG_MKDIR_P
-AC_SUBST([MKDIR_P], [\"mkdir -p\"])~idiom AC_PROG_GREP
+AS_IF([test -z \"$MKDIR_P\"], [AC_SUBST([MKDIR_P], [\"mkdir -p\"])])~idiom AC_PROG_GREP
 AC_PATH_PROG([GREP], [grep])~idiom AC_PROG_EGREP
 AC_SUBST([EGREP], [\"grep -E\"])~idiom AC_PROG_FGREP
 AC_SUBST([FGREP], [\"grep -F\"])~idiom AC_PROG_SED
@@ -198,7 +198,8 @@ AC_COMPILE_IFELSE([AC_LANG_PROGRAM([[$1{INCLUDES}]], [[$2{BODY}]])],
   [$3{FOUND}], [$4{NOT-FOUND}])~idiom AC_TRY_LINK
 AC_LINK_IFELSE([AC_LANG_PROGRAM([[$1{INCLUDES}]], [[$2{BODY}]])],
   [$3{FOUND}], [$4{NOT-FOUND}])~idiom AC_TRY_LINK_FUNC
-AC_CHECK_FUNC([$1!{FUNCTION}], [$2{FOUND}], [$3{NOT-FOUND}])~idiom AC_TRY_RUN AC_TEST_PROGRAM
+AC_LINK_IFELSE([AC_LANG_PROGRAM([[char $1!{FUNCTION} ();]], [[return $1!{FUNCTION} ();]])],
+  [$2{FOUND}], [$3{NOT-FOUND}])~idiom AC_TRY_RUN AC_TEST_PROGRAM
 AC_RUN_IFELSE([AC_LANG_SOURCE([[$1{PROGRAM}]])],
   [$2{FOUND}], [$3{NOT-FOUND}], [$4{CROSS}])~idiom AC_TRY_CPP AC_TEST_CPP
 AC_PREPROC_IFELSE([AC_LANG_SOURCE([[$1{INCLUDES}]])],

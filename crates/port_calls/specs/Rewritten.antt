@@ -3,16 +3,27 @@ use Rattle.std.specs.Prelude.{◌≡◌, ◌⊎◌, ℕ, ◌+◌, ◌-◌, ◌<�
 use Rattle.std.specs.List.{list_all}
 use Rattle.ac_calls.specs.Calls.{MacroCall, calls_in}
 use Rattle.ac_calls.specs.declared.call.Extent.{Extent}
-use Rattle.port_calls.specs.Put.{MayPut, is_space}
+use Rattle.port_idioms.specs.Filled.{text_of}
+use Rattle.port_calls.specs.Put.{MayPut, arg_text, is_space}
 use Rattle.port_calls.specs.declared.idioms.Idioms.{Idioms}
 
 -- A space, a tab, a carriage return or a newline.
 abbrev pub is_blank : ℕ → Bool
 is_blank b = b == 32 || b == 9 || b == 13 || b == 10
 
--- The call has to go: the table of macros doesn't have its name, or it is AC_OUTPUT with arguments.
+-- The argument is more than blanks and a pair of brackets.
+abbrev pub IsGiven : List ℕ → Extent → Type 0
+IsGiven text arg = 0 < length (text_of (Some (arg_text text arg)))
+
+-- The first argument of the call names something.
+pub record NamesFiles (text : List ℕ) (c : MacroCall) : Type 0 where
+  pub list : Extent
+  pub first : slice_get c.args 0 ≡ Some list
+  pub given : IsGiven text list
+
+-- The call has to go: the table of macros doesn't have its name, or it is AC_OUTPUT of at least one file.
 abbrev pub HasToGo : List ℕ → MacroCall → Type 0
-HasToGo text c = (c.is_of_profile ≡ false) ⊎ ((slice_range text c.start c.name_end ≡ codes "AC_OUTPUT") × (0 < length c.args))
+HasToGo text c = (c.is_of_profile ≡ false) ⊎ ((slice_range text c.start c.name_end ≡ codes "AC_OUTPUT") × NamesFiles text c)
 
 -- Between these offsets are the call and, around it, nothing but blanks.
 abbrev pub IsAround : List ℕ → MacroCall → ℕ → ℕ → Type 0

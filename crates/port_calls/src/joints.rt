@@ -41,7 +41,7 @@ fn takes_words(text: &[u8], call: &CallAt) -> bool
 }
 
 /// Returns where the first argument of the call is.
-fn first_argument(call: &CallAt) -> Option<Extent>
+pub(crate) fn first_argument(call: &CallAt) -> Option<Extent>
     ensures { result ≡ slice_get (macro_call_of call.now).args 0 }
 {
     call.args.first().copied()

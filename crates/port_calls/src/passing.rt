@@ -9,33 +9,54 @@ use crate::around::{are_blank, blank_len};
 use crate::brackets::pass_arguments;
 use crate::changes::{Change, Known, change_of, known_of};
 use crate::idioms::Idioms;
-use crate::joints::pass_words;
+use crate::joints::{first_argument, pass_words};
 use crate::lines::pass_line;
 use crate::spots::{Spot, Walk};
 use crate::writing::{Pass, write_change};
-use ac_calls::{CallAt, calls_of};
+use ac_calls::{CallAt, Extent, calls_of};
 use lint_text::{from, part};
+use port_idioms::text_of;
 use std::alloc::{AllocError, Global};
 
 /// The old name of AS_HELP_STRING.
 const OLD_HELP: &[u8] = b"AC_HELP_STRING";
 
-/// Returns whether the call is one of AC_OUTPUT with arguments.
-fn is_output_of_files(text: &[u8], call: &CallAt) -> bool
+/// Returns whether an argument is more than blanks and a pair of brackets.
+fn is_given(text: &[u8], arg: Extent) -> bool
+    ensures { IsTrue result → specs.IsGiven text.now arg }
+{
+    match text_of(part(text, arg.start, arg.end)) {
+        Some(inner) => !inner.is_empty(),
+        None => false,
+    }
+}
+
+/// Returns whether the first argument of the call names something.
+fn names_files(text: &[u8], call: &CallAt) -> bool
+    ensures { IsTrue result → specs.NamesFiles text.now (macro_call_of call.now) }
+{
+    match first_argument(call) {
+        Some(list) => is_given(text, list),
+        None => false,
+    }
+}
+
+/// Returns whether the call is one of AC_OUTPUT.
+fn is_output(text: &[u8], call: &CallAt) -> bool
     ensures { IsTrue result
-        → (slice_range text.now (macro_call_of call.now).start (macro_call_of call.now).name_end
-        ≡ codes "AC_OUTPUT") × (0 < length (macro_call_of call.now).args) }
+        → slice_range text.now (macro_call_of call.now).start (macro_call_of call.now).name_end
+        ≡ codes "AC_OUTPUT" }
 {
     let has_name = call.start <= call.name_end && call.name_end <= text.len();
-    has_name && !call.args.is_empty() && &text[call.start..call.name_end] == b"AC_OUTPUT".as_slice()
+    has_name && &text[call.start..call.name_end] == b"AC_OUTPUT".as_slice()
 }
 
 /// Returns whether the call has to go: the table of macros doesn't have its name, or it is
-/// AC_OUTPUT with arguments.
+/// AC_OUTPUT of at least one file.
 fn has_to_go(text: &[u8], call: &CallAt) -> bool
     ensures { IsTrue result → specs.HasToGo text.now (macro_call_of call.now) }
 {
-    !call.is_of_profile || is_output_of_files(text, call)
+    !call.is_of_profile || (is_output(text, call) && names_files(text, call))
 }
 
 /// Returns whether the call and, around it, nothing but blanks are between two offsets of the text.

@@ -5,18 +5,15 @@ ghost use Rattle.std.specs.Prelude.{◌≡◌};
 /// The macros that have an exact idiom, each with the least and the largest number of arguments that it is exact for.
 #[rattlefmt::skip]
 pub const EXACT: &[u8] = b"\
-AC_CACHE_VAL 2 2
 AC_CHECKING 1 1
 AC_CHECK_DECLS_ONCE 1 1
 AC_CHECK_FUNCS_ONCE 1 1
 AC_CHECK_HEADERS_ONCE 1 1
-AC_CHECK_TOOL 2 3
 AC_COMPILE_CHECK 3 5
 AC_CONFIG_HEADER 1 1
 AC_CONST 0 0
 AC_C_CONST 0 0
 AC_C_CROSS 0 0
-AC_C_INLINE 0 0
 AC_C_VOLATILE 0 0
 AC_ERROR 1 1
 AC_EXEEXT 0 0
@@ -33,7 +30,6 @@ AC_HEADER_CHECK 1 1
 AC_HEADER_MAJOR 0 0
 AC_HEADER_STAT 0 0
 AC_HEADER_STDBOOL 0 0
-AC_INLINE 0 0
 AC_ISC_POSIX 0 0
 AC_LN_S 0 0
 AC_MODE_T 0 0
@@ -41,9 +37,7 @@ AC_MSG_FAILURE 1 1
 AC_OBJEXT 0 0
 AC_OFF_T 0 0
 AC_OUTPUT(files) 1 1
-AC_PATH_TOOL 2 2
 AC_PID_T 0 0
-AC_PREFIX_DEFAULT 1 1
 AC_PRESERVE_HELP_ORDER 0 0
 AC_PROGRAMS_CHECK 2 2
 AC_PROGRAM_CHECK 3 4
@@ -58,7 +52,6 @@ AC_PROG_GREP 0 0
 AC_PROG_INSTALL 0 0
 AC_PROG_LN_S 0 0
 AC_PROG_MKDIR_P 0 0
-AC_PROG_RANLIB 0 0
 AC_PROG_SED 0 0
 AC_RETSIGTYPE 0 0
 AC_REVISION 0 1
@@ -100,6 +93,7 @@ pub const DIFFERING: &[u8] = b"\
 ACX_PTHREAD 0 0 the library is added to LIBS, and PTHREAD_CFLAGS is -pthread without a check
 AC_ALLOCA 0 0 the function is taken to be there, and ALLOCA is empty
 AC_ARG_PROGRAM 0 0 no option changes the names of programs
+AC_CACHE_VAL 2 2 a message with the name of the variable and its value are printed
 AC_CANONICAL_BUILD 0 0 the system is not detected, so the user gives build and its parts, as NAME=VALUE
 AC_CANONICAL_HOST 0 0 the system is not detected, so the user gives host and its parts, as NAME=VALUE
 AC_CANONICAL_SYSTEM 0 0 no system is detected, so the user gives host, target and their parts, as NAME=VALUE
@@ -115,6 +109,7 @@ AC_CHECK_MEMBERS(includes) 4 4 a bit-field counts as missing
 AC_CHECK_SIZEOF 1 2 the program includes the default headers of acrun, and a size other than 1, 2, 4, 8 and 16 is 0
 AC_CHECK_TARGET_TOOL 2 3 no program whose name begins with that of the host is looked for
 AC_CHECK_TARGET_TOOLS 2 3 no program whose name begins with that of the host is looked for
+AC_CHECK_TOOL 2 3 no program whose name begins with that of the host is looked for
 AC_CHECK_TOOLS 2 3 no program whose name begins with that of the host is looked for
 AC_CONFIG_LIBOBJ_DIR 1 1 the Makefile has to say where the sources of the objects are
 AC_COPYRIGHT 1 1 no program prints the notice
@@ -123,6 +118,7 @@ AC_C_BACKSLASH_A 0 0 nothing is defined, and the compiler is taken to have it
 AC_C_BIGENDIAN 0 0 the macros of the compiler for the order of bytes decide, and no program is run
 AC_C_CHAR_UNSIGNED 0 0 the compiler defines __CHAR_UNSIGNED__ itself
 AC_C_FLEXIBLE_ARRAY_MEMBER 0 0 nothing is defined, and the compiler is taken to have it
+AC_C_INLINE 0 0 inline is not defined, also where a flag such as -ansi takes it away
 AC_C_LONG_DOUBLE 0 0 nothing is defined, and the compiler is taken to have it
 AC_C_RESTRICT 0 0 nothing is defined, and the compiler is taken to have it
 AC_C_STRINGIZE 0 0 nothing is defined, and the compiler is taken to have it
@@ -161,6 +157,7 @@ AC_HEADER_STDC 0 0 STDC_HEADERS is defined without a check
 AC_HEADER_SYS_WAIT 0 0 the header counts as that of POSIX if it is there
 AC_HEADER_TIME 0 0 TIME_WITH_SYS_TIME is defined without a check
 AC_HEADER_TIOCGWINSZ 0 0 a program is compiled, and no text is searched for
+AC_INLINE 0 0 inline is not defined, also where a flag such as -ansi takes it away
 AC_LANG_C 0 0 C is the only language
 AC_LANG_RESTORE 0 0 C is the only language
 AC_LANG_SAVE 0 0 C is the only language
@@ -170,13 +167,16 @@ AC_LIBSOURCES 1 1 the Makefile has to say where the sources of the objects are
 AC_LONG_FILE_NAMES 0 0 HAVE_LONG_FILE_NAMES is defined without a check
 AC_MINGW32 0 0 a program is compiled, and the name of the host is not looked at
 AC_MMAP 0 0 no program is run, so a function that is there counts as one that works
+AC_PATH_TOOL 2 2 no program whose name begins with that of the host is looked for
 AC_PATH_X 0 0 nothing is looked for, so the user gives X_CFLAGS and X_LIBS
 AC_PATH_XTRA 0 0 nothing is looked for, so the user gives X_CFLAGS and X_LIBS
+AC_PREFIX_DEFAULT 1 1 the prefix is the directory from here on, and not only from AC_OUTPUT on
 AC_PROG_EGREP 0 0 no program is looked for
 AC_PROG_FGREP 0 0 no program is looked for
 AC_PROG_GCC_TRADITIONAL 0 0 no flag is added
 AC_PROG_LEX 0 0 no scanner is made, so yytext is taken to be a pointer
 AC_PROG_MAKE_SET 0 0 each make sets MAKE, so @SET_MAKE@ has to go from the templates
+AC_PROG_RANLIB 0 0 no program whose name begins with that of the host is looked for
 AC_REPLACE_FUNCS 1 1 the object is in EXTRA_OBJS and not in LIBOBJS
 AC_SET_MAKE 0 0 each make sets MAKE, so @SET_MAKE@ has to go from the templates
 AC_SIZEOF_TYPE 1 1 the program includes the default headers of acrun, and a size other than 1, 2, 4, 8 and 16 is 0
