@@ -5,7 +5,7 @@ use Rattle.cmd_port.specs.Ported.{HasLeft, IsCommented, IsMoved, IsPorted, IsPri
 use Rattle.cmd_port.specs.Ported as specs
 use Rattle.cmd_port.specs.declared.whole.Ported.{Ported}
 use Rattle.lint_errors.specs.Errors.{IsAccepted}
-use Rattle.port_calls.specs.declared.idioms.Idioms.{Idioms}
+use Rattle.port_idioms.specs.declared.idioms.Idioms.{Idioms}
 
 pub commented_bound : (text : List ℕ) (at : ℕ) (out : List ℕ) → IsCommented text at out → at ≤ length text
 commented_bound text at out specs.IsCommented.begun = omega arith

@@ -6,9 +6,9 @@ use Rattle.file_disk.specs.Known.{Known}
 use Rattle.cmd_call.specs.Calls.{is_input, is_option}
 use Rattle.cmd_lint.specs.Status.{IsNamed}
 use Rattle.std.specs.Io.KnownBytes.{Appends}
-use Rattle.port_calls.specs.declared.idioms.Idioms.{Idioms}
+use Rattle.port_idioms.specs.declared.idioms.Idioms.{Idioms}
 use Rattle.cmd_port.specs.Ported.{IsPorted}
-use Rattle.port_calls.specs.declared.idioms.Idioms.TheVariants.{Exact, All}
+use Rattle.port_idioms.specs.declared.idioms.Idioms.TheVariants.{Exact, All}
 use Rattle.cmd_port.specs.Asked.{Request, here, is_switch, named, request_of}
 use Rattle.cmd_port.specs.Printed.{IsPrinted, IsAnswer, status_of}
 

@@ -1,8 +1,8 @@
 -- What the words after `port` ask for. All of this is own.
 use Rattle.std.specs.Prelude.{ℕ, Bool, List, [], ◌∷◌, Option, Some, None, bytes_eq, codes, if◌then◌else◌}
 use Rattle.cmd_call.specs.Calls.{is_option}
-use Rattle.port_calls.specs.declared.idioms.Idioms.{Idioms}
-use Rattle.port_calls.specs.declared.idioms.Idioms.TheVariants.{Exact, All}
+use Rattle.port_idioms.specs.declared.idioms.Idioms.{Idioms}
+use Rattle.port_idioms.specs.declared.idioms.Idioms.TheVariants.{Exact, All}
 use Rattle.cmd_port.specs.declared.asking.Request.{Request as Found}
 
 -- Which idioms are written, and the name of the source.

@@ -3,8 +3,8 @@ use Rattle.std.specs.Prelude.{◌≡◌, ℕ, ◌-◌, ◌≤◌, ◌==◌, nat_
 use Rattle.std.specs.List.{flat_map, starts_with}
 use Rattle.lint_errors.specs.Errors.{IsAccepted}
 use Rattle.port_calls.specs.Rewritten.{IsRewritten}
-use Rattle.port_calls.specs.declared.idioms.Idioms.{Idioms}
-use Rattle.port_calls.specs.declared.idioms.Idioms.TheVariants.{Exact, All}
+use Rattle.port_idioms.specs.declared.idioms.Idioms.{Idioms}
+use Rattle.port_idioms.specs.declared.idioms.Idioms.TheVariants.{Exact, All}
 use Rattle.port_shell.specs.Formed.{IsFormed}
 use Rattle.port_shell.specs.Told.{IsTold}
 use Rattle.text_cut.specs.Cuts.{parts}
@@ -62,7 +62,7 @@ pub record IsTurn (idioms : Idioms) (text out : List ℕ) : Type 0 where
   pub mid : List ℕ
   pub calls : IsRewritten idioms text mid
   pub formed : List ℕ
-  pub statements : IsFormed mid formed
+  pub statements : IsFormed idioms mid formed
   pub messages : IsToldBy idioms formed out
 
 -- The same as often as there is something to rewrite.

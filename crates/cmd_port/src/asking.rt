@@ -5,7 +5,7 @@ ghost use Rattle.cmd_port.specs.Asked as specs;
 
 use cmd_lint::{SOURCE, is_option};
 use deftable::Bytes;
-use port_calls::Idioms;
+use port_idioms::Idioms;
 
 /// Which idioms are written, and the name of the source.
 #[derive(Clone, Copy)]

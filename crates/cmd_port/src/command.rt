@@ -16,7 +16,7 @@ use deftable::Bytes;
 use file_disk::Disk;
 use lint_errors::errors_of;
 use lint_excerpts::excerpt_of;
-use port_calls::Idioms;
+use port_idioms::Idioms;
 use std::alloc::{AllocError, Global};
 use std::io::{Read, Write};
 

@@ -4,7 +4,8 @@
 ghost use Rattle.std.specs.Prelude.{IfOk, IfSome};
 ghost use Rattle.cmd_port.specs.Ported as specs;
 
-use port_calls::{Idioms, replaced};
+use port_calls::replaced;
+use port_idioms::Idioms;
 use port_shell::{formed, told};
 use std::alloc::{AllocError, Global};
 
@@ -29,7 +30,7 @@ fn turned(alloc: Global, idioms: Idioms, text: &[u8]) -> Result<Option<Vec<u8>>,
     ensures { IfOk result (λ o. IfSome o (λ v. specs.IsTurn idioms text.now v.items)) }
 {
     let mid = replaced(alloc, idioms, text)?;
-    let formed = formed(alloc, mid.as_slice())?;
+    let formed = formed(alloc, idioms, mid.as_slice())?;
     let out = told_by(alloc, idioms, formed)?;
     if out.as_slice() == text {
         Ok(None)

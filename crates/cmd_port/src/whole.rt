@@ -11,7 +11,7 @@ use lint_all::all_errors;
 use lint_errors::errors_of;
 use lint_findings::Finding;
 use m4quote::{QuoteFault, read_items};
-use port_calls::Idioms;
+use port_idioms::Idioms;
 use std::alloc::{AllocError, Global};
 
 /// A source that was rewritten.

@@ -5,8 +5,8 @@ use Rattle.std.specs.List.{list_all}
 use Rattle.port_idioms.specs.Filled.{filled}
 use Rattle.ac_calls.specs.Calls.{MacroCall}
 use Rattle.port_calls.specs.Put.{IsPut, IsExactFor, IsNoted, MayPut, arg_text, is_space, put_for}
-use Rattle.port_calls.specs.declared.idioms.Idioms.{Idioms}
-use Rattle.port_calls.specs.declared.idioms.Idioms.TheVariants.{Exact, All}
+use Rattle.port_idioms.specs.declared.idioms.Idioms.{Idioms}
+use Rattle.port_idioms.specs.declared.idioms.Idioms.TheVariants.{Exact, All}
 use Rattle.port_calls.specs.Put as specs
 
 pub idiom_puts : {V E : Type 0} (items : V → List ℕ) (r : Result (Option V) E) (text : List ℕ) (c : MacroCall) (args : List (List ℕ)) (indent it : List ℕ)

@@ -10,7 +10,7 @@ use Rattle.ac_calls.specs.Calls.{MacroCall, calls_in, macro_call_of}
 use Rattle.port_calls.specs.Rewritten.{IsPass, IsRewritten, HasToGo, IsAround, DeclaresOption, IsOldHelp, JoinsWords, EndsItsLine, AreSpaces, IsBare, in_brackets}
 use Rattle.port_calls.specs.Rewritten as specs
 use Rattle.port_calls.specs.Put.{MayPut, is_space}
-use Rattle.port_calls.specs.declared.idioms.Idioms.{Idioms}
+use Rattle.port_idioms.specs.declared.idioms.Idioms.{Idioms}
 
 pub pass_bound : (idioms : Idioms) (text : List ℕ) (at : ℕ) (out : List ℕ) → IsPass idioms text at out → at ≤ length text
 pass_bound idioms text at out specs.IsPass.begun = omega arith

@@ -7,8 +7,8 @@ use Rattle.lint_macros.specs.Members.{entry_name, takes_list}
 use Rattle.lint_macros.specs.declared.text.TheConstants.{TABLE}
 use Rattle.port_idioms.specs.Filled.{filled, text_of}
 use Rattle.port_idioms.specs.Rows.{put_by, IsExact, Differs}
-use Rattle.port_calls.specs.declared.idioms.Idioms.{Idioms}
-use Rattle.port_calls.specs.declared.idioms.Idioms.TheVariants.{Exact, All}
+use Rattle.port_idioms.specs.declared.idioms.Idioms.{Idioms}
+use Rattle.port_idioms.specs.declared.idioms.Idioms.TheVariants.{Exact, All}
 use Rattle.ac_calls.specs.Calls.{MacroCall}
 use Rattle.ac_calls.specs.declared.call.Extent.{Extent}
 use Rattle.lint_text.specs.Parts.{part}

@@ -5,7 +5,7 @@ use Rattle.ac_calls.specs.Calls.{MacroCall, calls_in}
 use Rattle.ac_calls.specs.declared.call.Extent.{Extent}
 use Rattle.port_idioms.specs.Filled.{text_of}
 use Rattle.port_calls.specs.Put.{MayPut, arg_text, is_space}
-use Rattle.port_calls.specs.declared.idioms.Idioms.{Idioms}
+use Rattle.port_idioms.specs.declared.idioms.Idioms.{Idioms}
 
 -- A space, a tab, a carriage return or a newline.
 abbrev pub is_blank : ℕ → Bool

@@ -5,10 +5,10 @@ ghost use Rattle.ac_calls.specs.Calls.{calls_in, macro_call_of};
 ghost use Rattle.port_calls.specs.Rewritten as specs;
 
 use crate::around::{are_blank, has_compound, without_end_blanks};
-use crate::idioms::Idioms;
 use crate::writing::{Pass, write_change};
 use ac_calls::{CallAt, Extent};
 use lint_text::part;
+use port_idioms::Idioms;
 use std::alloc::{AllocError, Global};
 
 /// Returns an argument of the call.

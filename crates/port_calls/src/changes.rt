@@ -11,13 +11,12 @@ use crate::around::{
     before_idle, begins_statement, ends_statement, indent_of, line_indent, space_len,
 };
 use crate::bare::bare_in;
-use crate::idioms::Idioms;
 use crate::noting::noted_text;
 use crate::spots::Spot;
 use ac_calls::{CallAt, Extent};
 use lint_macros::{Index, entry_name};
 use lint_text::{from, part};
-use port_idioms::{Exact, Other, exact_of, filled, other_of};
+use port_idioms::{Exact, Idioms, Other, exact_of, filled, other_of};
 use std::alloc::{AllocError, Global};
 
 /// What a part of the text is replaced by.

@@ -4,9 +4,9 @@ ghost use Rattle.std.specs.Prelude.{◌≡◌, ◌≤◌, ◌<◌, ◌+◌, true
 ghost use Rattle.ac_calls.specs.Calls.{calls_in, macro_call_of};
 ghost use Rattle.port_calls.specs.Rewritten as specs;
 
-use crate::idioms::Idioms;
 use crate::writing::{Pass, write_change};
 use ac_calls::{CallAt, Extent};
+use port_idioms::Idioms;
 use std::alloc::AllocError;
 
 /// Returns whether a macro of this name looks for each name of a list.

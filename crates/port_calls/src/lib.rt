@@ -25,7 +25,6 @@ mod around;
 mod bare;
 mod brackets;
 mod changes;
-mod idioms;
 mod joints;
 mod lines;
 mod noting;
@@ -34,5 +33,4 @@ mod passing;
 mod spots;
 mod writing;
 
-pub use idioms::Idioms;
 pub use passes::replaced;

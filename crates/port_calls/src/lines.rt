@@ -10,11 +10,11 @@ use crate::around::{
     are_spaces, begins_statement, ends_statement, goes_on, is_after_separator, line_indent,
     space_len,
 };
-use crate::idioms::Idioms;
 use crate::spots::Spot;
 use crate::writing::{Pass, write_change};
 use ac_calls::CallAt;
 use lint_text::from;
+use port_idioms::Idioms;
 use std::alloc::{AllocError, Global};
 
 /// Returns whether what a macro of this name expands to ends in a newline.

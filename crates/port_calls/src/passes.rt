@@ -3,8 +3,8 @@
 ghost use Rattle.std.specs.Prelude.{IfOk};
 ghost use Rattle.port_calls.specs.Rewritten as specs;
 
-use crate::idioms::Idioms;
 use crate::passing::replaced_once;
+use port_idioms::Idioms;
 use std::alloc::{AllocError, Global};
 
 /// How often the calls are gone over at most. Each time finds those in the arguments of calls that

@@ -8,14 +8,13 @@ ghost use Rattle.port_calls.specs.Rewritten as specs;
 use crate::around::{are_blank, blank_len};
 use crate::brackets::pass_arguments;
 use crate::changes::{Change, Known, change_of, known_of};
-use crate::idioms::Idioms;
 use crate::joints::{first_argument, pass_words};
 use crate::lines::pass_line;
 use crate::spots::{Spot, Walk};
 use crate::writing::{Pass, write_change};
 use ac_calls::{CallAt, Extent, calls_of};
 use lint_text::{from, part};
-use port_idioms::text_of;
+use port_idioms::{Idioms, text_of};
 use std::alloc::{AllocError, Global};
 
 /// The old name of AS_HELP_STRING.

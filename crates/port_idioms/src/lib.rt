@@ -17,8 +17,10 @@
 
 mod exact;
 mod filling;
+mod idioms;
 mod rows;
 mod table;
 
 pub use exact::{Exact, Other, exact_of, other_of};
 pub use filling::{filled, text_of};
+pub use idioms::Idioms;

@@ -55,7 +55,7 @@ fn put_arguments(out: &mut Vec<u8>, parts: &[&[u8]]) -> Result<(), AllocError>
 
 /// Returns the call of a macro with these arguments.
 #[tactic(auto, unfolding(crate::specs::Calls::call_text))]
-fn call_text(alloc: Global, name: &[u8], parts: &[&[u8]]) -> Result<Vec<u8>, AllocError>
+pub(crate) fn call_text(alloc: Global, name: &[u8], parts: &[&[u8]]) -> Result<Vec<u8>, AllocError>
     ensures { IfOk result (λ v. v.items ≡ specs.call_text name.now (map (λ p. p.now) parts.now)) }
 {
     let mut out = Vec::from_slice(alloc, name)?;
@@ -147,7 +147,7 @@ fn is_one_call(alloc: Global, text: &[u8], name: &[u8], parts: &[&[u8]]) -> Resu
 
 /// Returns a source with this statement alone.
 #[tactic(auto, unfolding(crate::specs::Calls::source_with))]
-fn source_with(alloc: Global, text: &[u8]) -> Result<Vec<u8>, AllocError>
+pub(crate) fn source_with(alloc: Global, text: &[u8]) -> Result<Vec<u8>, AllocError>
     ensures { IfOk result (λ v. v.items ≡ specs.source_with text.now) }
 {
     let mut out = Vec::from_slice(alloc, b"AC_INIT([a],[1])\n")?;

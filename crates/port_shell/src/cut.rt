@@ -22,4 +22,14 @@ impl Cut {
             Cut::Echo(at) => *at,
         }
     }
+
+    /// Returns the offset after its last byte. Of an `echo` only the first byte is known.
+    pub(crate) fn end(&self) -> usize {
+        match self {
+            Cut::If(cut) => cut.end,
+            Cut::Case(cut) => cut.end,
+            Cut::Guard(cut) => cut.end,
+            Cut::Echo(at) => *at,
+        }
+    }
 }

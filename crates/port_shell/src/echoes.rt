@@ -7,8 +7,9 @@ ghost use Rattle.port_shell.specs.Told as specs;
 
 use crate::calls::accepted_call;
 use crate::cut::Cut;
-use crate::lists::cuts_of;
+use crate::lists::cuts_in;
 use crate::passing::{Pass, write_change};
+use ac_calls::calls_of;
 use lint_text::{line_end, line_start};
 use port_echo::echo_message;
 use std::alloc::{AllocError, Global};
@@ -132,7 +133,8 @@ pub fn told(alloc: Global, text: &[u8]) -> Result<Vec<u8>, AllocError>
     // All else is copied.
     ensures told { IfOk result (λ v. specs.IsTold text.now v.items) }
 {
-    let cuts = cuts_of(alloc, text)?;
+    let calls = calls_of(alloc, text)?;
+    let cuts = cuts_in(alloc, text, calls.as_slice())?;
     let mut pass = Pass {
         out: Vec::new(alloc),
         at: 0,

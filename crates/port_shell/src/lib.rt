@@ -12,6 +12,7 @@
 //! test "$a" = b -a "$c" && d=1               // becomes AS_IF([test "$a" = b && test "$c"], [d=1])
 //! if test -f a; then b=1; fi                 // stays, since acrun reads no test of files
 //! echo using $a                              // stays, or becomes AC_MSG_RESULT([using $a]) below a comment
+//! if :; then AC_CHECK_HEADERS([a.h]); fi     // the first such call: stays, or is rewritten below a comment
 //! ```
 //!
 //! Read the definitions first: those of `port_compounds` say what these statements and their parts
@@ -19,8 +20,10 @@
 //! with an `echo` becomes. In `src`, `shell` (what each byte is to a shell), `compounds` (which
 //! statements are open) and `lists` (each list of statements of a source) look for statements.
 //! Nothing is proved of what they find: `port_compounds` reads the parts, `calls` the new call, and
-//! `puts` joins the two. `passing` is one pass over a text, and `echoes` one over its lines with an
-//! `echo`. A call fails only if memory runs out. "own" marks a rule that no manual gives.
+//! `puts` joins the two. `needs` finds where Autoconf makes checks that macros require, of which
+//! nothing is proved either, and `noting` writes the comment there. `reasons` says why
+//! statements stay. `passing` is one pass over a
+//! text, and `echoes` one over its lines with an `echo`. A call fails only if memory runs out. "own" marks a rule that no manual gives.
 #![tactic(auto)]
 
 mod calls;
@@ -28,10 +31,14 @@ mod compounds;
 mod cut;
 mod echoes;
 mod lists;
+mod needs;
+mod noting;
 mod passes;
 mod passing;
 mod puts;
+mod reasons;
 mod shell;
 
 pub use echoes::told;
 pub use passes::formed;
+pub use reasons::{Reason, Staying, staying};

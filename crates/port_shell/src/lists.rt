@@ -3,7 +3,7 @@
 use crate::compounds::Compounds;
 use crate::cut::Cut;
 use crate::shell::Shell;
-use ac_calls::{CallAt, Extent, calls_of};
+use ac_calls::{CallAt, Extent};
 use ac_macros::table::row_named;
 use ac_macros::{ChoiceMacro, Macro, Named, QuestionMacro};
 use lint_text::{first_line, first_name, from, is_word_byte, part, without_end_blanks};
@@ -264,10 +264,13 @@ fn read_list(
     Ok(())
 }
 
-/// Returns the statements of a source that may be rewritten, in order of their offsets. Each is one
+/// Returns the statements of a source with these calls that may be rewritten, in order of their offsets. Each is one
 /// in which no compound statement of a shell is.
-pub(crate) fn cuts_of(alloc: Global, text: &[u8]) -> Result<Vec<Cut>, AllocError> {
-    let calls = calls_of(alloc, text)?;
+pub(crate) fn cuts_in(
+    alloc: Global,
+    text: &[u8],
+    calls: &[CallAt],
+) -> Result<Vec<Cut>, AllocError> {
     let mut lists = Vec::new(alloc);
     lists.push(Extent {
         start: 0,
@@ -278,7 +281,7 @@ pub(crate) fn cuts_of(alloc: Global, text: &[u8]) -> Result<Vec<Cut>, AllocError
         let Some(list) = lists.get(i).copied() else {
             break;
         };
-        read_list(alloc, text, calls.as_slice(), list, &mut lists, &mut found)?;
+        read_list(alloc, text, calls, list, &mut lists, &mut found)?;
     }
     found.sort_by_key(|cut| cut.start())?;
     Ok(found)

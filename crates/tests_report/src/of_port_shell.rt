@@ -1,21 +1,37 @@
 //! Statements of a shell that become calls.
 
+use port_idioms::Idioms;
 use port_shell::formed;
 use std::test::Fail;
 use test_rows::{Page, RowCall, try_rows};
 
+/// Writes what becomes of a text.
+fn put_formed(page: &mut Page, idioms: Idioms, given: &[u8]) {
+    let made = formed(page.alloc(), idioms, given);
+    if let Some(text) = page.given(made) {
+        if text.as_slice() == given {
+            page.put(b"the same");
+        } else {
+            page.put(text.as_slice());
+        }
+    }
+}
+
+/// By exact idioms alone.
 pub(crate) struct Forms;
 
 impl RowCall for Forms {
     fn put(&self, page: &mut Page, given: &[u8]) {
-        let made = formed(page.alloc(), given);
-        if let Some(text) = page.given(made) {
-            if text.as_slice() == given {
-                page.put(b"the same");
-            } else {
-                page.put(text.as_slice());
-            }
-        }
+        put_formed(page, Idioms::Exact, given);
+    }
+}
+
+/// By all idioms.
+pub(crate) struct Noted;
+
+impl RowCall for Noted {
+    fn put(&self, page: &mut Page, given: &[u8]) {
+        put_formed(page, Idioms::All, given);
     }
 }
 
@@ -121,6 +137,22 @@ if test -a b; then x=1; fi => the same
 if test a-a b; then x=1; fi => the same
 if test a -ab; then x=1; fi => the same
 if :; then x=1; else test a -a b; fi => the same
+// the first call that requires something of Autoconf
+if :; then AC_CHECK_HEADERS([a.h]); fi => the same
+if :; then AC_CHECK_FUNC([a]); fi => the same
+AC_PROG_CC^Jif :; then AC_CHECK_FUNC([a]); fi => AC_PROG_CC^JAS_IF([:], [AC_CHECK_FUNC([a])])
+AC_PROG_CC^Jif :; then AC_CHECK_TYPES([a]); fi => the same
+AC_PROG_CC^Jif :; then AC_CHECK_TYPES([a], [], [], [#include <b.h>]); fi => AC_PROG_CC^JAS_IF([:], [AC_CHECK_TYPES([a], [], [], [#include <b.h>])])
+AC_PROG_CC^Jif :; then AC_CHECK_DECLS([a], [], [], [#include <b.h>]); fi => the same
+AC_PROG_CC^Jif :; then AC_CHECK_HEADER([a.h], [], [], [-]); fi => the same
+AC_PROG_CC^Jif :; then AC_PREPROC_IFELSE([AC_LANG_SOURCE([[a]])], [x=1]); fi => the same
+AC_PROG_CC^Jif :; then AC_COMPILE_IFELSE([AC_LANG_PROGRAM([AC_INCLUDES_DEFAULT], [])], [x=1]); fi => the same
+AC_CHECK_HEADER([b.h])^Jif :; then AC_CHECK_HEADERS([a.h]); fi => AC_CHECK_HEADER([b.h])^JAS_IF([:], [AC_CHECK_HEADERS([a.h])])
+AC_CHECK_HEADER([b.h], [if :; then AC_CHECK_TYPE([a]); fi]) => AC_CHECK_HEADER([b.h], [AS_IF([:], [AC_CHECK_TYPE([a])])])
+AC_ARG_WITH([x], [a help], [if :; then AC_CHECK_HEADERS([a.h]); fi]) => AC_ARG_WITH([x], [a help], [AS_IF([:], [AC_CHECK_HEADERS([a.h])])])
+case $a in b) AC_CHECK_HEADERS([a.h]) ;; esac => the same
+test a && AC_CHECK_HEADERS([a.h]) => the same
+if :; then AC_CHECK_HEADERS([a.h]); fi^Jif :; then AC_CHECK_HEADERS([b.h]); fi => if :; then AC_CHECK_HEADERS([a.h]); fi^JAS_IF([:], [AC_CHECK_HEADERS([b.h])])
 // where it isn't done
 [if :; then x=1; fi] => the same
 [if] :; then x=1; fi => the same
@@ -158,4 +190,20 @@ case $a in^J  b) if :; then x=1; fi ;;^J  c) f;;^J  *)^J    if :; then x=2; fi^J
 #[test]
 fn ifs(rt: HostRuntime) -> Result<(), Fail> {
     try_rows(rt.alloc(), &Forms, IFS)
+}
+
+/// A text with a statement that makes Autoconf check something before it, and what becomes of it by
+/// all idioms.
+const DRAWING: &[u8] = br##"
+if :; then x=1; fi => AS_IF([:], [x=1])
+  if :; then AC_CHECK_HEADERS([a.h]); fi =>   dnl acrun: in place of a statement: Autoconf makes the checks that its macros require in any case^J  AS_IF([:], [AC_CHECK_HEADERS([a.h])])
+case $a in b) AC_CHECK_HEADERS([a.h]) ;; esac => dnl acrun: in place of a statement: Autoconf makes the checks that its macros require in any case^JAS_CASE([$a], [b], [AC_CHECK_HEADERS([a.h])])
+test a && AC_CHECK_HEADERS([a.h]) => dnl acrun: in place of a statement: Autoconf makes the checks that its macros require in any case^JAS_IF([test a], [AC_CHECK_HEADERS([a.h])])
+x=1; if :; then AC_CHECK_HEADERS([a.h]); fi => the same
+if :; then AC_CHECK_HEADERS([a.h]); fi^Jif :; then AC_CHECK_HEADERS([b.h]); fi => dnl acrun: in place of a statement: Autoconf makes the checks that its macros require in any case^JAS_IF([:], [AC_CHECK_HEADERS([a.h])])^JAS_IF([:], [AC_CHECK_HEADERS([b.h])])
+"##;
+
+#[test]
+fn noted(rt: HostRuntime) -> Result<(), Fail> {
+    try_rows(rt.alloc(), &Noted, DRAWING)
 }

@@ -4,8 +4,8 @@ use Rattle.port_shell.proofs.Steps.{pass_more}
 use Rattle.port_shell.proofs.passes.formed.Goals as goal
 
 pub loop-init : goal.loop-init
-loop-init c = subst (specs.IsFormed c.args.text.now) (sym c.in_ok-out.ensures.items) specs.IsFormed.same
+loop-init c = subst (specs.IsFormed c.args.idioms c.args.text.now) (sym c.in_ok-out.ensures.items) specs.IsFormed.same
 
 pub loop-preserved : goal.loop-preserved
 loop-preserved c =
-    pass_more (λ v. v.items) c.args.text.now c.loop.out.items c.as_slice.result.now c.in_ok-next.field-0 c.in-Some.next c.in-Some.is c.as_slice.ensures.value c.in_ok-next.ensures c.loop.invariant
+    pass_more (λ v. v.items) c.args.idioms c.args.text.now c.loop.out.items c.as_slice.result.now c.in_ok-next.field-0 c.in-Some.next c.in-Some.is c.as_slice.ensures.value c.in_ok-next.ensures c.loop.invariant

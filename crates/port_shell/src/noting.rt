@@ -1,0 +1,80 @@
+//! The comment above a statement that makes Autoconf check something before it.
+
+ghost use Rattle.std.specs.Prelude.{◌≡◌, true, IfOk, IfSome};
+ghost use Rattle.std.specs.List.{list_all};
+ghost use Rattle.port_compounds.specs.Places.{is_space};
+ghost use Rattle.port_shell.specs.Formed as specs;
+
+use lint_text::{line_start, part};
+use port_compounds::are_spaces;
+use port_idioms::Idioms;
+use std::alloc::{AllocError, Global};
+
+/// What is above a statement.
+const COMMENT: &[u8] =
+    b"dnl acrun: in place of a statement: Autoconf makes the checks that its macros require in any case";
+
+/// Returns whether Autoconf makes checks before a call between two offsets.
+pub(crate) fn draws(drawing: &[usize], start: usize, end: usize) -> bool {
+    for at in drawing {
+        if start <= *at && *at < end {
+            return true;
+        }
+    }
+    false
+}
+
+/// Returns the comment, with this indent after it.
+#[tactic(auto, unfolding(crate::specs::Formed::noted))]
+fn noted(alloc: Global, indent: &[u8]) -> Result<Vec<u8>, AllocError>
+    ensures { IfOk result (λ v. v.items ≡ specs.noted indent.now) }
+{
+    let mut out = Vec::from_slice(alloc, COMMENT)?;
+    out.push(b'\n')?;
+    out.extend_from_slice(indent)?;
+    Ok(out)
+}
+
+/// Returns the comment with this indent after it, or `None` if it is more than spaces.
+fn note_with(alloc: Global, idioms: Idioms, indent: &[u8]) -> Result<Option<Vec<u8>>, AllocError>
+    ensures { IfOk result (λ o. IfSome o (λ v. specs.IsNote idioms v.items)) }
+{
+    match idioms {
+        Idioms::Exact => Ok(None),
+        Idioms::All => {
+            if !are_spaces(indent) {
+                return Ok(None);
+            }
+            let note = noted(alloc, indent)?;
+            Ok(Some(note))
+        }
+    }
+}
+
+/// Returns nothing, as a note.
+fn no_note(alloc: Global, idioms: Idioms) -> Result<Option<Vec<u8>>, AllocError>
+    ensures { IfOk result (λ o. IfSome o (λ v. specs.IsNote idioms v.items)) }
+{
+    let _ = idioms;
+    Ok(Some(Vec::new(alloc)))
+}
+
+/// Returns what is written right before the call that is put in the place of a statement between
+/// two offsets, or `None` if nothing may be put there: Autoconf makes checks before a call in the
+/// statement, and a comment that says so isn't wanted, or can't be on a line of its own.
+pub(crate) fn note_for(
+    alloc: Global,
+    idioms: Idioms,
+    drawing: &[usize],
+    text: &[u8],
+    start: usize,
+    end: usize,
+) -> Result<Option<Vec<u8>>, AllocError>
+    ensures { IfOk result (λ o. IfSome o (λ v. specs.IsNote idioms v.items)) }
+{
+    if draws(drawing, start, end) {
+        note_with(alloc, idioms, part(text, line_start(text, start), start))
+    } else {
+        no_note(alloc, idioms)
+    }
+}
