@@ -434,13 +434,13 @@ pub const TEXT_BEFORE_INIT: Key = Key(b"text-before-init", b"something is before
 #[rattlefmt::skip]
 pub const INIT_NOT_FIRST: Key = Key(b"init-not-first", b"something is before AC_INIT; begin with AC_INIT([package], [version])", b"");
 
-/// , since as a call WHAT
+/// ; the call in its place is refused: WHAT
 #[rattlefmt::skip]
-pub const CALL_IS_REFUSED: Key = Key(b"call-is-refused", b", since as a call \x01", b"");
+pub const CALL_IS_REFUSED: Key = Key(b"call-is-refused", b"; the call in its place is refused: \x01", b"");
 
-/// , since Autoconf would make the checks that its macros require in any case; acrun port --idioms writes it
+/// ; with a call in its place, Autoconf makes the checks that its macros require in any case: acrun port --idioms writes it
 #[rattlefmt::skip]
-pub const CALL_DRAWS: Key = Key(b"call-draws", b", since Autoconf would make the checks that its macros require in any case; acrun port --idioms writes it", b"");
+pub const CALL_DRAWS: Key = Key(b"call-draws", b"; with a call in its place, Autoconf makes the checks that its macros require in any case: acrun port --idioms writes it", b"");
 
 /// there is no AC_INIT
 #[rattlefmt::skip]
