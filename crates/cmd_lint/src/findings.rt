@@ -6,6 +6,7 @@ ghost use Rattle.cmd_lint.specs.Status.{HasError};
 ghost use Rattle.ac_tree.specs.Script.{script_of};
 
 use crate::reading::Linted;
+use crate::reasons::add_reasons;
 use crate::sheets::{Sheets, sheets_of};
 use crate::templates::read_all;
 use crate::warnings::add_warnings;
@@ -108,6 +109,7 @@ fn finish(
     sheets: &Sheets,
     found: &mut Vec<Finding>,
 ) -> Result<(), AllocError> {
+    add_reasons(alloc, text, found)?;
     let calls = calls_of(alloc, text)?;
     add_all_warnings(alloc, text, calls.as_slice(), source, sheets, found)?;
     put_in_order(found)

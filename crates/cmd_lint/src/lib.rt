@@ -11,12 +11,14 @@
 //! "own" marks a rule that no manual gives.
 //!
 //! Read `command`, then `reading`, which reads a source, `findings`, which finds, and `showing`.
-//! `words` reads the words of the command, and `templates` the templates of a source.
+//! `words` reads the words of the command, `templates` the templates of a source, and `reasons` says
+//! of a statement of a shell why no call can be put in its place.
 #![tactic(auto)]
 
 mod command;
 mod findings;
 mod reading;
+mod reasons;
 mod sheets;
 mod showing;
 mod templates;
@@ -25,4 +27,5 @@ mod words;
 
 pub use command::{may_colour, run_lint};
 pub use reading::{Linted, SOURCE, read_named};
+pub use reasons::add_reasons;
 pub use words::{has_input, is_option};

@@ -6,11 +6,9 @@ ghost use Rattle.cmd_port.specs.Ported as specs;
 
 use crate::lines::{FRONT, Line, comment_line, lines_of};
 use ac_calls::calls_of;
-use deftable::Bytes;
 use lint_findings::Finding;
-use lint_table::{Page, WordPart, keys};
+use lint_table::{Page, keys};
 use lint_text::{first_line, first_word, from};
-use port_shell::{Reason, Staying, staying};
 use std::alloc::{AllocError, Global};
 use std::collections::BTreeSet;
 use text_cut::parts;
@@ -73,38 +71,9 @@ fn said(alloc: Global, error: &Finding) -> Result<Vec<u8>, AllocError> {
     Ok(words)
 }
 
-/// Returns why a statement stays, after what is said of it.
-fn because(alloc: Global, reason: &Reason) -> Result<Bytes, AllocError> {
-    let mut page = Page::new(alloc);
-    match reason {
-        Reason::Refused(what) => {
-            page.put(keys::CALL_IS_REFUSED, &[WordPart::AsItIs(what.as_slice())]);
-        }
-        Reason::Draws => page.put(keys::CALL_DRAWS, &[]),
-    }
-    page.message()
-}
-
-/// Returns what is said of an error, and why, if it is at a statement that stays.
-fn said_with_reason(
-    alloc: Global,
-    error: &Finding,
-    staying: &[Staying],
-) -> Result<Vec<u8>, AllocError> {
-    let mut words = said(alloc, error)?;
-    if !is_of_text(error) {
-        return Ok(words);
-    }
-    if let Ok(at) = staying.binary_search_by(|statement| statement.start.cmp(&error.start)) {
-        let why = because(alloc, &staying[at].reason)?;
-        words.extend_from_slice(why.as_slice())?;
-    }
-    Ok(words)
-}
-
 /// Returns what is said of an error, in lines whose brackets are closed.
-fn words_of(alloc: Global, error: &Finding, staying: &[Staying]) -> Result<Vec<u8>, AllocError> {
-    let words = said_with_reason(alloc, error, staying)?;
+fn words_of(alloc: Global, error: &Finding) -> Result<Vec<u8>, AllocError> {
+    let words = said(alloc, error)?;
     if is_closed(words.as_slice()) {
         return Ok(words);
     }
@@ -197,13 +166,12 @@ fn push_note(
     alloc: Global,
     lines: &[Line],
     error: &Finding,
-    staying: &[Staying],
     said: &mut Said,
     out: &mut Vec<Note>,
 ) -> Result<(), AllocError> {
     let note = Note {
         line: comment_line(lines, error.start),
-        words: words_of(alloc, error, staying)?,
+        words: words_of(alloc, error)?,
     };
     if add_note(alloc, &note, said)? {
         out.push(note)?;
@@ -221,12 +189,11 @@ fn notes_of(
     errors: &[Finding],
 ) -> Result<Vec<Note>, AllocError> {
     let mut said = said_in(alloc, text, lines)?;
-    let staying = staying(alloc, text)?;
     let mut out = Vec::new(alloc);
     let mut has_text = false;
     for error in errors {
         if !has_text || !is_continuing(text, error) {
-            push_note(alloc, lines, error, staying.as_slice(), &mut said, &mut out)?;
+            push_note(alloc, lines, error, &mut said, &mut out)?;
         }
         has_text |= is_of_text(error);
     }

@@ -6,6 +6,7 @@ ghost use Rattle.cmd_port.specs.Ported as specs;
 
 use crate::comments::commented;
 use crate::moving::moved;
+use cmd_lint::add_reasons;
 use deftable::Bytes;
 use lint_all::all_errors;
 use lint_errors::errors_of;
@@ -52,10 +53,11 @@ fn with_errors(alloc: Global, text: &[u8], errors: &[Finding]) -> Result<Ported,
 fn printed(alloc: Global, text: Vec<u8>) -> Result<Ported, AllocError>
     ensures { IfOk result (λ p. specs.IsPrinted text.items p.has_comments p.text) }
 {
-    let errors = all_errors(alloc, text.as_slice())?;
+    let mut errors = all_errors(alloc, text.as_slice())?;
     if errors.is_empty() {
         return Ok(whole(text));
     }
+    add_reasons(alloc, text.as_slice(), errors.as_mut_slice())?;
     with_errors(alloc, text.as_slice(), errors.as_slice())
 }
 

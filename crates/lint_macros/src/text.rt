@@ -16,7 +16,7 @@ AS_IF([$2{TEST}],
   [$1!{NAME}_TRUE='#' $1!{NAME}_FALSE=])
 AC_SUBST([$1!{NAME}_TRUE])
 AC_SUBST([$1!{NAME}_FALSE])~drop AC_C_CONST AC_C_INLINE AC_C_VOLATILE AC_C_RESTRICT AC_C_PROTOTYPES AC_C_STRINGIZE AC_C_TYPEOF AC_C_BACKSLASH_A AC_C_CHAR_UNSIGNED AC_CONST AC_INLINE AC_PROG_CC_STDC AC_PROG_CC_C89 AC_PROG_CC_C99 AC_PROG_GCC_TRADITIONAL AM_PROG_CC_STDC AM_C_PROTOTYPES gl_PROG_CC_C99 AC_CHAR_UNSIGNED
-each compiler of this century has it, and AC_PROG_CC looks for the compiler; a flag such as -std=gnu99 is given in CFLAGS or CC~drop AC_ISC_POSIX AC_AIX AC_MINIX AC_ZOS_USS AC_EMXOS2 AC_HEADER_STAT AC_STRUCT_TM AC_FUNC_STAT AC_FUNC_LSTAT AC_FUNC_MEMCMP AC_FUNC_CLOSEDIR_VOID AC_FUNC_SETVBUF_REVERSED AC_FUNC_MKTIME AC_FUNC_STRTOD AC_SETVBUF_REVERSED AC_FUNC_CALLOC
+each compiler of this century has it, and AC_PROG_CC looks for the compiler; a flag such as -std=gnu99 is given in CFLAGS or CC~drop AC_ISC_POSIX AC_AIX AC_MINIX AC_ZOS_USS AC_EMXOS2 AC_HEADER_STAT AC_STRUCT_TM AC_FUNC_STAT AC_FUNC_LSTAT AC_FUNC_MEMCMP AC_FUNC_CLOSEDIR_VOID AC_FUNC_SETVBUF_REVERSED AC_FUNC_MKTIME AC_FUNC_STRTOD AC_SETVBUF_REVERSED
 it looks for a fault of systems that are long gone~drop AC_TYPE_INT8_T AC_TYPE_INT16_T AC_TYPE_INT32_T AC_TYPE_INT64_T AC_TYPE_UINT8_T AC_TYPE_UINT16_T AC_TYPE_UINT32_T AC_TYPE_UINT64_T AC_TYPE_INTMAX_T AC_TYPE_UINTMAX_T AC_TYPE_INTPTR_T AC_TYPE_UINTPTR_T AC_TYPE_LONG_LONG_INT AC_TYPE_UNSIGNED_LONG_LONG_INT AC_TYPE_LONG_DOUBLE AC_C_LONG_DOUBLE AC_TYPE_MBSTATE_T AC_C_FLEXIBLE_ARRAY_MEMBER AC_C_VARARRAYS gl_C_BOOL gl_AC_TYPE_LONG_LONG
 each compiler of this century has it, the types in stdint.h; if the sources test a name such as HAVE_INTMAX_T, define it by AC_DEFINE~idiom AC_USE_SYSTEM_EXTENSIONS AC_GNU_SOURCE gl_USE_SYSTEM_EXTENSIONS AC_POSIX_SOURCE
 AC_DEFINE([_GNU_SOURCE], [1], [Enable GNU extensions.])
@@ -176,8 +176,8 @@ AC_DEFINE([YYTEXT_POINTER], [1], [Define to 1 if yytext is a char *.])~idiom AM_
 AC_ARG_VAR([CCAS], [assembler])
 AC_ARG_VAR([CCASFLAGS], [flags of the assembler])
 AS_IF([test -z \"$CCAS\"], [CCAS=$CC])
-AS_IF([test -z \"$CCASFLAGS\"], [CCASFLAGS=$CFLAGS])~drop AC_PROG_MAKE_SET AC_SET_MAKE
-drop @SET_MAKE@ from the template: each make sets MAKE~idiom AC_PROG_SHELL
+AS_IF([test -z \"$CCASFLAGS\"], [CCASFLAGS=$CFLAGS])~idiom AC_PROG_MAKE_SET AC_SET_MAKE
+AC_SUBST([SET_MAKE])~idiom AC_PROG_SHELL
 AC_SUBST([SHELL], [/bin/sh])~idiom AC_OBJEXT
 AC_SUBST([OBJEXT], [o])~idiom AC_EXEEXT
 AC_SUBST([EXEEXT])~idiom AC_ARG_PROGRAM
@@ -212,45 +212,70 @@ AC_PREPROC_IFELSE([AC_LANG_SOURCE([[#include <stdio.h>
 #ifndef SYMBOL
 #error none
 #endif]])], [$3{FOUND}], [$4{NOT-FOUND}])~idiom AC_EGREP_HEADER
+dnl of a type: AC_CHECK_TYPE with the same arguments
 AC_CHECK_DECL([$1!{SYMBOL}], [$3{FOUND}], [$4{NOT-FOUND}], [#include <$2!{HEADER}>])~idiom AC_CHECK_MEMBERS
-dnl includes of the call replace those of AC_LANG_PROGRAM
 AC_CACHE_CHECK([for $1{TYPE.MEMBER}], [ac_cv_member_$1_{TYPE_MEMBER}],
   [AC_COMPILE_IFELSE([AC_LANG_PROGRAM([AC_INCLUDES_DEFAULT
+#include <inttypes.h>
 #include <sys/stat.h>
 #include <unistd.h>],
-      [[return sizeof ((($1<{TYPE} *) 0)->$1>{MEMBER}) == 0;]])],
-    [ac_cv_member_$1_{TYPE_MEMBER}=yes], [ac_cv_member_$1_{TYPE_MEMBER}=no])])
+      [[static $1<{TYPE} whole; if (whole.$1>{MEMBER}) return 0;]])],
+    [ac_cv_member_$1_{TYPE_MEMBER}=yes],
+    [AC_COMPILE_IFELSE([AC_LANG_PROGRAM([AC_INCLUDES_DEFAULT
+#include <inttypes.h>
+#include <sys/stat.h>
+#include <unistd.h>],
+        [[static $1<{TYPE} whole; if (sizeof whole.$1>{MEMBER}) return 0;]])],
+      [ac_cv_member_$1_{TYPE_MEMBER}=yes], [ac_cv_member_$1_{TYPE_MEMBER}=no])])])
 AS_IF([test \"$ac_cv_member_$1_{TYPE_MEMBER}\" = yes],
   [AC_DEFINE([HAVE_$1^{TYPE_MEMBER}], [1], [Define to 1 if there is $1{TYPE.MEMBER}.])])~idiom AC_CHECK_MEMBER
-dnl includes of the call replace those of AC_LANG_PROGRAM
 AC_CACHE_CHECK([for $1{TYPE.MEMBER}], [ac_cv_member_$1_{TYPE_MEMBER}],
   [AC_COMPILE_IFELSE([AC_LANG_PROGRAM([AC_INCLUDES_DEFAULT
+#include <inttypes.h>
 #include <sys/stat.h>
 #include <unistd.h>],
-      [[return sizeof ((($1<{TYPE} *) 0)->$1>{MEMBER}) == 0;]])],
-    [ac_cv_member_$1_{TYPE_MEMBER}=yes], [ac_cv_member_$1_{TYPE_MEMBER}=no])])
+      [[static $1<{TYPE} whole; if (whole.$1>{MEMBER}) return 0;]])],
+    [ac_cv_member_$1_{TYPE_MEMBER}=yes],
+    [AC_COMPILE_IFELSE([AC_LANG_PROGRAM([AC_INCLUDES_DEFAULT
+#include <inttypes.h>
+#include <sys/stat.h>
+#include <unistd.h>],
+        [[static $1<{TYPE} whole; if (sizeof whole.$1>{MEMBER}) return 0;]])],
+      [ac_cv_member_$1_{TYPE_MEMBER}=yes], [ac_cv_member_$1_{TYPE_MEMBER}=no])])])
 AS_IF([test \"$ac_cv_member_$1_{TYPE_MEMBER}\" = yes], [$2{FOUND}], [$3{NOT-FOUND}])~idiom AC_CHECK_MEMBERS(actions)
-dnl includes of the call replace those of AC_LANG_PROGRAM
 AC_CACHE_CHECK([for $1{TYPE.MEMBER}], [ac_cv_member_$1_{TYPE_MEMBER}],
   [AC_COMPILE_IFELSE([AC_LANG_PROGRAM([AC_INCLUDES_DEFAULT
+#include <inttypes.h>
 #include <sys/stat.h>
 #include <unistd.h>],
-      [[return sizeof ((($1<{TYPE} *) 0)->$1>{MEMBER}) == 0;]])],
-    [ac_cv_member_$1_{TYPE_MEMBER}=yes], [ac_cv_member_$1_{TYPE_MEMBER}=no])])
+      [[static $1<{TYPE} whole; if (whole.$1>{MEMBER}) return 0;]])],
+    [ac_cv_member_$1_{TYPE_MEMBER}=yes],
+    [AC_COMPILE_IFELSE([AC_LANG_PROGRAM([AC_INCLUDES_DEFAULT
+#include <inttypes.h>
+#include <sys/stat.h>
+#include <unistd.h>],
+        [[static $1<{TYPE} whole; if (sizeof whole.$1>{MEMBER}) return 0;]])],
+      [ac_cv_member_$1_{TYPE_MEMBER}=yes], [ac_cv_member_$1_{TYPE_MEMBER}=no])])])
 AS_IF([test \"$ac_cv_member_$1_{TYPE_MEMBER}\" = yes],
   [AC_DEFINE([HAVE_$1^{TYPE_MEMBER}], [1], [Define to 1 if there is $1{TYPE.MEMBER}.])
   $2{FOUND}], [$3{NOT-FOUND}])~idiom AC_CHECK_MEMBERS(includes)
 AC_CACHE_CHECK([for $1{TYPE.MEMBER}], [ac_cv_member_$1_{TYPE_MEMBER}],
   [AC_COMPILE_IFELSE([AC_LANG_PROGRAM([$4{INCLUDES}],
-      [[return sizeof ((($1<{TYPE} *) 0)->$1>{MEMBER}) == 0;]])],
-    [ac_cv_member_$1_{TYPE_MEMBER}=yes], [ac_cv_member_$1_{TYPE_MEMBER}=no])])
+      [[static $1<{TYPE} whole; if (whole.$1>{MEMBER}) return 0;]])],
+    [ac_cv_member_$1_{TYPE_MEMBER}=yes],
+    [AC_COMPILE_IFELSE([AC_LANG_PROGRAM([$4{INCLUDES}],
+        [[static $1<{TYPE} whole; if (sizeof whole.$1>{MEMBER}) return 0;]])],
+      [ac_cv_member_$1_{TYPE_MEMBER}=yes], [ac_cv_member_$1_{TYPE_MEMBER}=no])])])
 AS_IF([test \"$ac_cv_member_$1_{TYPE_MEMBER}\" = yes],
   [AC_DEFINE([HAVE_$1^{TYPE_MEMBER}], [1], [Define to 1 if there is $1{TYPE.MEMBER}.])
   $2{FOUND}], [$3{NOT-FOUND}])~idiom AC_CHECK_MEMBER(includes)
 AC_CACHE_CHECK([for $1{TYPE.MEMBER}], [ac_cv_member_$1_{TYPE_MEMBER}],
   [AC_COMPILE_IFELSE([AC_LANG_PROGRAM([$4{INCLUDES}],
-      [[return sizeof ((($1<{TYPE} *) 0)->$1>{MEMBER}) == 0;]])],
-    [ac_cv_member_$1_{TYPE_MEMBER}=yes], [ac_cv_member_$1_{TYPE_MEMBER}=no])])
+      [[static $1<{TYPE} whole; if (whole.$1>{MEMBER}) return 0;]])],
+    [ac_cv_member_$1_{TYPE_MEMBER}=yes],
+    [AC_COMPILE_IFELSE([AC_LANG_PROGRAM([$4{INCLUDES}],
+        [[static $1<{TYPE} whole; if (sizeof whole.$1>{MEMBER}) return 0;]])],
+      [ac_cv_member_$1_{TYPE_MEMBER}=yes], [ac_cv_member_$1_{TYPE_MEMBER}=no])])])
 AS_IF([test \"$ac_cv_member_$1_{TYPE_MEMBER}\" = yes], [$2{FOUND}], [$3{NOT-FOUND}])~idiom AC_STRUCT_TIMEZONE AC_TIMEZONE
 AC_CACHE_CHECK([for struct tm.tm_zone], [ac_cv_member_struct_tm_tm_zone],
   [AC_COMPILE_IFELSE([AC_LANG_PROGRAM([[#include <time.h>]], [[return sizeof (((struct tm *) 0)->tm_zone) == 0;]])],
@@ -261,40 +286,83 @@ AS_IF([test \"$ac_cv_member_struct_tm_tm_zone\" = yes],
   [AC_CHECK_DECLS([tzname], [AC_DEFINE([HAVE_TZNAME], [1], [Define to 1 if there is tzname.])], [], [#include <time.h>])])~none AC_STRUCT_ST_BLKSIZE AC_STRUCT_ST_BLOCKS AC_STRUCT_ST_RDEV AC_STRUCT_DIRENT_D_TYPE AC_STRUCT_DIRENT_D_INO AC_ST_BLKSIZE AC_ST_BLOCKS AC_ST_RDEV
 write what AC_CHECK_MEMBERS of the member is written as: AC_COMPILE_IFELSE of a program that uses it~idiom AC_CHECK_SIZEOF AC_SIZEOF_TYPE
 AC_CACHE_CHECK([size of $1{TYPE}], [ac_cv_sizeof_$1_{TYPE}],
-  [AC_COMPILE_IFELSE([AC_LANG_PROGRAM([AC_INCLUDES_DEFAULT],
+  [AC_COMPILE_IFELSE([AC_LANG_PROGRAM([AC_INCLUDES_DEFAULT
+#include <inttypes.h>
+#include <sys/stat.h>
+#include <unistd.h>],
       [[static int wanted[sizeof ($1{TYPE}) == 8 ? 1 : -1]; return wanted[0];]])],
     [ac_cv_sizeof_$1_{TYPE}=8],
-    [AC_COMPILE_IFELSE([AC_LANG_PROGRAM([AC_INCLUDES_DEFAULT],
+    [AC_COMPILE_IFELSE([AC_LANG_PROGRAM([AC_INCLUDES_DEFAULT
+#include <inttypes.h>
+#include <sys/stat.h>
+#include <unistd.h>],
         [[static int wanted[sizeof ($1{TYPE}) == 4 ? 1 : -1]; return wanted[0];]])],
       [ac_cv_sizeof_$1_{TYPE}=4],
-      [AC_COMPILE_IFELSE([AC_LANG_PROGRAM([AC_INCLUDES_DEFAULT],
+      [AC_COMPILE_IFELSE([AC_LANG_PROGRAM([AC_INCLUDES_DEFAULT
+#include <inttypes.h>
+#include <sys/stat.h>
+#include <unistd.h>],
           [[static int wanted[sizeof ($1{TYPE}) == 2 ? 1 : -1]; return wanted[0];]])],
         [ac_cv_sizeof_$1_{TYPE}=2],
-        [AC_COMPILE_IFELSE([AC_LANG_PROGRAM([AC_INCLUDES_DEFAULT],
+        [AC_COMPILE_IFELSE([AC_LANG_PROGRAM([AC_INCLUDES_DEFAULT
+#include <inttypes.h>
+#include <sys/stat.h>
+#include <unistd.h>],
             [[static int wanted[sizeof ($1{TYPE}) == 1 ? 1 : -1]; return wanted[0];]])],
           [ac_cv_sizeof_$1_{TYPE}=1],
-          [AC_COMPILE_IFELSE([AC_LANG_PROGRAM([AC_INCLUDES_DEFAULT],
+          [AC_COMPILE_IFELSE([AC_LANG_PROGRAM([AC_INCLUDES_DEFAULT
+#include <inttypes.h>
+#include <sys/stat.h>
+#include <unistd.h>],
               [[static int wanted[sizeof ($1{TYPE}) == 16 ? 1 : -1]; return wanted[0];]])],
-            [ac_cv_sizeof_$1_{TYPE}=16], [ac_cv_sizeof_$1_{TYPE}=0])])])])])])
+            [ac_cv_sizeof_$1_{TYPE}=16],
+            [AC_COMPILE_IFELSE([AC_LANG_PROGRAM([AC_INCLUDES_DEFAULT
+#include <inttypes.h>
+#include <sys/stat.h>
+#include <unistd.h>],
+                [[static int wanted[sizeof ($1{TYPE}) == 12 ? 1 : -1]; return wanted[0];]])],
+              [ac_cv_sizeof_$1_{TYPE}=12],
+              [AC_COMPILE_IFELSE([AC_LANG_PROGRAM([AC_INCLUDES_DEFAULT
+#include <inttypes.h>
+#include <sys/stat.h>
+#include <unistd.h>],
+                  [[return sizeof ($1{TYPE}) == 0;]])],
+                [ac_cv_sizeof_$1_{TYPE}=none], [ac_cv_sizeof_$1_{TYPE}=0])])])])])])])])
+AS_IF([test \"$ac_cv_sizeof_$1_{TYPE}\" = none], [AC_MSG_ERROR([$1{TYPE} has none of the sizes that are tried], [77])])
 AC_DEFINE_UNQUOTED([SIZEOF_$1^{TYPE}], [$ac_cv_sizeof_$1_{TYPE}], [The size of $1{TYPE}, as computed by sizeof.])~idiom AC_CHECK_ALIGNOF
 AC_CACHE_CHECK([alignment of $1{TYPE}], [ac_cv_alignof_$1_{TYPE}],
   [AC_COMPILE_IFELSE([AC_LANG_PROGRAM([AC_INCLUDES_DEFAULT
+#include <inttypes.h>
+#include <sys/stat.h>
+#include <unistd.h>
 struct both { char c; $1{TYPE} t; };],
       [[static int wanted[offsetof (struct both, t) == 8 ? 1 : -1]; return wanted[0];]])],
     [ac_cv_alignof_$1_{TYPE}=8],
     [AC_COMPILE_IFELSE([AC_LANG_PROGRAM([AC_INCLUDES_DEFAULT
+#include <inttypes.h>
+#include <sys/stat.h>
+#include <unistd.h>
 struct both { char c; $1{TYPE} t; };],
         [[static int wanted[offsetof (struct both, t) == 4 ? 1 : -1]; return wanted[0];]])],
       [ac_cv_alignof_$1_{TYPE}=4],
       [AC_COMPILE_IFELSE([AC_LANG_PROGRAM([AC_INCLUDES_DEFAULT
+#include <inttypes.h>
+#include <sys/stat.h>
+#include <unistd.h>
 struct both { char c; $1{TYPE} t; };],
           [[static int wanted[offsetof (struct both, t) == 2 ? 1 : -1]; return wanted[0];]])],
         [ac_cv_alignof_$1_{TYPE}=2],
         [AC_COMPILE_IFELSE([AC_LANG_PROGRAM([AC_INCLUDES_DEFAULT
+#include <inttypes.h>
+#include <sys/stat.h>
+#include <unistd.h>
 struct both { char c; $1{TYPE} t; };],
             [[static int wanted[offsetof (struct both, t) == 1 ? 1 : -1]; return wanted[0];]])],
           [ac_cv_alignof_$1_{TYPE}=1],
           [AC_COMPILE_IFELSE([AC_LANG_PROGRAM([AC_INCLUDES_DEFAULT
+#include <inttypes.h>
+#include <sys/stat.h>
+#include <unistd.h>
 struct both { char c; $1{TYPE} t; };],
               [[static int wanted[offsetof (struct both, t) == 16 ? 1 : -1]; return wanted[0];]])],
             [ac_cv_alignof_$1_{TYPE}=16], [ac_cv_alignof_$1_{TYPE}=0])])])])])])

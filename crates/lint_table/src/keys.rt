@@ -296,7 +296,7 @@ pub const SHELL_FOR: Key = Key(b"shell-for", b"`\x01` of the shell is not read",
 
 /// `WORD` is not run
 #[rattlefmt::skip]
-pub const SHELL_ECHO: Key = Key(b"shell-echo", b"`\x01` is not run", b"write instead\nAC_MSG_NOTICE([text])");
+pub const SHELL_ECHO: Key = Key(b"shell-echo", b"`\x01` is not run", b"write instead\nAC_MSG_RESULT([text])");
 
 /// `WORD` is not read
 #[rattlefmt::skip]
@@ -734,9 +734,9 @@ pub const SET_SHELL: Key = Key(b"set-shell", b"", b"write in configure.ac\n  AC_
 #[rattlefmt::skip]
 pub const SET_DEFS: Key = Key(b"set-defs", b"", b"there is no config header; write the definitions into a header of AC_CONFIG_HEADERS, or build DEFS by hand with AC_SUBST");
 
-/// leave it out: each make sets MAKE
+/// write AC_SUBST([SET_MAKE]), or leave it out: each make sets MAKE
 #[rattlefmt::skip]
-pub const SET_MAKE: Key = Key(b"set-make", b"", b"leave it out: each make sets MAKE");
+pub const SET_MAKE: Key = Key(b"set-make", b"", b"write AC_SUBST([SET_MAKE]), or leave it out: each make sets MAKE");
 
 /// write in configure.ac
 #[rattlefmt::skip]

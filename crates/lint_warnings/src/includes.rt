@@ -13,7 +13,8 @@ type Row = (&'static [u8], &'static [u8]);
 
 /// The headers that Autoconf's default includes have and acrun's don't, each with the names that
 /// C17 and POSIX (IEEE Std 1003.1-2024, and those that earlier editions have besides) have in it,
-/// and in no header of acrun's default includes.
+/// and in no header of acrun's default includes. In `unistd.h` are also the types that glibc alone
+/// has there.
 #[rattlefmt::skip]
 const ROWS: [Row; 5] = [
     (b"stdint.h", b"int8_t uint8_t int_least8_t uint_least8_t int_fast8_t uint_fast8_t INT8_MIN INT8_MAX \
@@ -48,7 +49,7 @@ const ROWS: [Row; 5] = [
         pause pipe pipe2 posix_close pread pwrite read readlink readlinkat rmdir setegid \
         seteuid setgid setpgid setpgrp setregid setresgid setresuid setreuid setsid setuid \
         sleep swab symlink symlinkat sync sysconf tcgetpgrp tcsetpgrp truncate ttyname \
-        ttyname_r ualarm unlink unlinkat usleep vfork write F_OK R_OK W_OK X_OK F_LOCK \
+        ttyname_r ualarm unlink unlinkat usleep vfork write socklen_t useconds_t F_OK R_OK W_OK X_OK F_LOCK \
         F_TEST F_TLOCK F_ULOCK STDIN_FILENO STDOUT_FILENO STDERR_FILENO _POSIX_VERSION \
         _POSIX2_VERSION _XOPEN_VERSION _POSIX_VDISABLE _CS_PATH _PC_2_SYMLINKS \
         _PC_ALLOC_SIZE_MIN _PC_ASYNC_IO _PC_CHOWN_RESTRICTED _PC_FILESIZEBITS _PC_LINK_MAX \

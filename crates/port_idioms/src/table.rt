@@ -53,6 +53,7 @@ AC_PROG_INSTALL 0 0
 AC_PROG_LN_S 0 0
 AC_PROG_MKDIR_P 0 0
 AC_PROG_SED 0 0
+AC_PROG_YACC 0 0
 AC_RETSIGTYPE 0 0
 AC_REVISION 0 1
 AC_SETVBUF_REVERSED 0 0
@@ -99,14 +100,14 @@ AC_CANONICAL_HOST 0 0 the system is not detected, so the user gives host and its
 AC_CANONICAL_SYSTEM 0 0 no system is detected, so the user gives host, target and their parts, as NAME=VALUE
 AC_CANONICAL_TARGET 0 0 no system is detected, so the user gives host, target and their parts, as NAME=VALUE
 AC_CHAR_UNSIGNED 0 0 the compiler defines __CHAR_UNSIGNED__ itself
-AC_CHECK_ALIGNOF 1 1 the program includes the default headers of acrun, and an alignment other than 1, 2, 4, 8 and 16 is 0
+AC_CHECK_ALIGNOF 1 1 the headers that Autoconf includes are taken to be there, and an alignment other than 1, 2, 4, 8 and 16 is 0
 AC_CHECK_HEADER_STDBOOL 0 0 HAVE_STDBOOL_H is defined if the header is there
-AC_CHECK_MEMBER 1 3 the program includes the default headers of acrun, sys/stat.h and unistd.h, and a bit-field counts as missing
+AC_CHECK_MEMBER 1 3 the headers that Autoconf includes are taken to be there
 AC_CHECK_MEMBER(includes) 4 4 a bit-field counts as missing
-AC_CHECK_MEMBERS 1 1 the program includes the default headers of acrun, sys/stat.h and unistd.h, and a bit-field counts as missing
-AC_CHECK_MEMBERS(actions) 2 3 the program includes the default headers of acrun, sys/stat.h and unistd.h, and a bit-field counts as missing
+AC_CHECK_MEMBERS 1 1 the headers that Autoconf includes are taken to be there
+AC_CHECK_MEMBERS(actions) 2 3 the headers that Autoconf includes are taken to be there
 AC_CHECK_MEMBERS(includes) 4 4 a bit-field counts as missing
-AC_CHECK_SIZEOF 1 2 the program includes the default headers of acrun, and a size other than 1, 2, 4, 8 and 16 is 0
+AC_CHECK_SIZEOF 1 2 the headers that Autoconf includes are taken to be there, and a size other than 1, 2, 4, 8, 12 and 16 is an error
 AC_CHECK_TARGET_TOOL 2 3 no program whose name begins with that of the host is looked for
 AC_CHECK_TARGET_TOOLS 2 3 no program whose name begins with that of the host is looked for
 AC_CHECK_TOOL 2 3 no program whose name begins with that of the host is looked for
@@ -127,26 +128,25 @@ AC_C_VARARRAYS 0 0 nothing is defined, and the compiler is taken to have it
 AC_DIRENT 0 0 no other header and no library of directories is looked for
 AC_DIR_HEADER 0 0 no other header and no library of directories is looked for
 AC_FUNC_ALLOCA 0 0 the function is taken to be there, and ALLOCA is empty
-AC_FUNC_CALLOC 0 0 the function is taken to work
 AC_FUNC_CHOWN 0 0 no program is run, so a function that is there counts as one that works
-AC_FUNC_CLOSEDIR_VOID 0 0 the function is taken to work
+AC_FUNC_CLOSEDIR_VOID 0 0 the function is taken to work, and nothing is defined
 AC_FUNC_ERROR_AT_LINE 0 0 the object is in EXTRA_OBJS and not in LIBOBJS
 AC_FUNC_FORK 0 0 no program is run, so a function that is there counts as one that works
 AC_FUNC_FSEEKO 0 0 _LARGEFILE_SOURCE is not defined
 AC_FUNC_GETPGRP 0 0 GETPGRP_VOID is defined without a check
-AC_FUNC_LSTAT 0 0 the function is taken to work
+AC_FUNC_LSTAT 0 0 the function is taken to work, and nothing is defined
 AC_FUNC_LSTAT_FOLLOWS_SLASHED_SYMLINK 0 0 the name is defined without a check
 AC_FUNC_MALLOC 0 0 HAVE_MALLOC is 1 without a check
-AC_FUNC_MEMCMP 0 0 the function is taken to work
-AC_FUNC_MKTIME 0 0 the function is taken to work
+AC_FUNC_MEMCMP 0 0 the function is taken to work, and nothing is defined
+AC_FUNC_MKTIME 0 0 the function is taken to work, and nothing is defined
 AC_FUNC_MMAP 0 0 no program is run, so a function that is there counts as one that works
 AC_FUNC_REALLOC 0 0 HAVE_REALLOC is 1 without a check
 AC_FUNC_SELECT_ARGTYPES 0 0 the types are those of POSIX, without a check
 AC_FUNC_SETPGRP 0 0 SETPGRP_VOID is defined without a check
-AC_FUNC_STAT 0 0 the function is taken to work
+AC_FUNC_STAT 0 0 the function is taken to work, and nothing is defined
 AC_FUNC_STRCOLL 0 0 no program is run, so a function that is there counts as one that works
 AC_FUNC_STRNLEN 0 0 no program is run, and the object is in EXTRA_OBJS and not in LIBOBJS
-AC_FUNC_STRTOD 0 0 the function is taken to work
+AC_FUNC_STRTOD 0 0 the function is taken to work, and nothing is defined
 AC_FUNC_UTIME_NULL 0 0 HAVE_UTIME_NULL is defined without a check
 AC_FUNC_VFORK 0 0 no program is run, so a function that is there counts as one that works
 AC_GETGROUPS_T 0 0 GETGROUPS_T is gid_t without a check
@@ -175,11 +175,11 @@ AC_PROG_EGREP 0 0 no program is looked for
 AC_PROG_FGREP 0 0 no program is looked for
 AC_PROG_GCC_TRADITIONAL 0 0 no flag is added
 AC_PROG_LEX 0 0 no scanner is made, so yytext is taken to be a pointer
-AC_PROG_MAKE_SET 0 0 each make sets MAKE, so @SET_MAKE@ has to go from the templates
+AC_PROG_MAKE_SET 0 0 make is taken to set MAKE, so SET_MAKE is empty
 AC_PROG_RANLIB 0 0 no program whose name begins with that of the host is looked for
 AC_REPLACE_FUNCS 1 1 the object is in EXTRA_OBJS and not in LIBOBJS
-AC_SET_MAKE 0 0 each make sets MAKE, so @SET_MAKE@ has to go from the templates
-AC_SIZEOF_TYPE 1 1 the program includes the default headers of acrun, and a size other than 1, 2, 4, 8 and 16 is 0
+AC_SET_MAKE 0 0 make is taken to set MAKE, so SET_MAKE is empty
+AC_SIZEOF_TYPE 1 1 the headers that Autoconf includes are taken to be there, and a size other than 1, 2, 4, 8, 12 and 16 is an error
 AC_STDC_HEADERS 0 0 STDC_HEADERS is defined without a check
 AC_STRCOLL 0 0 no program is run, so a function that is there counts as one that works
 AC_SYS_LARGEFILE 0 0 _FILE_OFFSET_BITS is defined on each system, and --disable-largefile is not read
