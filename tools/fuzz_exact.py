@@ -18,6 +18,7 @@ import pathlib
 import random
 import re
 import shutil
+import string
 import subprocess
 import sys
 import tempfile
@@ -99,7 +100,7 @@ class Room:
             (given / f"my{name}").symlink_to(shutil.which(name))
         (given / "myawk").symlink_to(awk)
         for name in ("ranlib", "strip", "nm", "ar", "cpp"):
-            (given / f"my{name}").write_text(quiet)
+            (given / f"my{name}").write_text('#!/bin/sh\nexec gcc -E "$@"\n' if name == "cpp" else quiet)
             (given / f"my{name}").chmod(0o755)
 
     @contextlib.contextmanager
@@ -123,10 +124,12 @@ class Setting:
     programs: str = "plain"
     is_cross: bool = False
     seed: int = 0
+    by: str = "port"
 
     def shown(self):
         of_env = " ".join(f"{name}={value}" for name, value in self.environment)
-        return f"{of_env} ./configure {' '.join(self.arguments)}  # programs {self.programs}, {'cross, ' * self.is_cross}seed {self.seed}".strip()
+        about = f"programs {self.programs}, {'cross, ' * self.is_cross}seed {self.seed}"
+        return f"{self.by}: {of_env} ./configure {' '.join(self.arguments)}  ({about})"
 
 
 def section(log, title):
@@ -139,23 +142,53 @@ def values_in(text):
     }
 
 
-def left(room, body, setting, names, assigned):
-    """Runs a script, and returns what it leaves: a value for each name. `names` are the variables of the template."""
+def run(room, words, folder, setting):
+    path = f"{room.top}/{setting.programs}:{room.top}/given:{room.top}/farm"
+    env = {"PATH": path, "LC_ALL": "C", "CONFIG_SHELL": "/bin/sh", "SEEDED_COMPILER": str(setting.seed), **dict(setting.environment)}
+    env |= {"SEEDED_CROSS": "1"} if setting.is_cross else {}
+    return subprocess.run([*words, *setting.arguments], cwd=folder, env=env, stdin=subprocess.DEVNULL, capture_output=True, text=True, errors="replace", timeout=120)
+
+
+def left_by_acrun(room, program, text, setting, names, defined):
+    """Runs acrun on a source, and returns what it leaves in its outputs."""
+    with room.folder() as folder:
+        (folder / "configure.ac").write_text(text)
+        put_templates(folder, names, defined)
+        made = run(room, [program, "configure"], folder, setting)
+        return {"status": made.returncode, "standard error": made.stderr.splitlines()} | outputs(folder)
+
+
+def put_templates(folder, names, defined):
+    """Writes the templates: of outputs with these variables, and of a header with these definitions."""
+    for file in ("config.h", "values", "src/values"):
+        (folder / f"{file}.in").parent.mkdir(exist_ok=True)
+        lines = [f"#undef {it}" for it in defined] if file == "config.h" else [f"{it}=@{it}@" for it in names]
+        (folder / f"{file}.in").write_text("".join(f"{it}\n" for it in lines))
+
+
+def outputs(folder):
+    """Returns what is in the outputs of a run."""
+    found = {}
+    for file in ("values", "src/values"):
+        if (folder / file).exists():
+            found[f"file {file}"] = "made"
+            found |= {f"{file} {name}": value for name, value in re.findall(r"(?m)^(\w+)=(.*)$", (folder / file).read_text(errors="replace"))}
+    if (folder / "config.h").exists():
+        found["file config.h"] = "made"
+        found |= {f"config.h {name}": value for name, value in re.findall(r"(?m)^#define (\w+) ?(.*)$", (folder / "config.h").read_text(errors="replace"))}
+    return found
+
+
+def left(room, body, setting, names, assigned, defined, creates=True):
+    """Runs a script, and returns what it leaves: a value for each name. `names` are the variables of the template, `assigned` those of the
+    shell, and `defined` the names of the header's template. Without `creates` no outputs are made, which takes a third of the time."""
     with room.folder() as folder:
         (folder / "configure").write_text(body)
+        (folder / "configure.ac").write_text("")
         (folder / "install-sh").write_text("#!/bin/sh\n")
         (folder / "install-sh").chmod(0o755)
-        for file in ("config.h", "values", "src/values"):
-            (folder / f"{file}.in").parent.mkdir(exist_ok=True)
-            (folder / f"{file}.in").write_text("" if file == "config.h" else "".join(f"{name}=@{name}@\n" for name in names))
-        path = f"{room.top}/{setting.programs}:{room.top}/farm"
-        env = {"PATH": path, "LC_ALL": "C", "CONFIG_SHELL": "/bin/sh", "SEEDED_COMPILER": str(setting.seed), **dict(setting.environment)}
-        env |= {"SEEDED_CROSS": "1"} if setting.is_cross else {}
-        words = ["/bin/sh", "./configure", *setting.arguments]
-        try:
-            made = subprocess.run(words, cwd=folder, env=env, stdin=subprocess.DEVNULL, capture_output=True, text=True, errors="replace", timeout=60)
-        except subprocess.TimeoutExpired:
-            return {"status": "no end"}
+        put_templates(folder, names, defined)
+        made = run(room, ["/bin/sh", "./configure", *([] if creates else ["--no-create"])], folder, setting)
         log = (folder / "config.log").read_text(errors="replace") if (folder / "config.log").exists() else ""
         printed = re.sub(r"(\.\.\. )(?=checking |configure: |config\.status: )", r"\1\n", made.stdout)
         found = {"status": made.returncode, "standard output": printed.splitlines()}
@@ -165,12 +198,7 @@ def left(room, body, setting, names, assigned):
         defined = re.findall(r"(?m)^#define (\w+) ?(.*)$", section(log, "confdefs.h."))
         found |= {f"#{name}": value for name, value in defined}
         found["order of definitions"] = [name for name, _ in defined]
-        for file in ("values", "src/values"):
-            if (folder / file).exists():
-                found[f"file {file}"] = "made"
-                found |= {f"{file} {name}": value for name, value in re.findall(r"(?m)^(\w+)=(.*)$", (folder / file).read_text(errors="replace"))}
-        if (folder / "config.h").exists():
-            found["file config.h"] = "made"
+        found |= outputs(folder)
         if (folder / "variables.out").exists():
             all_ = values_in((folder / "variables.out").read_text(errors="replace"))
             found |= {f"variable {name}": all_[name] for name in assigned if name in all_}
@@ -213,12 +241,21 @@ def differences(before, after):
                     found[f"{name}: {line}"] = ("", "")
         else:
             found[name] = (one, other)
-    for file in ("file values", "file src/values"):
+    return without_repeats(found)
+
+
+def without_repeats(found):
+    """Drops what says again what another name says."""
+    for file in ("file values", "file src/values", "file config.h"):
         if file in found:
             found = {name: it for name, it in found.items() if not name.startswith(f"{file[5:]} ")}
-    for name in [it for it in found if it.startswith(("src/values ", "output "))]:
-        if found.get(f"values {name.split(' ')[1]}") == found[name]:
+    for name in list(found):
+        kind, _, rest = name.partition(" ")
+        first = {"src/values": [f"values {rest}"], "output": [f"values {rest}"], "config.h": [f"#{rest}"], "variable": [f"values {rest}", f"output {rest}", f"cache {rest}"]}
+        if any(found.get(it) == found[name] for it in first.get(kind, [])):
             del found[name]
+    if any(name.startswith(("#", "order")) for name in found):
+        found = {name: it for name, it in found.items() if name.split(" ")[-1] != "DEFS"}
     order = "order of definitions"
     if order in found and sorted(found[order][0] or []) != sorted(found[order][1] or []):
         del found[order]
@@ -240,8 +277,38 @@ def template_names(body):
     return sorted({*(found[1].split() if found else []), "INSTALL", "MKDIR_P"} - {"LTLIBOBJS", "LIBOBJS"})
 
 
-def compared(room, text, ported, settings):
-    """Returns what differs between the scripts of a source and of what port makes of it: a setting, names and both values."""
+# What docs/language.md states of acrun, and the names that it is said of. Each sentence has to be there.
+OF_LANGUAGE = (
+    ("HAVE_STDINT_H, HAVE_UNISTD_H and their kin are defined only if AC_CHECK_HEADERS names the header",
+     r"config\.h (HAVE_(STDIO|STDLIB|STRING|INTTYPES|STDINT|STRINGS|SYS_STAT|SYS_TYPES|UNISTD)_H|STDC_HEADERS)"),
+    ("SHELL, PATH_SEPARATOR, OBJEXT, EXEEXT, LIBOBJS, ECHO_N and its kin, `build_alias` and its kin, and the variables that begin with `abs_` are no "
+     "output variables", r"values (SHELL|PATH_SEPARATOR|OBJEXT|EXEEXT|ECHO_[NCT]|(build|host|target)_alias)"),
+)
+
+
+@functools.lru_cache
+def of_language():
+    """Returns the pattern of the names that docs/language.md states to differ."""
+    text = " ".join((HERE.parent / "docs/language.md").read_text().split())
+    for sentence, _ in OF_LANGUAGE:
+        if sentence not in text:
+            sys.exit(f"docs/language.md does not say: {sentence}")
+    return re.compile("|".join(f"(?:{pattern})$" for _, pattern in OF_LANGUAGE))
+
+
+def beside_acrun(room, program, text, setting, names, defined, before):
+    """Returns what acrun leaves otherwise than the script of Autoconf did."""
+    mine = left_by_acrun(room, program, text, setting, names, defined)
+    kept = {name: it for name, it in before.items() if name.startswith(("status", "file ", "values ", "src/values ", "config.h "))}
+    if mine["status"] and kept["status"]:
+        return {}
+    kept["standard error"] = mine["standard error"] if not mine["status"] and not kept["status"] else before["standard error"]
+    return {name: it for name, it in differences(kept, mine).items() if not of_language().match(name.removeprefix("src/"))}
+
+
+def compared(room, text, ported, settings, program=""):
+    """Returns what differs between the scripts of a source and of what port makes of it: a setting, names and both values. With a program,
+    acrun is run on the latter too, and held against the script of the source."""
     bodies = [script(END.sub(lambda found: SAVE + found[0], it, count=1)) for it in (text, ported)]
     if bodies[0] is None:
         return "refused"
@@ -249,17 +316,29 @@ def compared(room, text, ported, settings):
         return [(Setting(), {"Autoconf refuses the output": ("", "")})]
     names = template_names(bodies[0])
     assigned = sorted({*re.findall(r"\b([A-Za-z_]\w*)=", text + ported)})
+    defined = sorted({*re.findall(r"#define (\w+)", bodies[0] + bodies[1]), *(f"HAVE_{re.sub(r'[^A-Za-z0-9]', '_', it).upper()}" for it in re.findall(r"[\w./]+", ported))})
     patterns, found = stated(text), []
     for setting in settings:
-        runs = [left(room, it, setting, names, assigned) for it in bodies]
+        by_acrun = program and any(it.startswith("CFLAGS=") for it in setting.arguments) and not any(it.startswith("--host") for it in setting.arguments)
+        creates = bool(by_acrun) or setting.seed % 4 == 0
+        if bodies[0] == bodies[1] and not by_acrun:
+            continue
+        runs = [left(room, it, setting, names, assigned, defined, creates) for it in dict.fromkeys(bodies)]
+        runs = [runs[0], runs[-1]]
         differs = {name: it for name, it in differences(*runs).items() if not is_stated(name, patterns)}
         if differs:
             found.append((setting, differs))
+        if by_acrun:
+            differs = beside_acrun(room, program, ported, setting, names, defined, runs[1])
+            if differs:
+                found.append((dataclasses.replace(setting, by="acrun"), differs))
     return found
 
 
 def port(program, text):
-    return subprocess.run([program, "port", "-"], input=text, capture_output=True, text=True, errors="replace").stdout
+    """Returns what port makes of a source, and whether acrun reads that."""
+    made = subprocess.run([program, "port", "-"], input=text, capture_output=True, text=True, errors="replace")
+    return made.stdout, made.returncode == 0
 
 
 # ---------------------------------------------------------------------------------------------------------------------- sources
@@ -312,7 +391,7 @@ GIVEN = {
     "INSTALL": ("myinstall", "myinstall -c"), "INSTALL_DATA": ("myinstall -m 600",), "INSTALL_PROGRAM": ("myinstall -s",), "INSTALL_SCRIPT": ("myinstall -x",),
     "MKDIR_P": ("mymkdir -p",), "RANLIB": ("myranlib", "myranlib -x"), "STRIP": ("mystrip",), "NM": ("mynm",), "MYNM": ("mynm",), "MYAR": ("myar",), "AWK": ("myawk",),
     "SED": ("mysed",), "GREP": ("mygrep",), "CPP": ("mycpp",), "LN_S": ("cp -p",), "TOOL": ("strip",), "EXEEXT": (".exe",), "OBJEXT": ("obj",),
-    "LIBS": ("-lgiven",), "CPPFLAGS": ("-Igiven",), "LDFLAGS": ("-Lgiven",), "CFLAGS": ("-ansi", "-g", ""), "CC": ("cc", "gcc -ansi"),
+    "LIBS": ("-lgiven",), "CPPFLAGS": ("-Igiven",), "LDFLAGS": ("-Lgiven",), "CC": ("cc", "gcc -ansi"),
     "prefix": ("/env",), "v1": ("set",), "v2": ("yes",), "level": ("3",), "HAVE_AWK": ("maybe",), "copy": ("before",),
     "ac_cv_func_getcwd": ("no",), "ac_cv_header_zlib_h": ("yes",), "ac_cv_prog_RANLIB": ("cached-ranlib",), "ac_cv_path_SED": ("/cached/sed",), "fz_cv_one": ("cached",),
 }
@@ -528,6 +607,7 @@ class Maker:
             arguments += [self.one(["--with-bar", "--without-bar", "--with-bar=/opt"])] if self.has(0.4) else []
             arguments += [self.one(["--prefix=/opt/p", "--prefix=/usr"])] if self.has(0.3) else []
             arguments += ["--exec-prefix=/x"] if self.has(0.1) else []
+            arguments += [f"CFLAGS={self.one(['', '', '-g', '-ansi'])}"] if self.has(0.9) else []
             is_host = self.has(0.25)
             arguments += [f"--host={HOST}"] if is_host else []
             for name in self.at.sample(sorted(GIVEN), self.at.choice((0, 0, 1, 2, 4))):
@@ -551,11 +631,50 @@ def judge(program, room, number, names=None, runs=2):
     first, blocks, last = maker.source()
     settings = maker.settings(runs)
     text = joined(first, blocks, last)
-    ported = port(program, text)
-    if ported == text:
+    ported, is_read = port(program, text)
+    if ported == text and not is_read:
         return "same", text, ported
-    found = compared(room, text, ported, settings)
-    return found, text, ported
+    return compared(room, text, ported, settings, program if is_read else ""), text, ported
+
+
+# ---------------------------------------------------------------------------------------------------------------------- stored sources
+
+# What a stored source is run with, by the names in its row.
+SETTINGS = {
+    "plain": Setting(("CFLAGS=",)),
+    "seeds": [Setting(("CFLAGS=",), seed=it) for it in range(1, 5)],
+    "host": Setting((f"--host={HOST}",), programs="cross"),
+    "cross": Setting((f"--host={HOST}",), programs="cross", is_cross=True),
+    "given": Setting(("MKDIR_P=mymkdir -p", "RANLIB=myranlib", "MYNM=mynm"),
+                     (("INSTALL", "myinstall"), ("INSTALL_DATA", "myinstall -m 600"), ("INSTALL_PROGRAM", "myinstall -s"), ("INSTALL_SCRIPT", "myinstall -x"))),
+    "ansi": Setting(("CFLAGS=-ansi",)),
+    "foo": Setting(("--enable-foo",)),
+    "bar": Setting(("--disable-foo", "--with-bar=/opt", "--prefix=/opt/p")),
+    "letters": [Setting(environment=tuple((it, value) for it in string.ascii_letters)) for value in ("yes", "b", "1")],
+}
+
+
+def unescaped(text):
+    return subprocess.run(["printf", "%b", text], stdout=subprocess.PIPE).stdout.decode("latin-1")
+
+
+def stored(names):
+    """Yields the name of each stored source, its text and its settings: those of examples/exact, and those of examples/port about shell text,
+    which are run with variables of one letter that are not set, `yes`, `b` and `1`."""
+    for file, fronts in (("exact", ("",)), ("port", ("shell-", "defines-", "arguments-", "lists-"))):
+        for row in (HERE.parent / f"examples/{file}/sources.txt").read_text().splitlines():
+            name, _, text = row.partition(" ")
+            chosen = "plain,letters"
+            if file == "exact":
+                chosen, _, text = text.partition(" ")
+            if name.startswith(fronts) and (not names or name.startswith(tuple(names))):
+                settings = [SETTINGS[it] for it in chosen.split(",")]
+                yield name, unescaped(text), [one for it in settings for one in (it if isinstance(it, list) else [it])]
+
+
+def judge_stored(program, room, text, settings):
+    ported, is_read = port(program, text)
+    return compared(room, text, ported, settings, program if is_read else ""), text, ported
 
 
 # ---------------------------------------------------------------------------------------------------------------------- runs
@@ -563,11 +682,12 @@ def judge(program, room, number, names=None, runs=2):
 
 def shown(differs):
     for setting, names in differs:
+        other = "in acrun" if setting.by == "acrun" else "after port"
         yield f"  {setting.shown()}"
         if "status" in names:
             names = {name: it for name, it in names.items() if name == "status" or name.startswith("standard ")}
         for name, (before, after) in names.items():
-            yield f"    {name}" + (f": {before!r}, and {after!r} after port" if before != after else "")
+            yield f"    {name}" + (f": {before!r}, and {after!r} {other}" if before != after else "")
 
 
 def minimized(program, room, number, names):
@@ -578,14 +698,14 @@ def minimized(program, room, number, names):
 
     def tried(blocks, settings):
         text = joined(first, blocks, last)
-        ported = port(program, text)
-        found = compared(room, text, ported, settings) if ported != text else []
+        ported, is_read = port(program, text)
+        found = compared(room, text, ported, settings, program if is_read else "")
         return (found, text, ported) if found and not isinstance(found, str) else None
 
     best = tried(blocks, settings)
     if not best:
         return [], joined(first, blocks, last), ""
-    settings = [best[0][0][0]]
+    settings = [dataclasses.replace(best[0][0][0], by="port")]
     changed = True
     while changed:
         changed = False
@@ -614,6 +734,24 @@ def task(given):
         return number, f"{type(error).__name__}: {error}", "", ""
 
 
+def stored_task(given):
+    program, name, text, settings = given
+    return name, *judge_stored(program, ROOM, text, settings)
+
+
+def held(program, options):
+    """Tries the stored sources."""
+    rows, differ, refused = [(program, *it) for it in stored(options.stored)], 0, 0
+    with concurrent.futures.ProcessPoolExecutor(options.jobs) as pool:
+        for name, found, text, ported in pool.map(stored_task, rows):
+            differ, refused = differ + bool(found and found != "refused"), refused + (found == "refused")
+            if found:
+                print(f"{name}: {'is refused by Autoconf' if found == 'refused' else 'differs'}")
+                print("".join(f"{line}\n" for line in (shown(found) if found != "refused" else ())), end="", flush=True)
+    print(f"{len(rows) - differ - refused} stored sources leave the same, {differ} differ, {refused} are refused by Autoconf")
+    return int(differ > 0)
+
+
 def main():
     options = argparse.ArgumentParser(description=__doc__, formatter_class=argparse.RawDescriptionHelpFormatter)
     options.add_argument("program")
@@ -623,6 +761,7 @@ def main():
     options.add_argument("--jobs", type=int, default=2)
     options.add_argument("--runs", type=int, default=2)
     options.add_argument("--only", action="append", default=[])
+    options.add_argument("--stored", nargs="*", metavar="NAME")
     options.add_argument("--replay", type=int)
     options.add_argument("--minimize", type=int)
     options = options.parse_args()
@@ -637,11 +776,13 @@ def main():
                 found, text, ported = judge(program, ROOM, options.replay, options.only, options.runs)
             print(f"{text}--- after port\n{ported}---", *(shown(found) if not isinstance(found, str) else [found]), sep="\n")
             return int(bool(found) and not isinstance(found, str))
+        if options.stored is not None:
+            return held(program, options)
         counts, began = {"same": 0, "rewritten": 0, "refused": 0, "differ": 0}, time.time()
         rows = ((program, number, options.only, options.runs) for number in range(options.first, options.first + options.count))
         with concurrent.futures.ProcessPoolExecutor(options.jobs) as pool:
             for number, found, _, _ in pool.map(task, rows):
-                kind = {"same": "same", "refused": "refused"}.get(found, "differ" if found else "rewritten") if isinstance(found, str) or not found else "differ"
+                kind = found if found in ("same", "refused") else "differ" if found else "rewritten"
                 counts[kind] += 1
                 if kind == "differ":
                     print(f"differs {number}", *(shown(found) if not isinstance(found, str) else [found]), sep="\n", flush=True)
