@@ -12,7 +12,7 @@ import dataclasses
 import difflib
 import fnmatch
 import functools
-import hashlib
+import json
 import os
 import pathlib
 import random
@@ -335,6 +335,12 @@ def compared(room, text, ported, settings, program=""):
     return found
 
 
+def held(program, room, text, ported, is_read, settings):
+    """Returns what is wrong with what port made of a source."""
+    found = compared(room, text, ported, settings, program if is_read else "")
+    return found if found == "refused" or is_read else written_errors(program, text, ported) + found
+
+
 def port(program, text):
     """Returns what port makes of a source, and whether acrun reads that."""
     made = subprocess.run([program, "port", "-"], input=text, capture_output=True, text=True, errors="replace")
@@ -386,6 +392,9 @@ VALUES = ("yes", "no", "xyes", "/opt", "NONE", '""')
 CASED = ("$enable_foo", '"$with_bar"', "$prefix", '"$v1"', "x$v2")
 SET = ("yes", "b", "1", '"$v1 c"', "$prefix", "", "$enable_foo")
 FLAGS = ('"$LIBS -lz"', '"-ansi $CFLAGS"', "-DX")
+# Statements that acrun does not read.
+LEFT_AS_IS = ("for i in a b; do\n  v1=$i\ndone", "v2=`echo b`", "v1=$(echo c)", "echo a text", "cat <<EOT\nif a; then b; fi\nEOT", "v1=$?", "unset v2", "MY_CHECK([level])",
+              "MY_CHECK(v1)", "v1=${v2-none}")
 READ = ("prefix", "exec_prefix", "bindir", "LIBS", "CFLAGS", "CPPFLAGS", "CC", "enable_foo", "with_bar", "PACKAGE_NAME")
 GIVEN = {
     "INSTALL": ("myinstall", "myinstall -c"), "INSTALL_DATA": ("myinstall -m 600",), "INSTALL_PROGRAM": ("myinstall -s",), "INSTALL_SCRIPT": ("myinstall -x",),
@@ -526,13 +535,17 @@ class Maker:
     def compound(self, depth):
         """Returns an `if`, a `case` or a list of the shell."""
         kind = self.at.randrange(10)
+        if kind == 0:
+            first, other = self.assignment(), self.assignment()
+            return self.one([f"if {self.condition()}; then {first}; fi", f"if {self.condition()}; then {first}; else {other}; fi", f"if {self.condition()}\nthen {first}\nfi; {other}",
+                             f"case {self.one(CASED)} in yes) {first};; *) {other};; esac", f"test {self.test()} && {{ {first}; {other}; }}", f"({first})", f"{first}; {other}"])
         if kind < 5:
             text = f"if {self.condition()}; then\n{self.body(depth + 1)}\n"
             text += f"elif {self.condition()}; then\n{self.body(depth + 1)}\n" if self.has(0.2) else ""
             text += f"else\n{self.body(depth + 1)}\n" if self.has(0.4) else ""
             return f"{text}fi"
         if kind < 7:
-            arms = [self.one(["yes", "no", "y*", "/*", '"a b"', "x | NONE", "a|b", "set"]) for _ in range(self.at.randint(1, 2))]
+            arms = [self.one(["yes", "no", "y*", "/*", '"a b"', "x | NONE", "a|b", "set", "[[yY]]*"]) for _ in range(self.at.randint(1, 2))]
             arms += ["*"] if self.has(0.7) else []
             joined = "".join(f"  {'(' * self.has(0.05)}{arm})\n{self.body(depth + 1, 1)}\n    ;;\n" for arm in arms)
             return f"case {self.one(CASED)} in\n{joined}esac"
@@ -540,10 +553,15 @@ class Maker:
             return f"test {self.test()} {self.one(['&&', '||'])} {self.simple(depth + 1)}"
         return f"AS_IF([{self.condition()}], [{self.body(depth + 1)}]{f', [{self.body(depth + 1)}]' if self.has(0.4) else ''})"
 
+    def assignment(self):
+        return f"{self.one(['v1', 'v2', 'level'])}={self.one(SET)}"
+
     def simple(self, depth):
-        kind = self.at.randrange(9)
+        kind = self.at.randrange(10)
+        if kind == 9:
+            return self.one(LEFT_AS_IS)
         if kind < 3:
-            return f"{self.one(['v1', 'v2', 'level'])}={self.one(SET)}"
+            return self.assignment()
         if kind == 3:
             return f"AC_DEFINE([{self.fresh('D')}], [{self.one(['1', '', 'two words'])}], [a text])"
         if kind == 4:
@@ -568,7 +586,9 @@ class Maker:
         kind = self.at.random()
         if kind < 0.4:
             text = self.call(depth)
-            self.called |= {re.search(r"\b(?:A[CS]|m4)_\w+", text)[0]} & {it[0] for it in self.exact}
+            for name in {*re.findall(r"\b(?:A[CS]|m4)_\w+", text)} & {it[0] for it in self.exact} - self.called:
+                self.called.add(name)
+                self.cached += cache_names(name)
             return text
         if kind < 0.6 and depth < 3:
             return self.compound(depth)
@@ -577,7 +597,22 @@ class Maker:
         return self.simple(depth)
 
     def body(self, depth, count=None):
-        return "\n".join(self.statement(depth) for _ in range(count or self.at.choice((1, 1, 2))))
+        return "\n".join(self.laid_out(self.statement(depth)) for _ in range(count or self.at.choice((1, 1, 2))))
+
+    def laid_out(self, text):
+        """Returns a statement with what may be around it on its lines."""
+        kind = self.at.randrange(24)
+        if kind == 0 and "\n" not in text:
+            return f"{text} # a note"
+        if kind == 1 and re.search(r"\w\)?$", text):
+            return f"{text} dnl a note"
+        if kind == 2:
+            return f"# a note: it's (here\n{text}"
+        if kind == 3:
+            return f"dnl a note\n\n{text}"
+        if kind == 4:
+            return f"  {text}"
+        return text
 
     def source(self):
         """Returns the source, and the blocks of it that may be left out."""
@@ -588,8 +623,11 @@ class Maker:
             self.one(["AC_ARG_ENABLE([foo], [do foo])", f"AC_ARG_ENABLE([foo], [do foo], {self.action(1)}, {self.action(1)})", "AC_ARG_ENABLE(foo, [  --enable-foo  do it],\n  if test \"$enableval\" = yes; then\n    v1=1\n  fi,\n  v2=0\n)"]),
             self.one(["AC_ARG_WITH([bar], [use bar])", f"AC_ARG_WITH([bar], AC_HELP_STRING([--with-bar], [use bar]), [v1=\"$withval\"], {self.action(1)})"]),
         ]
+        if self.has(0.6):
+            # What checks look for on their way is looked for here, so that it is no news below.
+            blocks += ["AC_CHECK_HEADERS([first.h])", "AC_CHECK_DECLS([EOF])", "AC_PREPROC_IFELSE([AC_LANG_SOURCE([[int first;]])], [v1=1], [v1=2])"]
         for _ in range(self.at.randint(2, 6)):
-            text = self.statement(0)
+            text = self.laid_out(self.statement(0))
             blocks.append(text)
             if self.has(0.15):
                 blocks.append(text)
@@ -597,6 +635,8 @@ class Maker:
                 name = self.fresh("r")
                 blocks.append(f"{name}={self.read()}\nAC_SUBST([{name}])")
         last = self.one(["AC_CONFIG_FILES([values])\nAC_OUTPUT", "AC_CONFIG_FILES([values src/values])\nAC_OUTPUT", "AC_OUTPUT([values])", "AC_OUTPUT(values \\\n src/values)", "AC_CONFIG_FILES([values])\nAC_OUTPUT()"])
+        if any("MY_CHECK" in it for it in blocks):
+            first.append("AC_DEFUN([MY_CHECK], [$1=mine])")
         return [*first, header], ["AC_PROG_CC"] * (not self.has(0.05)) + blocks, last
 
     def settings(self, count):
@@ -621,8 +661,37 @@ class Maker:
         return found
 
 
+@functools.lru_cache
+def cache_names(name):
+    """Returns the cache variables of a macro, as far as a script without its arguments has them."""
+    found = []
+    for call in ("", f"{name}\n"):
+        body = script(f"AC_INIT([fuzz], [1.0])\nAC_PROG_CC\n{call}AC_OUTPUT\n") if least_of(name) == 0 else None
+        found.append({*re.findall(r"\bac_cv_\w+", body or "")})
+    return sorted(found[1] - found[0])
+
+
+def least_of(name):
+    return min(least for it, _, least, _ in exact() if it == name)
+
+
 def joined(first, blocks, last):
     return "\n".join([*filter(None, first), *blocks, last]) + "\n"
+
+
+# Errors about what a source has itself, which port may leave on another line.
+OF_SOURCE = re.compile(r"not read|does not know|no macro that acrun knows|other text beside it")
+
+
+def written_errors(program, text, ported):
+    """Returns the errors that acrun reports in lines that port wrote, and not in the source."""
+    found = []
+    for each in (text, ported):
+        lines = subprocess.run([program, "lint", "--json", "-"], input=each, capture_output=True, text=True, errors="replace").stdout.splitlines()
+        found.append([it for it in map(json.loads, lines) if it["severity"] == "error" and it["code"] != "template"])
+    known, lines = {it["message"] for it in found[0]}, ported.splitlines()
+    new = [it for it in found[1] if it["message"] not in known and not OF_SOURCE.search(it["message"]) and lines[it["line"] - 1] not in text.splitlines()]
+    return [(Setting(by="lint"), {f"error in {lines[it['line'] - 1]}: {it['message']}": ("", "")}) for it in new]
 
 
 def judge(program, room, number, names=None, runs=2):
@@ -634,7 +703,7 @@ def judge(program, room, number, names=None, runs=2):
     ported, is_read = port(program, text)
     if ported == text and not is_read:
         return "same", text, ported
-    return compared(room, text, ported, settings, program if is_read else ""), text, ported
+    return held(program, room, text, ported, is_read, settings), text, ported
 
 
 # ---------------------------------------------------------------------------------------------------------------------- stored sources
@@ -674,7 +743,7 @@ def stored(names):
 
 def judge_stored(program, room, text, settings):
     ported, is_read = port(program, text)
-    return compared(room, text, ported, settings, program if is_read else ""), text, ported
+    return held(program, room, text, ported, is_read, settings), text, ported
 
 
 # ---------------------------------------------------------------------------------------------------------------------- runs
@@ -699,7 +768,7 @@ def minimized(program, room, number, names):
     def tried(blocks, settings):
         text = joined(first, blocks, last)
         ported, is_read = port(program, text)
-        found = compared(room, text, ported, settings, program if is_read else "")
+        found = held(program, room, text, ported, is_read, settings)
         return (found, text, ported) if found and not isinstance(found, str) else None
 
     best = tried(blocks, settings)
@@ -739,7 +808,7 @@ def stored_task(given):
     return name, *judge_stored(program, ROOM, text, settings)
 
 
-def held(program, options):
+def try_stored(program, options):
     """Tries the stored sources."""
     rows, differ, refused = [(program, *it) for it in stored(options.stored)], 0, 0
     with concurrent.futures.ProcessPoolExecutor(options.jobs) as pool:
@@ -777,7 +846,7 @@ def main():
             print(f"{text}--- after port\n{ported}---", *(shown(found) if not isinstance(found, str) else [found]), sep="\n")
             return int(bool(found) and not isinstance(found, str))
         if options.stored is not None:
-            return held(program, options)
+            return try_stored(program, options)
         counts, began = {"same": 0, "rewritten": 0, "refused": 0, "differ": 0}, time.time()
         rows = ((program, number, options.only, options.runs) for number in range(options.first, options.first + options.count))
         with concurrent.futures.ProcessPoolExecutor(options.jobs) as pool:
