@@ -22,12 +22,16 @@ The lines of macros.txt, by how they begin:
   `$ `      arguments of a run in which that script compares both, in place of one without arguments
   `? `      names of definitions and variables, a colon and a reason: what the idiom leaves otherwise than the macro does, by design.
             That script fails if it doesn't
+  `~ `      names of macros, a colon, what is otherwise, a colon and a reason: what the exact idiom of these leaves otherwise. That is
+            names of definitions, variables and cache variables, and lines that are printed in quotes, with `*` for any text; a
+            variable with `*` for all that a macro names so. tools/fuzz_exact.py allows these differences and no others
   blanks    4 of them begin a line of the entry's text
 Empty lines mean nothing. `specs/Places` and `specs/Values` of the crate say what places are, and what they are filled with.
 """
 import dataclasses
 import pathlib
 import re
+import shlex
 import sys
 import textwrap
 
@@ -57,6 +61,7 @@ class Entry:
     before: list = dataclasses.field(default_factory=list)
     runs: list = dataclasses.field(default_factory=list)
     differing: list = dataclasses.field(default_factory=list)
+    allowed: list = dataclasses.field(default_factory=list)
     raw_before: list = dataclasses.field(default_factory=list)
     raw_after: list = dataclasses.field(default_factory=list)
 
@@ -204,6 +209,10 @@ def sections():
             entry.before.append(rest)
         elif sign == "$ ":
             entry.runs.append(rest.split())
+        elif sign == "~ ":
+            about, _, said = rest.partition(" : ")
+            listed, _, reason = said.partition(" : ")
+            entry.allowed.append((about.split(), shlex.split(listed), reason))
         elif sign == "? ":
             names, _, reason = rest.partition(" : ")
             entry.differing.append((names.split(), reason))
@@ -259,6 +268,12 @@ def wrong():
                 yield f"{name}: its idiom is exact, and differs"
             if not 0 <= least <= most <= 9 or not re.fullmatch(r"[A-Za-z0-9_@./,=-][A-Za-z0-9_@./,= -]*", said):
                 yield f"{name}: what is said of the idiom is no line of plain words"
+        for names, listed, reason in entry.allowed:
+            for name in names:
+                if name not in {it[0] for it in entry.exact}:
+                    yield f"{name} is no exact macro of the entry, and is said to differ"
+            if not names or not listed or not reason:
+                yield f"{entry.names[0]}: what an exact idiom leaves otherwise has macros, names and a reason"
         if entry.kind != "idiom" and len(entry.lines) > 1:
             yield f"{entry.names[0]}: only an idiom has more than one line"
         for word, _shown in entry.words:

@@ -1,0 +1,869 @@
+#!/usr/bin/env python3
+"""Holds what `acrun port` calls exact against Autoconf 2.71, with sources that are made by number.
+
+    tools/fuzz_exact.py PROGRAM [--from N] [--count N] [--seconds N] [--jobs N] [--alone]
+    tools/fuzz_exact.py PROGRAM --replay N       shows source N, what port makes of it, and what differs
+    tools/fuzz_exact.py PROGRAM --minimize N     the same of the smallest part of it that still differs
+"""
+import argparse
+import concurrent.futures
+import contextlib
+import dataclasses
+import difflib
+import fnmatch
+import functools
+import json
+import os
+import pathlib
+import random
+import re
+import shutil
+import string
+import subprocess
+import sys
+import tempfile
+import time
+
+import macro_table
+
+HERE = pathlib.Path(__file__).resolve().parent
+END = re.compile(r"(?m)^AC_OUTPUT\b")
+SAVE = "set > variables.out\n"
+# Words that Autoconf refuses in a script if no macro has taken them.
+LEFT = re.compile(r"(?m)^[^#\n]*?\b(_?m4_[a-z]\w*|_?A[CHMSU]_[A-Z]\w*|dnl)\b")
+QUADRIGRAPHS = (("@<:@", "["), ("@:>@", "]"), ("@{:@", "("), ("@:}@", ")"), ("@S|@", "$"), ("@%:@", "#"), ("@&t@", ""))
+HOST = "x86_64-foo-linux"
+
+
+def macro_directory():
+    """Returns the directory of Autoconf's macros."""
+    found = re.search(r"trailer_m4='(.*)/autoconf/trailer\.m4'", pathlib.Path(shutil.which("autoconf")).read_text())
+    return found[1]
+
+
+@functools.lru_cache(maxsize=4096)
+def script(text):
+    """Returns the script that Autoconf makes of a source, or None. Its m4 is run as `autom4te` runs it, which is several times as fast;
+    where a word is left that may be forbidden, `autoconf` decides."""
+    share = macro_directory()
+    with tempfile.TemporaryDirectory() as room:
+        (pathlib.Path(room) / "configure.ac").write_text(text)
+        words = ["m4", "--nesting-limit=1024", "--gnu", f"--include={share}", f"--reload-state={share}/autoconf/autoconf.m4f"]
+        made = subprocess.run([*words, f"{share}/autoconf/trailer.m4", "configure.ac"], cwd=room, capture_output=True, text=True)
+        body = made.stdout
+        for sign, char in QUADRIGRAPHS:
+            body = body.replace(sign, char)
+        if made.returncode or LEFT.search(body):
+            made = subprocess.run(["autoconf"], cwd=room, capture_output=True, text=True)
+            if made.returncode:
+                return None
+            body = (pathlib.Path(room) / "configure").read_text()
+        return re.sub(r"(?m)[ \t]+$", "", body)
+
+
+# ---------------------------------------------------------------------------------------------------------------------- what is run
+
+
+class Room:
+    """A directory with the programs that scripts find: those of this machine, without compilers, and stand-ins."""
+
+    def __init__(self):
+        self.top = pathlib.Path(tempfile.mkdtemp(prefix="fuzz-exact-"))
+        farm = self.top / "farm"
+        farm.mkdir()
+        left_out = re.compile(r"(.*-)?(gcc|cc|g\+\+|c\+\+|clang|c89|c99|ranlib|strip|nm|ar|cpp|tcc|pcc)(-\d+)?$|.*awk$|.*-linux-gnu-.*")
+        for folder in ("/usr/bin", "/bin"):
+            for file in os.listdir(folder):
+                if not left_out.match(file) and not (farm / file).is_symlink():
+                    (farm / file).symlink_to(f"{folder}/{file}")
+        awk = os.path.realpath(shutil.which("mawk") or shutil.which("awk"))
+        subprocess.run(["cc", "-O1", "-static", "-o", self.top / "gcc", HERE / "seeded_compiler.c"], check=True)
+        quiet = "#!/bin/sh\nexit 0\n"
+        kinds = {
+            "plain": ["ranlib", "strip", "nm", "ar"],
+            "cross": ["ranlib", "strip", "nm", "ar", f"{HOST}-ranlib", f"{HOST}-strip", f"{HOST}-nm", f"{HOST}-ar"],
+            "half": ["ranlib", "strip", f"{HOST}-nm"],
+            "none": [],
+        }
+        for kind, names in kinds.items():
+            (self.top / kind).mkdir()
+            for name in names:
+                (self.top / kind / name).write_text(quiet)
+                (self.top / kind / name).chmod(0o755)
+            for name in ["gcc", "cc", *([f"{HOST}-gcc"] if kind == "cross" else [])]:
+                (self.top / kind / name).symlink_to(self.top / "gcc")
+            for name in ["awk", *{"plain": ["gawk", "mawk"], "cross": ["nawk"]}.get(kind, ["mawk"])]:
+                (self.top / kind / name).symlink_to(awk)
+        given = self.top / "given"
+        given.mkdir()
+        for name in ("sed", "grep", "install", "mkdir"):
+            (given / f"my{name}").symlink_to(shutil.which(name))
+        (given / "myawk").symlink_to(awk)
+        for name in ("ranlib", "strip", "nm", "ar", "cpp"):
+            (given / f"my{name}").write_text('#!/bin/sh\nexec gcc -E "$@"\n' if name == "cpp" else quiet)
+            (given / f"my{name}").chmod(0o755)
+
+    @contextlib.contextmanager
+    def folder(self):
+        """Yields an empty directory, which has the same name each time in this process."""
+        folder = self.top / f"run-{os.getpid()}"
+        shutil.rmtree(folder, ignore_errors=True)
+        folder.mkdir()
+        yield folder
+
+    def end(self):
+        shutil.rmtree(self.top, ignore_errors=True)
+
+
+@dataclasses.dataclass(frozen=True)
+class Setting:
+    """What a script is run with: its arguments, its environment, the programs in PATH, and the compiler's seed."""
+
+    arguments: tuple = ()
+    environment: tuple = ()
+    programs: str = "plain"
+    is_cross: bool = False
+    seed: int = 0
+    by: str = "port"
+
+    def shown(self):
+        of_env = " ".join(f"{name}={value}" for name, value in self.environment)
+        about = f"programs {self.programs}, {'cross, ' * self.is_cross}seed {self.seed}"
+        return f"{self.by}: {of_env} ./configure {' '.join(self.arguments)}  ({about})"
+
+
+def section(log, title):
+    return log.partition(f"## {title} ##\n## ")[2].partition("\n## ")[0]
+
+
+def values_in(text):
+    return {name: value.replace("'\\''", "'") for name, value in re.findall(r"(?ms)^(\w+)='((?:[^']|'\\'')*)'$", text)} | {
+        name: value for name, value in re.findall(r"(?m)^(\w+)=([^'\n]*)$", text)
+    }
+
+
+def run(room, words, folder, setting):
+    path = f"{room.top}/{setting.programs}:{room.top}/given:{room.top}/farm"
+    env = {"PATH": path, "LC_ALL": "C", "CONFIG_SHELL": "/bin/sh", "SEEDED_COMPILER": str(setting.seed), **dict(setting.environment)}
+    env |= {"SEEDED_CROSS": "1"} if setting.is_cross else {}
+    return subprocess.run([*words, *setting.arguments], cwd=folder, env=env, stdin=subprocess.DEVNULL, capture_output=True, text=True, errors="replace", timeout=120)
+
+
+def left_by_acrun(room, program, text, setting, names, defined):
+    """Runs acrun on a source, and returns what it leaves in its outputs."""
+    with room.folder() as folder:
+        (folder / "configure.ac").write_text(text)
+        put_templates(folder, names, defined)
+        made = run(room, [program, "configure"], folder, setting)
+        return {"status": made.returncode, "standard error": made.stderr.splitlines()} | outputs(folder)
+
+
+def put_templates(folder, names, defined):
+    """Writes the templates: of outputs with these variables, and of a header with these definitions."""
+    for file in ("config.h", "values", "src/values"):
+        (folder / f"{file}.in").parent.mkdir(exist_ok=True)
+        lines = [f"#undef {it}" for it in defined] if file == "config.h" else [f"{it}=@{it}@" for it in names]
+        (folder / f"{file}.in").write_text("".join(f"{it}\n" for it in lines))
+
+
+def outputs(folder):
+    """Returns what is in the outputs of a run."""
+    found = {}
+    for file in ("values", "src/values"):
+        if (folder / file).exists():
+            found[f"file {file}"] = "made"
+            found |= {f"{file} {name}": value for name, value in re.findall(r"(?m)^(\w+)=(.*)$", (folder / file).read_text(errors="replace"))}
+    if (folder / "config.h").exists():
+        found["file config.h"] = "made"
+        found |= {f"config.h {name}": value for name, value in re.findall(r"(?m)^#define (\w+) ?(.*)$", (folder / "config.h").read_text(errors="replace"))}
+    return found
+
+
+def left(room, body, setting, names, assigned, defined, creates=True):
+    """Runs a script, and returns what it leaves: a value for each name. `names` are the variables of the template, `assigned` those of the
+    shell, and `defined` the names of the header's template. Without `creates` no outputs are made, which takes a third of the time."""
+    with room.folder() as folder:
+        (folder / "configure").write_text(body)
+        (folder / "configure.ac").write_text("")
+        (folder / "install-sh").write_text("#!/bin/sh\n")
+        (folder / "install-sh").chmod(0o755)
+        put_templates(folder, names, defined)
+        made = run(room, ["/bin/sh", "./configure", *([] if creates else ["--no-create"])], folder, setting)
+        log = (folder / "config.log").read_text(errors="replace") if (folder / "config.log").exists() else ""
+        printed = re.sub(r"(\.\.\. )(?=checking |configure: |config\.status: )", r"\1\n", made.stdout)
+        found = {"status": made.returncode, "standard output": printed.splitlines()}
+        found["standard error"] = [re.sub(r"^\./configure: (line )?\d+: ", "", it) for it in made.stderr.splitlines()]
+        found |= {f"cache {name}": value for name, value in values_in(section(log, "Cache variables.")).items() if not name.startswith("ac_cv_env_")}
+        found |= {f"output {name}": value for name, value in values_in(section(log, "Output variables.")).items()}
+        defined = re.findall(r"(?m)^#define (\w+) ?(.*)$", section(log, "confdefs.h."))
+        found |= {f"#{name}": value for name, value in defined}
+        found["order of definitions"] = [name for name, _ in defined]
+        found |= outputs(folder)
+        if (folder / "variables.out").exists():
+            all_ = values_in((folder / "variables.out").read_text(errors="replace"))
+            found |= {f"variable {name}": all_[name] for name in assigned if name in all_}
+        return found
+
+
+# ---------------------------------------------------------------------------------------------------------------------- what differs
+
+
+def is_word(name, text):
+    return re.search(rf"\b{re.escape(name.partition('(')[0])}\b", text)
+
+
+@functools.lru_cache
+def allowances():
+    """Returns what macros.txt states to differ: for each macro the patterns of names, and of lines that are printed."""
+    found = {}
+    for entry in macro_table.entries():
+        for names, listed, _ in entry.allowed:
+            for name in names:
+                found.setdefault(name, []).extend(listed)
+    return found
+
+
+def stated(text):
+    """Returns the patterns of what is stated to differ for the macros of a source."""
+    return [pattern for name, listed in allowances().items() if is_word(name, text) for pattern in listed]
+
+
+def differences(before, after):
+    """Returns the names in which two runs differ, each with both values."""
+    found = {}
+    for name in sorted({*before, *after}):
+        one, other = before.get(name), after.get(name)
+        if one == other:
+            continue
+        if name.startswith("standard "):
+            for line in difflib.ndiff(one or [], other or []):
+                if line[0] in "-+":
+                    found[f"{name}: {line}"] = ("", "")
+        else:
+            found[name] = (one, other)
+    return without_repeats(found)
+
+
+def without_repeats(found):
+    """Drops what says again what another name says."""
+    for file in ("file values", "file src/values", "file config.h"):
+        if file in found:
+            found = {name: it for name, it in found.items() if not name.startswith(f"{file[5:]} ")}
+    for name in list(found):
+        kind, _, rest = name.partition(" ")
+        first = {"src/values": [f"values {rest}"], "output": [f"values {rest}"], "config.h": [f"#{rest}"], "variable": [f"values {rest}", f"output {rest}", f"cache {rest}"]}
+        if any(found.get(it) == found[name] for it in first.get(kind, [])):
+            del found[name]
+    if any(name.startswith(("#", "order")) for name in found):
+        found = {name: it for name, it in found.items() if name.split(" ")[-1] != "DEFS"}
+    order = "order of definitions"
+    if order in found and sorted(found[order][0] or []) != sorted(found[order][1] or []):
+        del found[order]
+    return found
+
+
+def is_stated(name, patterns):
+    """Returns whether a difference is one of those that are stated."""
+    if name.startswith("standard "):
+        return any(fnmatch.fnmatchcase(name.split(": ", 1)[1][2:], it) for it in patterns if " " in it)
+    if name == "order of definitions":
+        return False
+    plain = name.lstrip("#").split(" ")[-1]
+    return any(fnmatch.fnmatchcase(plain, it) for it in patterns)
+
+
+def template_names(body):
+    found = re.search(r"(?s)ac_subst_vars='(.*?)'", body)
+    return sorted({*(found[1].split() if found else []), "INSTALL", "MKDIR_P"} - {"LTLIBOBJS", "LIBOBJS"})
+
+
+# What docs/language.md states of acrun, and the names that it is said of. Each sentence has to be there.
+OF_LANGUAGE = (
+    ("HAVE_STDINT_H, HAVE_UNISTD_H and their kin are defined only if AC_CHECK_HEADERS names the header",
+     r"config\.h (HAVE_(STDIO|STDLIB|STRING|INTTYPES|STDINT|STRINGS|SYS_STAT|SYS_TYPES|UNISTD)_H|STDC_HEADERS)"),
+    ("SHELL, PATH_SEPARATOR, OBJEXT, EXEEXT, LIBOBJS, ECHO_N and its kin, `build_alias` and its kin, and the variables that begin with `abs_` are no "
+     "output variables", r"values (SHELL|PATH_SEPARATOR|OBJEXT|EXEEXT|ECHO_[NCT]|(build|host|target)_alias)"),
+)
+
+
+@functools.lru_cache
+def of_language():
+    """Returns the pattern of the names that docs/language.md states to differ."""
+    text = " ".join((HERE.parent / "docs/language.md").read_text().split())
+    for sentence, _ in OF_LANGUAGE:
+        if sentence not in text:
+            sys.exit(f"docs/language.md does not say: {sentence}")
+    return re.compile("|".join(f"(?:{pattern})$" for _, pattern in OF_LANGUAGE))
+
+
+def beside_acrun(room, program, text, setting, names, defined, before):
+    """Returns what acrun leaves otherwise than the script of Autoconf did."""
+    mine = left_by_acrun(room, program, text, setting, names, defined)
+    kept = {name: it for name, it in before.items() if name.startswith(("status", "file ", "values ", "src/values ", "config.h "))}
+    if mine["status"] and kept["status"]:
+        return {}
+    kept["standard error"] = mine["standard error"] if not mine["status"] and not kept["status"] else before["standard error"]
+    return {name: it for name, it in differences(kept, mine).items() if not of_language().match(name.removeprefix("src/"))}
+
+
+def compared(room, text, ported, settings, program=""):
+    """Returns what differs between the scripts of a source and of what port makes of it: a setting, names and both values. With a program,
+    acrun is run on the latter too, and held against the script of the source."""
+    bodies = [script(END.sub(lambda found: SAVE + found[0], it, count=1)) for it in (text, ported)]
+    if bodies[0] is None:
+        return "refused"
+    if bodies[1] is None:
+        return [(Setting(), {"Autoconf refuses the output": ("", "")})]
+    names = template_names(bodies[0])
+    assigned = sorted({*re.findall(r"\b([A-Za-z_]\w*)=", text + ported)})
+    defined = sorted({*re.findall(r"#define (\w+)", bodies[0] + bodies[1]), *(f"HAVE_{re.sub(r'[^A-Za-z0-9]', '_', it).upper()}" for it in re.findall(r"[\w./]+", ported))})
+    patterns, found = stated(text), []
+    for setting in settings:
+        by_acrun = program and any(it.startswith("CFLAGS=") for it in setting.arguments) and not any(it.startswith("--host") for it in setting.arguments)
+        creates = bool(by_acrun) or setting.seed % 4 == 0
+        if bodies[0] == bodies[1] and not by_acrun:
+            continue
+        runs = [left(room, it, setting, names, assigned, defined, creates) for it in dict.fromkeys(bodies)]
+        runs = [runs[0], runs[-1]]
+        differs = {name: it for name, it in differences(*runs).items() if not is_stated(name, patterns)}
+        if differs:
+            found.append((setting, differs))
+        if by_acrun:
+            differs = beside_acrun(room, program, ported, setting, names, defined, runs[1])
+            if differs:
+                found.append((dataclasses.replace(setting, by="acrun"), differs))
+    return found
+
+
+def held(program, room, text, ported, is_read, settings):
+    """Returns what is wrong with what port made of a source."""
+    found = compared(room, text, ported, settings, program if is_read else "")
+    return found if found == "refused" or is_read else written_errors(program, text, ported) + found
+
+
+def port(program, text):
+    """Returns what port makes of a source, and whether acrun reads that."""
+    made = subprocess.run([program, "port", "-"], input=text, capture_output=True, text=True, errors="replace")
+    return made.stdout, made.returncode == 0
+
+
+# ---------------------------------------------------------------------------------------------------------------------- sources
+
+HEADERS = ("zlib.h", "sys/time.h", "foo.h", "unistd.h")
+FUNCTIONS = ("getcwd", "strdup", "foo", "pow")
+TEXTS = ("a text", "[a text]", "two words here", "[it, here]", "[$enable_foo is it]")
+INCLUDES = ("", "#include <stdio.h>", "#include <time.h>\n#include <zlib.h>")
+BODIES = ("puts (\"\");", "struct tm t[2]; t[0].tm_sec = 0;", "return foo (1, 2);", "char c = '\\\\'; (void) c;")
+# Arguments of the macros whose idiom has some: for each place texts, or the word that `argument` reads.
+ARGUMENTS = {
+    "AC_CACHE_VAL": [("fz_cv_one", "fz_cv_two", "ac_cv_fz"), "commands"],
+    "AC_CHECKING": [TEXTS],
+    "AC_VERBOSE": [TEXTS],
+    "AS_MESSAGE": [TEXTS],
+    "AC_WARN": [TEXTS],
+    "AC_MSG_FAILURE": [TEXTS],
+    "AC_ERROR": [TEXTS],
+    "AC_CHECK_DECLS_ONCE": [("getc_unlocked", "[EOF, stdin]")],
+    "AC_CHECK_FUNCS_ONCE": [("strdup mmap", "getcwd", "foo\npow")],
+    "AC_CHECK_HEADERS_ONCE": [("unistd.h sys/time.h", "zlib.h")],
+    "AC_CHECK_TOOL": [("STRIP", "RANLIB", "MYNM"), ("strip", "ranlib", "nm", "none-such"), (":", "strip", "")],
+    "AC_PATH_TOOL": [("STRIP", "NM", "MYAR"), ("strip", "nm", "ar", "none-such")],
+    "AC_COMPILE_CHECK": [("puts",), INCLUDES, BODIES, "action", "action"],
+    "AC_CONFIG_HEADER": [("config.h",)],
+    "AC_FUNC_CHECK": [FUNCTIONS],
+    "AC_HAVE_FUNCS": [("getcwd strdup", "foo", "pow\nfoo")],
+    "AC_HAVE_HEADERS": [("sys/time.h termios.h", "zlib.h")],
+    "AC_HEADER_CHECK": [HEADERS],
+    "AC_PREFIX_DEFAULT": [("/opt/greet", "/usr")],
+    "AC_PROGRAMS_CHECK": [("AWK", "TOOL"), ("gawk mawk awk", "strip none-such", "none-such")],
+    "AC_PROGRAM_CHECK": [("HAVE_AWK", "TOOL"), ("awk", "none-such"), ("yes", "it"), ("no", "")],
+    "AC_PROGRAM_PATH": [("SED", "TOOL"), ("sed", "none-such")],
+    "AC_REVISION": [("$Revision: 1.2 $", "1.7", "[$Revision: 1.2 $]")],
+    "AC_TRY_COMPILE": [INCLUDES, BODIES, "action", "action"],
+    "AC_TRY_LINK": [INCLUDES, BODIES, "action", "action"],
+    "AC_TRY_LINK_FUNC": [FUNCTIONS, "action", "action"],
+    "AC_TRY_RUN": [("int main (void) { return 0; }", "#include <stdio.h>\nint main (void) { return puts (\"a[1]\") < 0; }"), "action", "action", "action"],
+    "AC_TEST_PROGRAM": [("int main (void) { return 0; }",), "action", "action", "action"],
+    "AC_TRY_CPP": [("#include <stdio.h>", "#include <foo.h>\n#ifndef FOO\n#error none\n#endif"), "action", "action"],
+    "AS_VAR_COPY": [("copy", "v1"), ("level", "enable_foo", "v2")],
+    "m4_pattern_allow": [("^AC_FOO$", "^fz_")],
+}
+VALUES = ("yes", "no", "xyes", "/opt", "NONE", '""')
+CASED = ("$enable_foo", '"$with_bar"', "$prefix", '"$v1"', "x$v2")
+SET = ("yes", "b", "1", '"$v1 c"', "$prefix", "", "$enable_foo")
+FLAGS = ('"$LIBS -lz"', '"-ansi $CFLAGS"', "-DX")
+# Statements that acrun does not read.
+LEFT_AS_IS = ("for i in a b; do\n  v1=$i\ndone", "v2=`echo b`", "v1=$(echo c)", "echo a text", "cat <<EOT\nif a; then b; fi\nEOT", "v1=$?", "unset v2", "MY_CHECK([level])",
+              "MY_CHECK(v1)", "v1=${v2-none}")
+READ = ("prefix", "exec_prefix", "bindir", "LIBS", "CFLAGS", "CPPFLAGS", "CC", "enable_foo", "with_bar", "PACKAGE_NAME")
+GIVEN = {
+    "INSTALL": ("myinstall", "myinstall -c"), "INSTALL_DATA": ("myinstall -m 600",), "INSTALL_PROGRAM": ("myinstall -s",), "INSTALL_SCRIPT": ("myinstall -x",),
+    "MKDIR_P": ("mymkdir -p",), "RANLIB": ("myranlib", "myranlib -x"), "STRIP": ("mystrip",), "NM": ("mynm",), "MYNM": ("mynm",), "MYAR": ("myar",), "AWK": ("myawk",),
+    "SED": ("mysed",), "GREP": ("mygrep",), "CPP": ("mycpp",), "LN_S": ("cp -p",), "TOOL": ("strip",), "EXEEXT": (".exe",), "OBJEXT": ("obj",),
+    "LIBS": ("-lgiven",), "CPPFLAGS": ("-Igiven",), "LDFLAGS": ("-Lgiven",), "CC": ("cc", "gcc -ansi"),
+    "prefix": ("/env",), "v1": ("set",), "v2": ("yes",), "level": ("3",), "HAVE_AWK": ("maybe",), "copy": ("before",),
+    "ac_cv_func_getcwd": ("no",), "ac_cv_header_zlib_h": ("yes",), "ac_cv_prog_RANLIB": ("cached-ranlib",), "ac_cv_path_SED": ("/cached/sed",), "fz_cv_one": ("cached",),
+}
+
+
+def exact():
+    """Returns the macros that have an exact idiom, each with its entry and the numbers of arguments."""
+    return [(name, entry, least, most) for entry in macro_table.entries() for name, least, most in entry.exact]
+
+
+class Maker:
+    """Makes a source of a number."""
+
+    def __init__(self, number, names=None):
+        self.at = random.Random(number)
+        self.exact = [it for it in exact() if it[0] not in ("AC_OUTPUT(files)", "AC_CONFIG_HEADER") and (not names or it[0] in names)]
+        self.count = 0
+        self.used = []
+
+    def one(self, texts):
+        return self.at.choice(texts)
+
+    def has(self, share):
+        return self.at.random() < share
+
+    def fresh(self, front):
+        self.count += 1
+        return f"{front}{self.count}"
+
+    def quoted(self, text):
+        """Returns a text as an argument: in brackets, or bare if it is a plain word."""
+        if self.has(0.35) and re.fullmatch(r"[\w./:$-]+( [\w./:$-]+)*", text):
+            return text
+        return f"[{text}]"
+
+    def argument(self, kind, depth):
+        if kind == "commands":
+            name = self.used[-1]
+            return f"[{name}={self.one(['yes', 'no', '3'])}]" if self.has(0.5) else (
+                f"[AC_TRY_COMPILE([#include <time.h>], [struct tm t;], [{name}=yes], [{name}=no])]" if self.has(0.5)
+                else f"[if test \"$enable_foo\" = yes; then {name}=a; else {name}=b; fi]")
+        if kind == "action":
+            return self.action(depth)
+        text = self.one(kind)
+        self.used.append(text)
+        return text if text.startswith("[") else self.quoted(text)
+
+    def action(self, depth):
+        if self.has(0.15):
+            return ""
+        body = self.body(depth + 1, 1 if self.has(0.7) else 2)
+        if self.has(0.15) and re.fullmatch(r"\w+=\w+", body):
+            return body
+        return f"[{body}]"
+
+    def call(self, depth):
+        """Returns a call of an exact macro."""
+        name, entry, least, most = self.one(self.exact)
+        count = self.at.randint(least, most)
+        kinds = ARGUMENTS.get(name)
+        if count == 0:
+            return name
+        if kinds is None:
+            sys.exit(f"{name} has no arguments in ARGUMENTS")
+        said = ", ".join(self.argument(it, depth) for it in kinds[:count])
+        made = f"{name}({said})"
+        if name in ("AC_MSG_FAILURE", "AC_ERROR"):
+            return f"if test \"$enable_foo\" = stop; then {made}; fi" if self.has(0.8) else made
+        if name == "AC_CACHE_VAL" and self.has(0.5):
+            variable = re.match(r"AC_CACHE_VAL\(\[?(\w+)", made)[1]
+            return f"AC_MSG_CHECKING([for {self.one(['it', variable])}])\n{made}\nAC_MSG_RESULT([${variable}])"
+        return made
+
+    def check(self, depth):
+        """Returns a check that both read."""
+        kind = self.one(["HEADERS", "FUNCS", "HEADER", "FUNC", "LIB", "SEARCH", "TYPES", "DECLS", "PROG", "PROGS", "PATH", "CACHE", "COMPILE"])
+        actions = ", ".join(["", self.action(depth), *([self.action(depth)] if self.has(0.5) else [])]) if self.has(0.4) else ""
+        if kind == "HEADERS":
+            return f"AC_CHECK_HEADERS([{self.one(HEADERS)}{' foo2.h' * self.has(0.3)}]{actions})"
+        if kind == "FUNCS":
+            return f"AC_CHECK_FUNCS([{self.one(FUNCTIONS)}{' bar' * self.has(0.3)}]{actions})"
+        if kind == "HEADER":
+            return f"AC_CHECK_HEADER([{self.one(HEADERS)}]{actions})"
+        if kind == "FUNC":
+            return f"AC_CHECK_FUNC([{self.one(FUNCTIONS)}]{actions})"
+        if kind == "LIB":
+            return f"AC_CHECK_LIB([{self.one(['m', 'z'])}], [{self.one(FUNCTIONS)}]{actions})"
+        if kind == "SEARCH":
+            return f"AC_SEARCH_LIBS([{self.one(FUNCTIONS)}], [m z]{actions})"
+        if kind == "TYPES":
+            return f"AC_CHECK_TYPES([{self.one(['size_t', 'foo_t', 'struct foo'])}]{actions})"
+        if kind == "DECLS":
+            return f"AC_CHECK_DECLS([{self.one(['getcwd', 'EOF', 'foo'])}]{actions})"
+        if kind == "PROG":
+            return f"AC_CHECK_PROG([TOOL], [{self.one(['strip', 'none-such'])}], [yes], [no])"
+        if kind == "PROGS":
+            return f"AC_CHECK_PROGS([{self.one(['TOOL', 'RANLIB'])}], [none-such strip])"
+        if kind == "PATH":
+            return f"AC_PATH_PROG([{self.one(['TOOL', 'SED'])}], [strip])"
+        if kind == "CACHE":
+            name = self.fresh("fz_cv_c")
+            return f"AC_CACHE_CHECK([for {name}], [{name}], [{name}={self.one(['yes', 'no'])}])"
+        return f"AC_COMPILE_IFELSE([AC_LANG_PROGRAM([[{self.one(INCLUDES)}]], [[{self.one(BODIES)}]])], {self.action(depth)}, {self.action(depth)})"
+
+    def word(self):
+        return self.one(['"$enable_foo"', "$enable_foo", '"x$enable_foo"', "x$enable_foo", '"$v1"', "x$v2", '"$LIBS"', "$with_bar", '"$prefix"', '"${v1}"', "yes", '"$a b"'])
+
+    def test(self):
+        kind = self.at.randrange(6)
+        if kind < 3:
+            return f"{self.word()} {self.one(['=', '=', '!='])} {self.one([*VALUES, self.word()])}"
+        if kind < 5:
+            return f"{self.one(['-n', '-z'])} {self.word()}"
+        return self.word()
+
+    def condition(self):
+        kind = self.at.randrange(12)
+        if kind < 6:
+            return f"test {self.test()}"
+        if kind == 6:
+            return f"test {self.test()} {self.one(['-a', '-o'])} {self.test()}"
+        if kind == 7:
+            return f"test {self.test()} {self.one(['&&', '||'])} test {self.test()}"
+        if kind == 8:
+            return f"[[ {self.test()} ]]"
+        if kind == 9:
+            return f"test ! {self.test()}" if self.has(0.5) else f"! test {self.test()}"
+        if kind == 10:
+            return self.one(["test -f configure", "false", "true", ":"])
+        return f"test {self.test()} {self.one(['-a', '-o'])} {self.test()} {self.one(['-a', '-o'])} {self.test()}"
+
+    def compound(self, depth):
+        """Returns an `if`, a `case` or a list of the shell."""
+        kind = self.at.randrange(10)
+        if kind == 0:
+            first, other = self.assignment(), self.assignment()
+            return self.one([f"if {self.condition()}; then {first}; fi", f"if {self.condition()}; then {first}; else {other}; fi", f"if {self.condition()}\nthen {first}\nfi; {other}",
+                             f"case {self.one(CASED)} in yes) {first};; *) {other};; esac", f"test {self.test()} && {{ {first}; {other}; }}", f"({first})", f"{first}; {other}"])
+        if kind < 5:
+            text = f"if {self.condition()}; then\n{self.body(depth + 1)}\n"
+            text += f"elif {self.condition()}; then\n{self.body(depth + 1)}\n" if self.has(0.2) else ""
+            text += f"else\n{self.body(depth + 1)}\n" if self.has(0.4) else ""
+            return f"{text}fi"
+        if kind < 7:
+            arms = [self.one(["yes", "no", "y*", "/*", '"a b"', "x | NONE", "a|b", "set", "[[yY]]*"]) for _ in range(self.at.randint(1, 2))]
+            arms += ["*"] if self.has(0.7) else []
+            joined = "".join(f"  {'(' * self.has(0.05)}{arm})\n{self.body(depth + 1, 1)}\n    ;;\n" for arm in arms)
+            return f"case {self.one(CASED)} in\n{joined}esac"
+        if kind < 9:
+            return f"test {self.test()} {self.one(['&&', '||'])} {self.simple(depth + 1)}"
+        return f"AS_IF([{self.condition()}], [{self.body(depth + 1)}]{f', [{self.body(depth + 1)}]' if self.has(0.4) else ''})"
+
+    def assignment(self):
+        return f"{self.one(['v1', 'v2', 'level'])}={self.one(SET)}"
+
+    def simple(self, depth):
+        kind = self.at.randrange(10)
+        if kind == 9:
+            return self.one(LEFT_AS_IS)
+        if kind < 3:
+            return self.assignment()
+        if kind == 3:
+            return f"AC_DEFINE([{self.fresh('D')}], [{self.one(['1', '', 'two words'])}], [a text])"
+        if kind == 4:
+            return f"AC_DEFINE({self.fresh('D')}) {self.one(['v1', 'v2'])}={self.one(['yes', 'd'])}"
+        if kind == 5:
+            return f'AC_DEFINE_UNQUOTED([{self.fresh("D")}], ["{self.one(["$v1", "$prefix", "$LIBS"])}"], [a text])'
+        if kind == 6:
+            return f"{self.one(['LIBS', 'CFLAGS', 'CPPFLAGS'])}={self.one(FLAGS)}"
+        if kind == 7:
+            name = self.fresh("r")
+            return f"{name}={self.read()}\nAC_SUBST([{name}])"
+        return f"AC_MSG_{self.one(['NOTICE', 'WARN'])}([{self.one(['v1 is $v1', 'a text', 'prefix is $prefix'])}])"
+
+    def read(self):
+        names = [*READ]
+        for entry in {id(it[1]): it[1] for it in self.exact if it[0] in self.called}.values():
+            names += re.findall(r"AC_(?:SUBST|CHECK_PROGS|PATH_PROG|ARG_VAR)\(\[(\w+)\]", entry.text()) * 3
+        names += [name for name in self.cached if not is_stated(name, stated(" ".join(self.called)))]
+        return f"\"${self.one(names)}\""
+
+    def statement(self, depth):
+        kind = self.at.random()
+        if kind < 0.4:
+            text = self.call(depth)
+            for name in {*re.findall(r"\b(?:A[CS]|m4)_\w+", text)} & {it[0] for it in self.exact} - self.called:
+                self.called.add(name)
+                self.cached += cache_names(name)
+            return text
+        if kind < 0.6 and depth < 3:
+            return self.compound(depth)
+        if kind < 0.75:
+            return self.check(depth)
+        return self.simple(depth)
+
+    def body(self, depth, count=None):
+        return "\n".join(self.laid_out(self.statement(depth)) for _ in range(count or self.at.choice((1, 1, 2))))
+
+    def laid_out(self, text):
+        """Returns a statement with what may be around it on its lines."""
+        kind = self.at.randrange(24)
+        if kind == 0 and "\n" not in text:
+            return f"{text} # a note"
+        if kind == 1 and re.search(r"\w\)?$", text):
+            return f"{text} dnl a note"
+        if kind == 2:
+            return f"# a note: it's (here\n{text}"
+        if kind == 3:
+            return f"dnl a note\n\n{text}"
+        if kind == 4:
+            return f"  {text}"
+        return text
+
+    def source(self):
+        """Returns the source, and the blocks of it that may be left out."""
+        self.called, self.cached = set(), []
+        first = ["AC_INIT([fuzz], [1.0])", "AC_CONFIG_SRCDIR([configure.ac])"[: 0 if self.has(0.9) else None]]
+        header = self.one(["AC_CONFIG_HEADERS([config.h])", "AC_CONFIG_HEADERS([config.h])", "AC_CONFIG_HEADER(config.h)", ""])
+        blocks = [
+            self.one(["AC_ARG_ENABLE([foo], [do foo])", f"AC_ARG_ENABLE([foo], [do foo], {self.action(1)}, {self.action(1)})", "AC_ARG_ENABLE(foo, [  --enable-foo  do it],\n  if test \"$enableval\" = yes; then\n    v1=1\n  fi,\n  v2=0\n)"]),
+            self.one(["AC_ARG_WITH([bar], [use bar])", f"AC_ARG_WITH([bar], AC_HELP_STRING([--with-bar], [use bar]), [v1=\"$withval\"], {self.action(1)})"]),
+        ]
+        if self.has(0.6):
+            # What checks look for on their way is looked for here, so that it is no news below.
+            blocks += ["AC_CHECK_HEADERS([first.h])", "AC_CHECK_DECLS([EOF])", "AC_PREPROC_IFELSE([AC_LANG_SOURCE([[int first;]])], [v1=1], [v1=2])"]
+        for _ in range(self.at.randint(2, 6)):
+            text = self.laid_out(self.statement(0))
+            blocks.append(text)
+            if self.has(0.15):
+                blocks.append(text)
+            if self.has(0.4):
+                name = self.fresh("r")
+                blocks.append(f"{name}={self.read()}\nAC_SUBST([{name}])")
+        last = self.one(["AC_CONFIG_FILES([values])\nAC_OUTPUT", "AC_CONFIG_FILES([values src/values])\nAC_OUTPUT", "AC_OUTPUT([values])", "AC_OUTPUT(values \\\n src/values)", "AC_CONFIG_FILES([values])\nAC_OUTPUT()"])
+        if any("MY_CHECK" in it for it in blocks):
+            first.append("AC_DEFUN([MY_CHECK], [$1=mine])")
+        return [*first, header], ["AC_PROG_CC"] * (not self.has(0.05)) + blocks, last
+
+    def settings(self, count):
+        found = []
+        for _ in range(count):
+            arguments, environment = [], []
+            arguments += [self.one(["--enable-foo", "--disable-foo", "--enable-foo=a b", "--enable-foo=x"])] if self.has(0.6) else []
+            arguments += [self.one(["--with-bar", "--without-bar", "--with-bar=/opt"])] if self.has(0.4) else []
+            arguments += [self.one(["--prefix=/opt/p", "--prefix=/usr"])] if self.has(0.3) else []
+            arguments += ["--exec-prefix=/x"] if self.has(0.1) else []
+            arguments += [f"CFLAGS={self.one(['', '', '-g', '-ansi'])}"] if self.has(0.9) else []
+            is_host = self.has(0.25)
+            arguments += [f"--host={HOST}"] if is_host else []
+            for name in self.at.sample(sorted(GIVEN), self.at.choice((0, 0, 1, 2, 4))):
+                value = self.one(GIVEN[name])
+                if self.has(0.5):
+                    arguments.append(f"{name}={value}")
+                else:
+                    environment.append((name, value))
+            programs = self.one(["plain", "plain", "cross", "half", "none"]) if not is_host else self.one(["cross", "cross", "half", "plain"])
+            found.append(Setting(tuple(arguments), tuple(environment), programs, is_host and self.has(0.6), self.at.randrange(1000)))
+        return found
+
+
+@functools.lru_cache
+def cache_names(name):
+    """Returns the cache variables of a macro, as far as a script without its arguments has them."""
+    found = []
+    for call in ("", f"{name}\n"):
+        body = script(f"AC_INIT([fuzz], [1.0])\nAC_PROG_CC\n{call}AC_OUTPUT\n") if least_of(name) == 0 else None
+        found.append({*re.findall(r"\bac_cv_\w+", body or "")})
+    return sorted(found[1] - found[0])
+
+
+def least_of(name):
+    return min(least for it, _, least, _ in exact() if it == name)
+
+
+def joined(first, blocks, last):
+    return "\n".join([*filter(None, first), *blocks, last]) + "\n"
+
+
+# Errors about what a source has itself, which port may leave on another line.
+OF_SOURCE = re.compile(r"not read|does not know|no macro that acrun knows|other text beside it")
+
+
+def written_errors(program, text, ported):
+    """Returns the errors that acrun reports in lines that port wrote, and not in the source."""
+    found = []
+    for each in (text, ported):
+        lines = subprocess.run([program, "lint", "--json", "-"], input=each, capture_output=True, text=True, errors="replace").stdout.splitlines()
+        found.append([it for it in map(json.loads, lines) if it["severity"] == "error" and it["code"] != "template"])
+    known, lines = {it["message"] for it in found[0]}, ported.splitlines()
+    new = [it for it in found[1] if it["message"] not in known and not OF_SOURCE.search(it["message"]) and lines[it["line"] - 1] not in text.splitlines()]
+    return [(Setting(by="lint"), {f"error in {lines[it['line'] - 1]}: {it['message']}": ("", "")}) for it in new]
+
+
+def judge(program, room, number, names=None, runs=2):
+    """Returns what is wrong with a source: how it was run, and what differs."""
+    maker = Maker(number, names)
+    first, blocks, last = maker.source()
+    settings = maker.settings(runs)
+    text = joined(first, blocks, last)
+    ported, is_read = port(program, text)
+    if ported == text and not is_read:
+        return "same", text, ported
+    return held(program, room, text, ported, is_read, settings), text, ported
+
+
+# ---------------------------------------------------------------------------------------------------------------------- stored sources
+
+# What a stored source is run with, by the names in its row.
+SETTINGS = {
+    "plain": Setting(("CFLAGS=",)),
+    "seeds": [Setting(("CFLAGS=",), seed=it) for it in range(1, 5)],
+    "host": Setting((f"--host={HOST}",), programs="cross"),
+    "cross": Setting((f"--host={HOST}",), programs="cross", is_cross=True),
+    "given": Setting(("MKDIR_P=mymkdir -p", "RANLIB=myranlib", "MYNM=mynm"),
+                     (("INSTALL", "myinstall"), ("INSTALL_DATA", "myinstall -m 600"), ("INSTALL_PROGRAM", "myinstall -s"), ("INSTALL_SCRIPT", "myinstall -x"))),
+    "ansi": Setting(("CFLAGS=-ansi",)),
+    "foo": Setting(("--enable-foo",)),
+    "bar": Setting(("--disable-foo", "--with-bar=/opt", "--prefix=/opt/p")),
+    "letters": [Setting(environment=tuple((it, value) for it in string.ascii_letters)) for value in ("yes", "b", "1")],
+}
+
+
+def unescaped(text):
+    return subprocess.run(["printf", "%b", text], stdout=subprocess.PIPE).stdout.decode("latin-1")
+
+
+def stored(names):
+    """Yields the name of each stored source, its text and its settings: those of examples/exact, and those of examples/port about shell text,
+    which are run with variables of one letter that are not set, `yes`, `b` and `1`."""
+    for file, fronts in (("exact", ("",)), ("port", ("shell-", "defines-", "arguments-", "lists-"))):
+        for row in (HERE.parent / f"examples/{file}/sources.txt").read_text().splitlines():
+            name, _, text = row.partition(" ")
+            chosen = "plain,letters"
+            if file == "exact":
+                chosen, _, text = text.partition(" ")
+            if name.startswith(fronts) and (not names or name.startswith(tuple(names))):
+                settings = [SETTINGS[it] for it in chosen.split(",")]
+                yield name, unescaped(text), [one for it in settings for one in (it if isinstance(it, list) else [it])]
+
+
+def judge_stored(program, room, text, settings):
+    ported, is_read = port(program, text)
+    return held(program, room, text, ported, is_read, settings), text, ported
+
+
+# ---------------------------------------------------------------------------------------------------------------------- runs
+
+
+def shown(differs):
+    for setting, names in differs:
+        other = "in acrun" if setting.by == "acrun" else "after port"
+        yield f"  {setting.shown()}"
+        if "status" in names:
+            names = {name: it for name, it in names.items() if name == "status" or name.startswith("standard ")}
+        for name, (before, after) in names.items():
+            yield f"    {name}" + (f": {before!r}, and {after!r} {other}" if before != after else "")
+
+
+def minimized(program, room, number, names):
+    """Returns the smallest part of a source that still differs, what port makes of it, and the differences: blocks and lines go in turn."""
+    maker = Maker(number, names)
+    first, blocks, last = maker.source()
+    settings = maker.settings(2)
+
+    def tried(blocks, settings):
+        text = joined(first, blocks, last)
+        ported, is_read = port(program, text)
+        found = held(program, room, text, ported, is_read, settings)
+        return (found, text, ported) if found and not isinstance(found, str) else None
+
+    best = tried(blocks, settings)
+    if not best:
+        return [], joined(first, blocks, last), ""
+    settings = [dataclasses.replace(best[0][0][0], by="port")]
+    changed = True
+    while changed:
+        changed = False
+        for k in reversed(range(len(blocks))):
+            without = blocks[:k] + blocks[k + 1 :]
+            if len(blocks) > 1 and (found := tried(without, settings)):
+                blocks, best, changed = without, found, True
+        for part in ("arguments", "environment"):
+            for k in reversed(range(len(getattr(settings[0], part)))):
+                kept = getattr(settings[0], part)
+                without = [dataclasses.replace(settings[0], **{part: kept[:k] + kept[k + 1 :]})]
+                if found := tried(blocks, without):
+                    settings, best, changed = without, found, True
+    return best
+
+
+ROOM = None
+
+
+def task(given):
+    global ROOM
+    program, number, names, runs = given
+    try:
+        return number, *judge(program, ROOM, number, names, runs)
+    except Exception as error:
+        return number, f"{type(error).__name__}: {error}", "", ""
+
+
+def stored_task(given):
+    program, name, text, settings = given
+    return name, *judge_stored(program, ROOM, text, settings)
+
+
+def try_stored(program, options):
+    """Tries the stored sources."""
+    rows, differ, refused = [(program, *it) for it in stored(options.stored)], 0, 0
+    with concurrent.futures.ProcessPoolExecutor(options.jobs) as pool:
+        for name, found, text, ported in pool.map(stored_task, rows):
+            differ, refused = differ + bool(found and found != "refused"), refused + (found == "refused")
+            if found:
+                print(f"{name}: {'is refused by Autoconf' if found == 'refused' else 'differs'}")
+                print("".join(f"{line}\n" for line in (shown(found) if found != "refused" else ())), end="", flush=True)
+    print(f"{len(rows) - differ - refused} stored sources leave the same, {differ} differ, {refused} are refused by Autoconf")
+    return int(differ > 0)
+
+
+def main():
+    options = argparse.ArgumentParser(description=__doc__, formatter_class=argparse.RawDescriptionHelpFormatter)
+    options.add_argument("program")
+    options.add_argument("--from", dest="first", type=int, default=0)
+    options.add_argument("--count", type=int, default=200)
+    options.add_argument("--seconds", type=int, default=0)
+    options.add_argument("--jobs", type=int, default=2)
+    options.add_argument("--runs", type=int, default=2)
+    options.add_argument("--only", action="append", default=[])
+    options.add_argument("--stored", nargs="*", metavar="NAME")
+    options.add_argument("--replay", type=int)
+    options.add_argument("--minimize", type=int)
+    options = options.parse_args()
+    program = str(pathlib.Path(options.program).resolve())
+    global ROOM
+    ROOM = Room()
+    try:
+        if options.replay is not None or options.minimize is not None:
+            if options.minimize is not None:
+                found, text, ported = minimized(program, ROOM, options.minimize, options.only)
+            else:
+                found, text, ported = judge(program, ROOM, options.replay, options.only, options.runs)
+            print(f"{text}--- after port\n{ported}---", *(shown(found) if not isinstance(found, str) else [found]), sep="\n")
+            return int(bool(found) and not isinstance(found, str))
+        if options.stored is not None:
+            return try_stored(program, options)
+        counts, began = {"same": 0, "rewritten": 0, "refused": 0, "differ": 0}, time.time()
+        rows = ((program, number, options.only, options.runs) for number in range(options.first, options.first + options.count))
+        with concurrent.futures.ProcessPoolExecutor(options.jobs) as pool:
+            for number, found, _, _ in pool.map(task, rows):
+                kind = found if found in ("same", "refused") else "differ" if found else "rewritten"
+                counts[kind] += 1
+                if kind == "differ":
+                    print(f"differs {number}", *(shown(found) if not isinstance(found, str) else [found]), sep="\n", flush=True)
+                if options.seconds and time.time() - began > options.seconds:
+                    pool.shutdown(cancel_futures=True)
+                    break
+        print(f"{sum(counts.values())} sources: {counts['rewritten']} leave the same, {counts['differ']} differ, {counts['same']} were not changed, "
+              f"{counts['refused']} are refused by Autoconf; {time.time() - began:.0f} seconds")
+        return int(counts["differ"] > 0)
+    finally:
+        ROOM.end()
+
+
+if __name__ == "__main__":
+    sys.exit(main())
