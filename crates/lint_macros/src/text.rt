@@ -16,14 +16,23 @@ AS_IF([$2{TEST}],
   [$1!{NAME}_TRUE='#' $1!{NAME}_FALSE=])
 AC_SUBST([$1!{NAME}_TRUE])
 AC_SUBST([$1!{NAME}_FALSE])~drop AC_C_CONST AC_C_INLINE AC_C_VOLATILE AC_C_RESTRICT AC_C_PROTOTYPES AC_C_STRINGIZE AC_C_TYPEOF AC_C_BACKSLASH_A AC_C_CHAR_UNSIGNED AC_CONST AC_INLINE AC_PROG_CC_STDC AC_PROG_CC_C89 AC_PROG_CC_C99 AC_PROG_GCC_TRADITIONAL AM_PROG_CC_STDC AM_C_PROTOTYPES gl_PROG_CC_C99 AC_CHAR_UNSIGNED
-each compiler of this century has it, and AC_PROG_CC looks for the compiler; a flag such as -std=gnu99 is given in CFLAGS or CC~drop AC_ISC_POSIX AC_AIX AC_MINIX AC_ZOS_USS AC_EMXOS2 AC_HEADER_STAT AC_STRUCT_TM AC_FUNC_STAT AC_FUNC_LSTAT AC_FUNC_MEMCMP AC_FUNC_CLOSEDIR_VOID AC_FUNC_SETVBUF_REVERSED AC_FUNC_MKTIME AC_FUNC_STRTOD AC_SETVBUF_REVERSED
-it looks for a fault of systems that are long gone~drop AC_TYPE_INT8_T AC_TYPE_INT16_T AC_TYPE_INT32_T AC_TYPE_INT64_T AC_TYPE_UINT8_T AC_TYPE_UINT16_T AC_TYPE_UINT32_T AC_TYPE_UINT64_T AC_TYPE_INTMAX_T AC_TYPE_UINTMAX_T AC_TYPE_INTPTR_T AC_TYPE_UINTPTR_T AC_TYPE_LONG_LONG_INT AC_TYPE_UNSIGNED_LONG_LONG_INT AC_TYPE_LONG_DOUBLE AC_C_LONG_DOUBLE AC_TYPE_MBSTATE_T AC_C_FLEXIBLE_ARRAY_MEMBER AC_C_VARARRAYS gl_C_BOOL gl_AC_TYPE_LONG_LONG
+each compiler of this century has it, and AC_PROG_CC looks for the compiler; a flag such as -std=gnu99 is given in CFLAGS or CC~drop AC_AIX AC_MINIX AC_ZOS_USS AC_EMXOS2 AC_HEADER_STAT AC_FUNC_STAT AC_FUNC_LSTAT AC_FUNC_MEMCMP AC_FUNC_CLOSEDIR_VOID AC_FUNC_SETVBUF_REVERSED AC_FUNC_MKTIME AC_FUNC_STRTOD AC_SETVBUF_REVERSED
+it looks for a fault of systems that are long gone~idiom AC_ISC_POSIX
+AC_SEARCH_LIBS([strerror], [cposix])~idiom AC_STRUCT_TM
+AC_CACHE_CHECK([whether struct tm is in sys/time.h or time.h], [ac_cv_struct_tm],
+  [AC_COMPILE_IFELSE([AC_LANG_PROGRAM([[#include <sys/types.h>
+#include <time.h>]], [[struct tm tm; int *p = &tm.tm_sec; return !p;]])],
+    [ac_cv_struct_tm=time.h], [ac_cv_struct_tm=sys/time.h])])
+AS_IF([test \"$ac_cv_struct_tm\" = sys/time.h],
+  [AC_DEFINE([TM_IN_SYS_TIME], [1], [Define to 1 if your <sys/time.h> declares struct tm.])])~drop AC_TYPE_INT8_T AC_TYPE_INT16_T AC_TYPE_INT32_T AC_TYPE_INT64_T AC_TYPE_UINT8_T AC_TYPE_UINT16_T AC_TYPE_UINT32_T AC_TYPE_UINT64_T AC_TYPE_INTMAX_T AC_TYPE_UINTMAX_T AC_TYPE_INTPTR_T AC_TYPE_UINTPTR_T AC_TYPE_LONG_LONG_INT AC_TYPE_UNSIGNED_LONG_LONG_INT AC_TYPE_LONG_DOUBLE AC_C_LONG_DOUBLE AC_TYPE_MBSTATE_T AC_C_FLEXIBLE_ARRAY_MEMBER AC_C_VARARRAYS gl_C_BOOL gl_AC_TYPE_LONG_LONG
 each compiler of this century has it, the types in stdint.h; if the sources test a name such as HAVE_INTMAX_T, define it by AC_DEFINE~idiom AC_USE_SYSTEM_EXTENSIONS AC_GNU_SOURCE gl_USE_SYSTEM_EXTENSIONS AC_POSIX_SOURCE
 AC_DEFINE([_GNU_SOURCE], [1], [Enable GNU extensions.])
 AC_DEFINE([__EXTENSIONS__], [1], [Enable extensions of Solaris.])~idiom AC_CONFIG_HEADER AM_CONFIG_HEADER
 AC_CONFIG_HEADERS([$1{HEADER}])~idiom AC_HELP_STRING
 AS_HELP_STRING([$1{OPTION}], [$2{TEXT}])~idiom AC_MSG_FAILURE AC_ERROR AS_ERROR m4_fatal AC_FATAL
-AC_MSG_ERROR([$1{MESSAGE}])~idiom AC_CHECKING AC_VERBOSE AS_MESSAGE
+AC_MSG_ERROR([$1{MESSAGE}])~idiom AC_CHECKING
+AC_MSG_NOTICE([checking $1{MESSAGE}...])~idiom AC_VERBOSE
+AC_MSG_RESULT([$1{MESSAGE}])~idiom AS_MESSAGE
 AC_MSG_NOTICE([$1{MESSAGE}])~idiom AC_WARN
 AC_MSG_WARN([$1{MESSAGE}])~idiom AC_CHECK_TOOL AC_CHECK_TOOLS AC_CHECK_TARGET_TOOL AC_CHECK_TARGET_TOOLS
 AC_CHECK_PROGS([$1{VARIABLE}], [$2{PROGRAM}], [$3{}])~idiom AC_PATH_TOOL AC_PATH_TARGET_TOOL AM_PATH_PROG_WITH_TEST
@@ -47,10 +56,14 @@ no commands are run at the end: write a rule of the Makefile~idiom AC_HEADER_STD
 AC_DEFINE([STDC_HEADERS], [1], [Define to 1 if you have the C90 headers.])~idiom AC_HEADER_TIME AC_TIME_WITH_SYS_TIME
 AC_CHECK_HEADERS([sys/time.h])
 AC_DEFINE([TIME_WITH_SYS_TIME], [1], [Define to 1 if time.h and sys/time.h can both be included.])~idiom AC_TYPE_SIGNAL AC_RETSIGTYPE
-AC_DEFINE([RETSIGTYPE], [void], [Define as the return type of signal handlers.])~idiom AC_TYPE_GETGROUPS AC_GETGROUPS_T
+AC_CACHE_CHECK([return type of signal handlers], [ac_cv_type_signal],
+  [AC_COMPILE_IFELSE([AC_LANG_PROGRAM([[#include <sys/types.h>
+#include <signal.h>]], [[return *(signal (0, 0)) (0) == 1;]])],
+    [ac_cv_type_signal=int], [ac_cv_type_signal=void])])
+AC_DEFINE_UNQUOTED([RETSIGTYPE], [$ac_cv_type_signal], [Define as the return type of signal handlers.])~idiom AC_TYPE_GETGROUPS AC_GETGROUPS_T
 AC_DEFINE([GETGROUPS_T], [gid_t], [Define to the type of elements in the array set by getgroups.])~idiom AC_TYPE_SIZE_T AC_SIZE_T
-AC_CHECK_TYPE([size_t], [], [AC_DEFINE([size_t], [unsigned], [Define to a type of sizes if there is no size_t.])])~idiom AC_TYPE_OFF_T AC_OFF_T
-AC_CHECK_TYPE([off_t], [], [AC_DEFINE([off_t], [long], [Define to a type of file sizes if there is no off_t.])])~idiom AC_TYPE_PID_T AC_PID_T
+AC_CHECK_TYPE([size_t], [], [AC_DEFINE([size_t], [unsigned int], [Define to a type of sizes if there is no size_t.])])~idiom AC_TYPE_OFF_T AC_OFF_T
+AC_CHECK_TYPE([off_t], [], [AC_DEFINE([off_t], [long int], [Define to a type of file sizes if there is no off_t.])])~idiom AC_TYPE_PID_T AC_PID_T
 AC_CHECK_TYPE([pid_t], [], [AC_DEFINE([pid_t], [int], [Define to a type of process ids if there is no pid_t.])])~idiom AC_TYPE_UID_T AC_UID_T
 AC_CHECK_TYPE([uid_t], [], [AC_DEFINE([uid_t], [int], [Define to a type of user ids if there is no uid_t.])])~idiom AC_TYPE_MODE_T AC_MODE_T
 AC_CHECK_TYPE([mode_t], [], [AC_DEFINE([mode_t], [int], [Define to a type of file modes if there is no mode_t.])])~idiom AC_TYPE_SSIZE_T
@@ -72,8 +85,8 @@ AC_CACHE_CHECK([whether sys/ioctl.h defines TIOCGWINSZ], [ac_cv_sys_tiocgwinsz_i
     [ac_cv_sys_tiocgwinsz_in_sys_ioctl_h=yes], [ac_cv_sys_tiocgwinsz_in_sys_ioctl_h=no])])
 AS_IF([test \"$ac_cv_sys_tiocgwinsz_in_termios_h\" != yes && test \"$ac_cv_sys_tiocgwinsz_in_sys_ioctl_h\" = yes],
   [AC_DEFINE([GWINSZ_IN_SYS_IOCTL], [1], [Define to 1 if sys/ioctl.h has TIOCGWINSZ, and not termios.h.])])~idiom AC_HEADER_MAJOR
-AC_CHECK_HEADER([sys/sysmacros.h], [AC_DEFINE([MAJOR_IN_SYSMACROS], [1], [Define to 1 if major is in sys/sysmacros.h.])],
-  [AC_CHECK_HEADER([sys/mkdev.h], [AC_DEFINE([MAJOR_IN_MKDEV], [1], [Define to 1 if major is in sys/mkdev.h.])])])~idiom AC_HEADER_RESOLV
+AC_CHECK_HEADER([sys/mkdev.h], [AC_DEFINE([MAJOR_IN_MKDEV], [1], [Define to 1 if major is in sys/mkdev.h.])],
+  [AC_CHECK_HEADER([sys/sysmacros.h], [AC_DEFINE([MAJOR_IN_SYSMACROS], [1], [Define to 1 if major is in sys/sysmacros.h.])])])~idiom AC_HEADER_RESOLV
 AC_CHECK_HEADERS([netinet/in.h arpa/nameser.h netdb.h])
 AC_CHECK_HEADERS([resolv.h], [], [], [#include <sys/types.h>
 #include <netinet/in.h>
@@ -93,19 +106,33 @@ AC_DEFINE([HAVE_REALLOC], [1], [Define to 1 if realloc of nothing works.])~idiom
 AC_CHECK_HEADERS([sys/param.h])
 AC_CHECK_FUNCS([getpagesize mmap])~idiom AC_FUNC_STRERROR_R
 AC_CHECK_DECLS([strerror_r])
-AC_CHECK_FUNCS([strerror_r])
+AS_IF([test \"$ac_cv_have_decl_strerror_r\" = yes],
+  [AC_DEFINE([HAVE_STRERROR_R], [1], [Define if you have strerror_r.])])
 AC_CACHE_CHECK([whether strerror_r returns char *], [ac_cv_func_strerror_r_char_p],
-  [AC_COMPILE_IFELSE([AC_LANG_PROGRAM([[#include <string.h>]],
-      [[char text[100]; return *strerror_r (0, text, sizeof text) != 0;]])],
-    [ac_cv_func_strerror_r_char_p=yes], [ac_cv_func_strerror_r_char_p=no])])
+  [ac_cv_func_strerror_r_char_p=no
+   AS_IF([test \"$ac_cv_have_decl_strerror_r\" = yes],
+     [AC_COMPILE_IFELSE([AC_LANG_PROGRAM([[#include <string.h>]],
+         [[char buf[100]; char x = *strerror_r (0, buf, sizeof buf);
+char *p = strerror_r (0, buf, sizeof buf); return !p || x;]])],
+       [ac_cv_func_strerror_r_char_p=yes])])])
 AS_IF([test \"$ac_cv_func_strerror_r_char_p\" = yes],
   [AC_DEFINE([STRERROR_R_CHAR_P], [1], [Define to 1 if strerror_r returns char *.])])~idiom AC_FUNC_VPRINTF AC_VPRINTF
-AC_CHECK_FUNCS([vprintf])~idiom AC_FUNC_STRFTIME AC_STRFTIME
-AC_CHECK_FUNCS([strftime])~idiom AC_FUNC_STRCOLL AC_STRCOLL
+AC_CHECK_FUNCS([vprintf], [],
+  [AC_CHECK_FUNC([_doprnt], [AC_DEFINE([HAVE_DOPRNT], [1], [Define to 1 if you have _doprnt, and not vprintf.])])])~idiom AC_FUNC_STRFTIME AC_STRFTIME
+AC_CHECK_FUNCS([strftime], [],
+  [AC_CHECK_LIB([intl], [strftime],
+    [AC_DEFINE([HAVE_STRFTIME], [1], [Define to 1 if you have strftime.])
+     LIBS=\"-lintl $LIBS\"])])~idiom AC_FUNC_STRCOLL AC_STRCOLL
 AC_CHECK_FUNCS([strcoll])~idiom AC_FUNC_STRNLEN
 AC_CHECK_FUNC([strnlen], [], [EXTRA_OBJS=\"$EXTRA_OBJS strnlen.o\"])
 AC_SUBST([EXTRA_OBJS])~idiom AC_FUNC_MBRTOWC
-AC_CHECK_FUNCS([mbrtowc])~idiom AC_FUNC_FSEEKO
+AC_CACHE_CHECK([whether mbrtowc and mbstate_t are properly declared], [ac_cv_func_mbrtowc],
+  [AC_LINK_IFELSE([AC_LANG_PROGRAM([[#include <wchar.h>]],
+      [[wchar_t wc; char const s[] = \"\"; size_t n = 1; mbstate_t state;
+return ! (sizeof state && (mbrtowc) (&wc, s, n, &state));]])],
+    [ac_cv_func_mbrtowc=yes], [ac_cv_func_mbrtowc=no])])
+AS_IF([test \"$ac_cv_func_mbrtowc\" = yes],
+  [AC_DEFINE([HAVE_MBRTOWC], [1], [Define to 1 if mbrtowc and mbstate_t are properly declared.])])~idiom AC_FUNC_FSEEKO
 AC_CHECK_FUNCS([fseeko])~idiom AC_FUNC_ERROR_AT_LINE
 AC_CHECK_FUNC([error_at_line], [], [EXTRA_OBJS=\"$EXTRA_OBJS error.o\"])
 AC_SUBST([EXTRA_OBJS])~idiom AC_FUNC_CHOWN

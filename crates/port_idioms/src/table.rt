@@ -6,10 +6,6 @@ ghost use Rattle.std.specs.Prelude.{◌≡◌};
 #[rattlefmt::skip]
 pub const EXACT: &[u8] = b"\
 AC_CHECKING 1 1
-AC_CHECK_DECLS_ONCE 1 1
-AC_CHECK_FUNCS_ONCE 1 1
-AC_CHECK_HEADERS_ONCE 1 1
-AC_COMPILE_CHECK 3 5
 AC_CONFIG_HEADER 1 1
 AC_CONST 0 0
 AC_C_CONST 0 0
@@ -29,7 +25,6 @@ AC_HAVE_HEADERS 1 1
 AC_HEADER_CHECK 1 1
 AC_HEADER_MAJOR 0 0
 AC_HEADER_STAT 0 0
-AC_HEADER_STDBOOL 0 0
 AC_ISC_POSIX 0 0
 AC_LN_S 0 0
 AC_MODE_T 0 0
@@ -58,10 +53,8 @@ AC_RETSIGTYPE 0 0
 AC_REVISION 0 1
 AC_SETVBUF_REVERSED 0 0
 AC_SIZE_T 0 0
-AC_STRUCT_TIMEZONE 0 0
 AC_STRUCT_TM 0 0
 AC_TEST_PROGRAM 1 4
-AC_TIMEZONE 0 0
 AC_TRY_COMPILE 2 4
 AC_TRY_CPP 1 3
 AC_TRY_LINK 2 4
@@ -101,6 +94,9 @@ AC_CANONICAL_SYSTEM 0 0 no system is detected, so the user gives host, target an
 AC_CANONICAL_TARGET 0 0 no system is detected, so the user gives host, target and their parts, as NAME=VALUE
 AC_CHAR_UNSIGNED 0 0 the compiler defines __CHAR_UNSIGNED__ itself
 AC_CHECK_ALIGNOF 1 1 the headers that Autoconf includes are taken to be there, and an alignment other than 1, 2, 4, 8 and 16 is 0
+AC_CHECK_DECLS_ONCE 1 1 each is checked here, and not all of them together at the first such call
+AC_CHECK_FUNCS_ONCE 1 1 each is checked here, and not all of them together at the first such call
+AC_CHECK_HEADERS_ONCE 1 1 each is checked here, and not all of them together at the first such call
 AC_CHECK_HEADER_STDBOOL 0 0 HAVE_STDBOOL_H is defined if the header is there
 AC_CHECK_MEMBER 1 3 the headers that Autoconf includes are taken to be there
 AC_CHECK_MEMBER(includes) 4 4 a bit-field counts as missing
@@ -112,6 +108,7 @@ AC_CHECK_TARGET_TOOL 2 3 no program whose name begins with that of the host is l
 AC_CHECK_TARGET_TOOLS 2 3 no program whose name begins with that of the host is looked for
 AC_CHECK_TOOL 2 3 no program whose name begins with that of the host is looked for
 AC_CHECK_TOOLS 2 3 no program whose name begins with that of the host is looked for
+AC_COMPILE_CHECK 3 5 what is checked is not printed
 AC_CONFIG_LIBOBJ_DIR 1 1 the Makefile has to say where the sources of the objects are
 AC_COPYRIGHT 1 1 no program prints the notice
 AC_CYGWIN 0 0 a program is compiled, and the name of the host is not looked at
@@ -153,6 +150,7 @@ AC_GETGROUPS_T 0 0 GETGROUPS_T is gid_t without a check
 AC_GNU_SOURCE 0 0 only _GNU_SOURCE and __EXTENSIONS__ are defined, and config.h.in needs a line for each
 AC_HEADER_DIRENT 0 0 no other header and no library of directories is looked for
 AC_HEADER_RESOLV 0 0 resolv.h counts as missing if one of the other headers is missing
+AC_HEADER_STDBOOL 0 0 HAVE_STDBOOL_H is defined if the header is there
 AC_HEADER_STDC 0 0 STDC_HEADERS is defined without a check
 AC_HEADER_SYS_WAIT 0 0 the header counts as that of POSIX if it is there
 AC_HEADER_TIME 0 0 TIME_WITH_SYS_TIME is defined without a check
@@ -182,9 +180,11 @@ AC_SET_MAKE 0 0 make is taken to set MAKE, so SET_MAKE is empty
 AC_SIZEOF_TYPE 1 1 the headers that Autoconf includes are taken to be there, and a size other than 1, 2, 4, 8, 12 and 16 is an error
 AC_STDC_HEADERS 0 0 STDC_HEADERS is defined without a check
 AC_STRCOLL 0 0 no program is run, so a function that is there counts as one that works
+AC_STRUCT_TIMEZONE 0 0 the programs are others, and struct tm is taken to be in time.h
 AC_SYS_LARGEFILE 0 0 _FILE_OFFSET_BITS is defined on each system, and --disable-largefile is not read
 AC_SYS_LONG_FILE_NAMES 0 0 HAVE_LONG_FILE_NAMES is defined without a check
 AC_SYS_POSIX_TERMIOS 0 0 the program includes termios.h alone
+AC_TIMEZONE 0 0 the programs are others, and struct tm is taken to be in time.h
 AC_TIME_WITH_SYS_TIME 0 0 TIME_WITH_SYS_TIME is defined without a check
 AC_TYPE_GETGROUPS 0 0 GETGROUPS_T is gid_t without a check
 AC_TYPE_INT16_T 0 0 nothing is defined, and the sources take the type from stdint.h
