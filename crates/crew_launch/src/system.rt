@@ -51,6 +51,10 @@ impl<R: Files + Processes + Drop> Disk for System<R> {
         file_disk::Host::new(&self.rt).create(name)
     }
 
+    fn owner(&self, name: &str, file: &R::File) -> io::Result<u32> {
+        file_disk::Host::new(&self.rt).owner(name, file)
+    }
+
     fn fill(
         &mut self,
         name: &str,
@@ -65,7 +69,7 @@ impl<R: Files + Processes + Drop> Disk for System<R> {
         file_disk::Host::new(&self.rt).rename(from, to)
     }
 
-    fn remove(&mut self, name: &str) {
+    fn remove(&mut self, name: &str) -> io::Result<()> {
         file_disk::Host::new(&self.rt).remove(name)
     }
 }

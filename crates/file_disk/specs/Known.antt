@@ -1,6 +1,7 @@
 -- What is known of a disk: what was done to it, and what is under its names.
 use Rattle.std.specs.Prelude.{◌≡◌, ℕ, ◌+◌, ◌^◌, List, ◌++◌, take, Option, Some, None, ⊤}
 use Rattle.file_disk.specs.declared.found.Found.{Found}
+use Rattle.file_disk.specs.declared.found.Found.TheVariants as found
 
 -- Something that was done to files. (own)
 pub data Deed : Type 0 where
@@ -14,7 +15,7 @@ pub data Deed : Type 0 where
   Failed : (name : List ℕ) → Deed
   -- A file got another name, and what was under that name is gone.
   Renamed : (from to : List ℕ) → Deed
-  -- A file was removed, if that was possible.
+  -- A file or a link was removed.
   Removed : (name : List ℕ) → Deed
 
 -- What is under the names of a disk that nobody else changes, after these deeds: the text of the
@@ -39,6 +40,18 @@ text_under k name = k.files.texts k.deeds name
 -- What is under a name now. (own)
 abbrev pub kind_under : Known → List ℕ → Found
 kind_under k name = k.files.kinds k.deeds name
+
+-- The user id of the owner of what was found, if it is a regular file. (own)
+abbrev pub owner_of : Found → Option ℕ
+owner_of (found.File mode owner) = Some owner
+owner_of found.Nothing = None
+owner_of found.Link = None
+owner_of found.Directory = None
+owner_of found.Special = None
+
+-- The user id of the owner of the regular file under a name now. (own)
+abbrev pub owner_under : Known → List ℕ → Option ℕ
+owner_under k name = owner_of (kind_under k name)
 
 -- The name that the link under a name has now. (own)
 abbrev pub target_under : Known → List ℕ → Option (List ℕ)

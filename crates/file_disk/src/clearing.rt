@@ -9,36 +9,34 @@ use crate::disk_trait::Disk;
 use crate::found::Found;
 use std::io;
 
-/// Removes a regular file or a link of this name, and nothing else. That it can't be removed is not
-/// reported.
+/// Removes a regular file or a link of this name, and nothing else.
 ///
 /// # Errors
 ///
-/// Fails if the system refuses to look at it. Then nothing is removed.
+/// Fails if the system refuses to look at it, or to remove it. Then nothing is removed.
 pub fn clear<D: Disk>(disk: &mut D, name: &str) -> io::Result<()>
     ensures cleared { OnOk result
         (DoesAll (D.known disk.old) (D.known disk.new) (clearing_now name.now)) }
     ensures refused { OnErr result (Adds (D.known disk.old) (D.known disk.new) []) }
 {
     match disk.look(name) {
-        Ok(found) => {
-            clear_found(disk, name, found);
-            Ok(())
-        }
+        Ok(found) => clear_found(disk, name, found),
         Err(e) => Err(e),
     }
 }
 
 /// Removes what is found under this name, if it is a regular file or a link.
-fn clear_found<D: Disk>(disk: &mut D, name: &str, found: Found)
-    ensures { Adds (D.known disk.old) (D.known disk.new) (meant.clearing name.now found) }
+fn clear_found<D: Disk>(disk: &mut D, name: &str, found: Found) -> io::Result<()>
+    ensures cleared { OnOk result
+        (Adds (D.known disk.old) (D.known disk.new) (meant.clearing name.now found)) }
+    ensures refused { OnErr result (Adds (D.known disk.old) (D.known disk.new) []) }
 {
     match found {
-        Found::File(_) => disk.remove(name),
+        Found::File { .. } => disk.remove(name),
         Found::Link => disk.remove(name),
-        Found::Nothing => {}
-        Found::Directory => {}
-        Found::Special => {}
+        Found::Nothing => Ok(()),
+        Found::Directory => Ok(()),
+        Found::Special => Ok(()),
     }
 }
 

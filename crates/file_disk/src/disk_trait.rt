@@ -2,7 +2,7 @@
 
 ghost use Rattle.std.specs.Prelude.{◌≡◌, ◌≢◌, [], ◌∷◌, None, Some, Option, IfOk, IfErr, IfSome, OnOk, OnErr, option_map, string_bytes};
 ghost use Rattle.std.specs.IoError.{error_kind};
-ghost use Rattle.file_disk.specs.Known.{Known, MadeDirectories, Made, Filled, Failed, Renamed, Removed, Adds, text_under, kind_under, target_under, directory_under, limited};
+ghost use Rattle.file_disk.specs.Known.{Known, MadeDirectories, Made, Filled, Failed, Renamed, Removed, Adds, text_under, kind_under, target_under, directory_under, owner_under, limited};
 ghost use Rattle.file_disk.specs.declared.found.Found.TheVariants as found;
 
 use crate::found::Found;
@@ -85,6 +85,15 @@ pub trait Disk: Drop {
             (IfSome (known self.old) (λ k. kind_under k name.now ≡ found.Nothing)) }
         ensures refused { OnErr result (Adds (known self.old) (known self.new) []) };
 
+    /// Returns the user id of the owner of the new file of this name.
+    ///
+    /// # Errors
+    ///
+    /// Fails if the system refuses to look.
+    fn owner(&self, name: &str, file: &Self::File) -> io::Result<u32>
+        ensures { IfOk result (λ owner. IfSome (known self.now)
+            (λ k. owner_under k name.now ≡ Some owner)) };
+
     /// Writes a text to the new file of this name, and closes it. If `mode` has permission bits,
     /// the file has them before it has the text.
     ///
@@ -113,7 +122,13 @@ pub trait Disk: Drop {
             (Adds (known self.old) (known self.new) (Renamed from.now to.now ∷ [])) }
         ensures refused { OnErr result (Adds (known self.old) (known self.new) []) };
 
-    /// Removes a file or a link. That it can't be removed is not reported.
-    fn remove(&mut self, name: &str)
-        ensures { Adds (known self.old) (known self.new) (Removed name.now ∷ []) };
+    /// Removes a file or a link.
+    ///
+    /// # Errors
+    ///
+    /// Fails if the system refuses that. Then nothing is removed.
+    fn remove(&mut self, name: &str) -> io::Result<()>
+        ensures removed { OnOk result
+            (Adds (known self.old) (known self.new) (Removed name.now ∷ [])) }
+        ensures refused { OnErr result (Adds (known self.old) (known self.new) []) };
 }

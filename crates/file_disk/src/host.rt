@@ -44,7 +44,10 @@ fn read_front<R: Read>(alloc: Global, reader: &mut R) -> Result<Option<Bytes>, A
 /// Returns what a name is a name of.
 fn found_of(found: &Metadata) -> Found {
     if found.is_file() {
-        return Found::File(found.permissions().mode());
+        return Found::File {
+            mode: found.permissions().mode(),
+            owner: found.uid(),
+        };
     }
     if found.is_symlink() {
         return Found::Link;
@@ -127,6 +130,10 @@ impl<'a, F: Files> Disk for Host<'a, F> {
             .open(self.files, name)
     }
 
+    fn owner(&self, _name: &str, file: &F::File) -> io::Result<u32> {
+        Ok(file.metadata()?.uid())
+    }
+
     fn fill(
         &mut self,
         _name: &str,
@@ -141,7 +148,7 @@ impl<'a, F: Files> Disk for Host<'a, F> {
         fs::rename(self.files, from, to)
     }
 
-    fn remove(&mut self, name: &str) {
-        let _ = fs::remove_file(self.files, name);
+    fn remove(&mut self, name: &str) -> io::Result<()> {
+        fs::remove_file(self.files, name)
     }
 }

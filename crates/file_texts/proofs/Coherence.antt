@@ -1,5 +1,5 @@
 -- What is read on a coherent disk after a text is written.
-use Rattle.std.proofs.Common.{◌≡◌, ◌≢◌, ℕ, Bool, true, false, List, [], ◌∷◌, ◌++◌, Option, Some, None, IfNone, refl, sym, ap, subst, ◌∙◌, append_assoc}
+use Rattle.std.proofs.Common.{◌≡◌, ◌≢◌, ℕ, true, false, List, [], ◌∷◌, ◌++◌, Option, Some, None, IfNone, refl, sym, ap, subst, ◌∙◌, append_assoc}
 use Rattle.std.proofs.lemmas.Bool.{true≢false}
 use Rattle.std.specs.Prelude.{option_map}
 use Rattle.file_disk.specs.Clearing.{clearing}
@@ -7,7 +7,7 @@ use Rattle.file_disk.specs.Known.{Known, Files, Deed, MadeDirectories, Made, Fil
 use Rattle.file_disk.specs.declared.found.Found.{Found}
 use Rattle.file_disk.specs.declared.found.Found.TheVariants as found
 use Rattle.file_texts.specs.Coherent.{after, IsElsewhere, KeepsDirectories, IsCoherent}
-use Rattle.file_texts.specs.Links.{is_link, IsNext, LeadsTo, itself, on}
+use Rattle.file_texts.specs.Links.{is_link, LeadsTo, itself, on}
 use Rattle.file_texts.specs.Names.{home_of, temporary}
 use Rattle.file_texts.specs.Places.{place_at, place_under}
 use Rattle.file_texts.specs.Steps.{IsWritten, written}
@@ -316,4 +316,4 @@ other_last f c d file text name end place has found.Directory plain leads at apa
 other_last f c d file text name end place has found.Special plain leads at apart read =
     let r = reads_filled f c d file text name end place has (record { plain = plain; leads = leads; at = at; apart = apart; read = read }) in (r.read, r.leads, r.at)
 other_last f c d file text name end place has found.Link plain leads at apart read = other_removed f c d file text name end place has plain leads at apart read
-other_last f c d file text name end place has (found.File mode) plain leads at apart read = other_removed f c d file text name end place has plain leads at apart read
+other_last f c d file text name end place has (found.File mode owner) plain leads at apart read = other_removed f c d file text name end place has plain leads at apart read

@@ -1,18 +1,14 @@
 -- What is read after a put.
-use Rattle.std.proofs.Common.{◌≡◌, ◌≢◌, ℕ, false, List, [], ◌∷◌, ◌++◌, Option, Some, None, refl, sym, ap, subst, ◌∙◌, append_assoc}
-use Rattle.file_disk.specs.Clearing.{clearing, filling}
-use Rattle.file_disk.specs.Known.{Known, Files, Deed, MadeDirectories, Made, Filled, Removed, with_deeds, text_under, kind_under}
-use Rattle.file_disk.specs.declared.found.Found.{Found}
-use Rattle.file_disk.specs.declared.found.Found.TheVariants as found
+use Rattle.std.proofs.Common.{◌≡◌, ℕ, List, [], ◌++◌, Option, Some, None, sym, subst}
+use Rattle.file_disk.specs.Clearing.{clearing}
+use Rattle.file_disk.specs.Known.{Known, Deed, with_deeds, text_under, kind_under}
 use Rattle.file_disk.proofs.Deeds.{with_none, with_more}
 use Rattle.output_put.specs.declared.artifact.Artifact.{Artifact}
 use Rattle.output_put.specs.declared.artifact.Kind.{Kind}
 use Rattle.output_put.specs.declared.artifact.Kind.TheVariants.{Cache, Record, File, Header}
-use Rattle.file_texts.specs.Coherent.{after, IsCoherent, IsApart, IsPutApart, ReadsAt}
+use Rattle.file_texts.specs.Coherent.{IsCoherent, IsApart, IsPutApart, ReadsAt}
 use Rattle.file_texts.specs.Done.{IsEnd, IsPut, cache_same, cache_put, record_put, file_put, header_same, header_put, IsTakenSo, may_make}
-use Rattle.file_texts.specs.Links.{is_link, LeadsTo}
 use Rattle.file_texts.specs.Names.{directory_of}
-use Rattle.file_texts.specs.Places.{place_under}
 use Rattle.file_texts.specs.Steps.{IsWritten, IsReplaced, replaced, making, directories_for}
 use Rattle.file_texts.specs.declared.places.Guard.{Guard}
 use Rattle.file_texts.specs.declared.places.FilePlace.{FilePlace}

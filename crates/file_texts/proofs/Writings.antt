@@ -1,13 +1,14 @@
 -- By which steps a text is written.
-use Rattle.std.proofs.Common.{◌≡◌, ◌⊎◌, ℕ, List, [], ◌∷◌, ◌++◌, Option, Some, None, IfSome, Result, Ok, Err, OnOk, OnErr, inl, inr, refl, sym, subst, ◌∙◌, append-nil}
-use Rattle.file_disk.specs.Known.{Known, Made, Filled, Failed, Renamed, Removed, Adds, Does, kind_under}
+use Rattle.std.proofs.Common.{◌≡◌, ◌⊎◌, ℕ, List, [], ◌∷◌, ◌++◌, Option, Some, None, IfSome, Result, Ok, Err, OnOk, OnErr, inl, inr, refl, sym, ap, subst, ◌∙◌, append-nil, bit_and}
+use Rattle.file_disk.specs.Known.{Known, Deed, Made, Filled, Failed, Renamed, Removed, Adds, Does, kind_under, owner_under, with_deeds}
 use Rattle.file_disk.specs.Clearing.{DoesAll, clearing_now, filling}
 use Rattle.file_disk.specs.declared.found.Found.{Found}
 use Rattle.file_disk.specs.declared.found.Found.TheVariants as found
 use Rattle.file_disk.proofs.Deeds.{with_none, adds_then, does, does_none, does_then}
 use Rattle.file_texts.specs.Names.{temporary}
-use Rattle.file_texts.specs.Steps.{writing, IsMode, IsWritten, written, IsUndone, nothing, unfilled, unnamed, IsReplaced, replaced, IsBegun, unseen, cleared_only, torn}
+use Rattle.file_texts.specs.Steps.{bits_of, writing, new_owner, IsMode, of_own, of_other, of_link, of_nothing, IsOld, old_file, old_link, no_old, IsModeFor, IsWritten, written, IsUnnamed, empty, cut, whole, IsDropped, removed, left, IsUndone, nothing, dropped, IsReplaced, replaced, IsBegun, unseen, cleared_only, torn}
 use Rattle.file_texts.specs.declared.writing.Keeps.{Keeps}
+use Rattle.file_texts.specs.declared.writing.Old.{Old}
 
 -- What holds of an answer that is right.
 pub ok_then : {X E A B : Type 0} (r : Result X E) → OnOk r A → (A → B) → OnOk r B
@@ -23,21 +24,42 @@ pub on_err : {X E A : Type 0} (r : Result X E) → A → OnErr r A
 on_err (Ok x) a = tt
 on_err (Err e) a = a
 
-pub undone : (a b c : Option Known) (name : List ℕ) (n : ℕ) (mode : Option ℕ) (text other : List ℕ)
-    → other ≡ temporary name n
-    → Adds a b (Made (temporary name n) ∷ [])
-    → (Adds b c (Failed other ∷ Removed other ∷ []) ⊎ Adds b c (Filled other mode text ∷ Removed other ∷ []))
-    → Does a c (λ _ deeds. IsUndone name deeds)
-undone a b c name n mode text other is made (inl f) =
-    let t = temporary name n in
-    let f' : Adds b c (Failed t ∷ Removed t ∷ []) = subst (λ o. Adds b c (Failed o ∷ Removed o ∷ [])) is f in
-    does a c (Made t ∷ Failed t ∷ Removed t ∷ []) (λ _ deeds. IsUndone name deeds)
-    (adds_then a b c (Made t ∷ []) (Failed t ∷ Removed t ∷ []) made f') (λ k. unfilled n)
-undone a b c name n mode text other is made (inr f) =
-    let t = temporary name n in
-    let f' : Adds b c (Filled t mode text ∷ Removed t ∷ []) = subst (λ o. Adds b c (Filled o mode text ∷ Removed o ∷ [])) is f in
-    does a c (Made t ∷ Filled t mode text ∷ Removed t ∷ []) (λ _ deeds. IsUndone name deeds)
-    (adds_then a b c (Made t ∷ []) (Filled t mode text ∷ Removed t ∷ []) made f') (λ k. unnamed n mode text)
+-- What a new file has once a step failed.
+pub tried_none : (a : Option Known) (other : List ℕ) → Does a a (λ _ d. IsUnnamed other d)
+tried_none a other = does_none a (λ _ d. IsUnnamed other d) (λ _. empty)
+
+pub tried_fill : (a b : Option Known) (other : List ℕ) → Adds a b (Failed other ∷ [])
+    → Does a b (λ _ d. IsUnnamed other d)
+tried_fill a b other failed = does a b (Failed other ∷ []) (λ _ d. IsUnnamed other d) failed (λ _. cut)
+
+pub tried_name : (a b c : Option Known) (other : List ℕ) (mode : Option ℕ) (text : List ℕ)
+    → Adds a b (Filled other mode text ∷ []) → Adds b c []
+    → Does a c (λ _ d. IsUnnamed other d)
+tried_name a b c other mode text filled none =
+    does a c (Filled other mode text ∷ []) (λ _ d. IsUnnamed other d)
+    (adds_then a b c (Filled other mode text ∷ []) [] filled none) (λ _. whole mode text)
+
+-- A new file that did not get its name was removed, or could not be removed.
+pub dropped_if : {E : Type 0} (r : Result (Unit {0}) E) (a b c : Option Known) (other : List ℕ)
+    → Does a b (λ _ d. IsUnnamed other d) → OnOk r (Adds b c (Removed other ∷ []))
+    → OnErr r (Adds b c []) → Does a c (λ _ d. IsDropped other d)
+dropped_if (Ok u) a b c other tried gone kept =
+    does_then a b c (λ _ d. IsUnnamed other d) (λ _ e. e ≡ Removed other ∷ []) (λ _ d. IsDropped other d) tried
+    (does b c (Removed other ∷ []) (λ _ e. e ≡ Removed other ∷ []) gone (λ _. refl))
+    (λ k d e u is. subst (λ l. IsDropped other (d ++ l)) (sym is) (removed d u))
+dropped_if (Err f) a b c other tried gone kept =
+    does_then a b c (λ _ d. IsUnnamed other d) (λ _ e. e ≡ []) (λ _ d. IsDropped other d) tried
+    (does b c [] (λ _ e. e ≡ []) kept (λ _. refl))
+    (λ k d e u is. subst (λ l. IsDropped other (d ++ l)) (sym is) (subst (λ l. IsDropped other l) (sym (append-nil d)) (left d u)))
+
+pub undone : (a b c : Option Known) (name : List ℕ) (n : ℕ) (other : List ℕ)
+    → other ≡ temporary name n → Adds a b (Made (temporary name n) ∷ [])
+    → Does b c (λ _ d. IsDropped other d) → Does a c (λ _ deeds. IsUndone name deeds)
+undone a b c name n other is made drops =
+    let new : List Deed = Made (temporary name n) ∷ [] in
+    does_then a b c (λ _ d. d ≡ new) (λ _ d. IsDropped other d) (λ _ d. IsUndone name d)
+    (does a b new (λ _ d. d ≡ new) made (λ _. refl)) drops
+    (λ k d e d_is u. subst (λ l. IsUndone name (l ++ e)) (sym d_is) (dropped n e (subst (λ o. IsDropped o e) is u)))
 
 pub nothing_undone : (a : Option Known) (name : List ℕ) → Does a a (λ _ deeds. IsUndone name deeds)
 nothing_undone a name = does_none a (λ _ deeds. IsUndone name deeds) (λ k. nothing)
@@ -51,17 +73,29 @@ free_before (Some a) None name other none is free = absurd none
 free_before (Some a) (Some b) name other none is free =
     subst (λ o. kind_under a o ≡ found.Nothing) is (subst (λ k. kind_under k name ≡ found.Nothing) (none ∙ sym (with_none a)) free)
 
+-- What is said of a new file's owner once it is made, said of the files before.
+mode_before : (a b : Option Known) (keeps : Keeps) (old : Option Old) (mode : Option ℕ) (t other : List ℕ)
+    → other ≡ t → Adds a b (Made t ∷ [])
+    → IfSome b (λ k. IsModeFor keeps (owner_under k other) old mode)
+    → IfSome a (λ k. IsModeFor keeps (new_owner k t) old mode)
+mode_before None b keeps old mode t other is made for = tt
+mode_before (Some a) None keeps old mode t other is made for = absurd made
+mode_before (Some a) (Some b) keeps old mode t other is made for =
+    subst (λ o. IsModeFor keeps (new_owner a o) old mode) is
+    (subst (λ k. IsModeFor keeps (owner_under k other) old mode) (made ∙ ap (λ o. with_deeds a (Made o ∷ [])) (sym is)) for)
+
 -- A file that was made, filled and renamed.
-pub done : (a b c : Option Known) (name : List ℕ) (n : ℕ) (mode : Option ℕ) (text other : List ℕ)
+pub done : (a b c : Option Known) (keeps : Keeps) (old : Option Old) (name : List ℕ) (n : ℕ) (text other : List ℕ)
     → other ≡ temporary name n
     → Adds a b (Made (temporary name n) ∷ [])
     → IfSome a (λ k. kind_under k (temporary name n) ≡ found.Nothing)
-    → Adds b c (Filled other mode text ∷ Renamed other name ∷ [])
-    → (m : ℕ) × IfSome a (λ k. kind_under k (temporary name m) ≡ found.Nothing) × Adds a c (writing name mode text m)
-done a b c name n mode text other is made free filled =
+    → (mode : Option ℕ) × IfSome b (λ k. IsModeFor keeps (owner_under k other) old mode) × Adds b c (Filled other mode text ∷ Renamed other name ∷ [])
+    → (m : ℕ) × (mode : Option ℕ) × IfSome a (λ k. kind_under k (temporary name m) ≡ found.Nothing) × IfSome a (λ k. IsModeFor keeps (new_owner k (temporary name m)) old mode) × Adds a c (writing name mode text m)
+done a b c keeps old name n text other is made free w =
     let t = temporary name n in
-    let filled' : Adds b c (Filled t mode text ∷ Renamed t name ∷ []) = subst (λ o. Adds b c (Filled o mode text ∷ Renamed o name ∷ [])) is filled in
-    (n, free, adds_then a b c (Made t ∷ []) (Filled t mode text ∷ Renamed t name ∷ []) made filled')
+    let mode : Option ℕ = w.0 in
+    let filled : Adds b c (Filled t mode text ∷ Renamed t name ∷ []) = subst (λ o. Adds b c (Filled o mode text ∷ Renamed o name ∷ [])) is w.2 in
+    (n, mode, free, mode_before a b keeps old mode t other is made w.1, adds_then a b c (Made t ∷ []) (Filled t mode text ∷ Renamed t name ∷ []) made filled)
 
 -- A new file was made where there was nothing, after other names were tried.
 pub made_beside : (a b c : Option Known) (n : ℕ) (name other : List ℕ) → other ≡ temporary name n
@@ -79,14 +113,32 @@ pub nothing_done : (a b : Option Known) (name : List ℕ) → Adds a b []
 nothing_done a b name none = does a b [] (λ _ deeds. IsUndone name deeds) none (λ k. nothing)
 
 -- A text was written, with permission bits for what was there.
-pub is_written : (a b : Option Known) (keeps : Keeps) (name text : List ℕ) (mode : Option ℕ) (seen : Found) → IfSome a (λ k. seen ≡ kind_under k name) → IsMode keeps seen mode
-    → (n : ℕ) × IfSome a (λ k. kind_under k (temporary name n) ≡ found.Nothing) × Adds a b (writing name mode text n)
+pub is_written : (a b : Option Known) (keeps : Keeps) (name text : List ℕ) (old : Option Old) (seen : Found) → IfSome a (λ k. seen ≡ kind_under k name) → IsOld seen old
+    → (n : ℕ) × (mode : Option ℕ) × IfSome a (λ k. kind_under k (temporary name n) ≡ found.Nothing) × IfSome a (λ k. IsModeFor keeps (new_owner k (temporary name n)) old mode) × Adds a b (writing name mode text n)
     → Does a b (λ k deeds. IsWritten k keeps name text deeds)
-is_written None None keeps name text mode seen is is_mode w = tt
-is_written None (Some b) keeps name text mode seen is is_mode w = absurd w.2
-is_written (Some a) None keeps name text mode seen is is_mode w = absurd w.2
-is_written (Some a) (Some b) keeps name text mode seen is is_mode w =
-    (writing name mode text w.0, w.2, written w.0 mode w.1 (subst (λ f. IsMode keeps f mode) is is_mode))
+is_written None None keeps name text old seen is is_old w = tt
+is_written None (Some b) keeps name text old seen is is_old w = absurd w.4
+is_written (Some a) None keeps name text old seen is is_old w = absurd w.4
+is_written (Some a) (Some b) keeps name text old seen is is_old w =
+    (writing name w.1 text w.0, w.4, written w.0 w.1 w.2 (subst (λ f. IsMode keeps (new_owner a (temporary name w.0)) f w.1) is (w.3 seen is_old)))
+
+-- The permission bits of a new file in the place of an old one.
+pub own_mode : (keeps : Keeps) (mode owner bits : ℕ) → bits ≡ bits_of keeps → (user : ℕ) → user ≡ owner
+    → IsModeFor keeps (Some user) (Some (record { mode = mode; owner = owner })) (Some (bit_and mode bits))
+own_mode keeps mode owner bits is user same _ (old_file _ _) = rw is (of_own mode owner (ap Some same))
+
+pub other_mode : (keeps : Keeps) (mode owner user : ℕ) → (user ≡ owner → ⊥)
+    → IsModeFor keeps (Some user) (Some (record { mode = mode; owner = owner })) None
+other_mode keeps mode owner user other _ (old_file _ _) = of_other mode owner (λ is. other (cc))
+
+pub no_mode : (keeps : Keeps) (user : Option ℕ) → IsModeFor keeps user None None
+no_mode keeps user _ old_link = of_link
+no_mode keeps user _ no_old = of_nothing
+
+pub none_kept : (known : Option Known) (keeps : Keeps) (old : Option Old) (other : List ℕ) → old ≡ None
+    → IfSome known (λ k. IsModeFor keeps (owner_under k other) old None)
+none_kept None keeps old other is = tt
+none_kept (Some k) keeps old other is = rw is (no_mode keeps (owner_under k other))
 
 -- A new file that is not in the place of another.
 pub made_anew : (a b c : Option Known) (name text : List ℕ) → DoesAll a b (clearing_now name)

@@ -1,45 +1,74 @@
 -- By which steps a text is written to a file.
-use Rattle.std.specs.Prelude.{◌≡◌, ℕ, List, [], ◌∷◌, ◌++◌, Option, Some, None, bit_and}
+use Rattle.std.specs.Prelude.{◌≡◌, ◌≢◌, ℕ, List, [], ◌∷◌, ◌++◌, Option, Some, None, bit_and}
 use Rattle.file_disk.specs.Clearing.{clearing_now, filling}
-use Rattle.file_disk.specs.Known.{Known, Deed, MadeDirectories, Made, Filled, Failed, Renamed, Removed, kind_under}
+use Rattle.file_disk.specs.Known.{Known, Deed, MadeDirectories, Made, Filled, Failed, Renamed, Removed, kind_under, owner_under, with_deeds}
 use Rattle.file_disk.specs.declared.found.Found.{Found}
 use Rattle.file_disk.specs.declared.found.Found.TheVariants as found
 use Rattle.file_texts.specs.Names.{directory_of, temporary}
 use Rattle.file_texts.specs.declared.writing.Keeps.{Keeps}
 use Rattle.file_texts.specs.declared.writing.Keeps.TheVariants.{Permissions, NoExecution}
+use Rattle.file_texts.specs.declared.writing.Old.{Old}
 
 -- The permission bits that may be kept. (own)
 abbrev pub bits_of : Keeps → ℕ
 bits_of Permissions = 0o777
 bits_of NoExecution = 0o666
 
--- If this is under the name of a file that is to be written, the new file gets these permission
--- bits, or those that the system gives. A directory, a pipe, a socket and a device are not
--- replaced. (own)
-pub data IsMode (keeps : Keeps) : Found → Option ℕ → Type 0 where
-  of_file : (mode : ℕ) → IsMode keeps (found.File mode) (Some (bit_and mode (bits_of keeps)))
-  of_link : IsMode keeps found.Link None
-  of_nothing : IsMode keeps found.Nothing None
+-- If this is under the name of a file that is to be written, and the new file has this owner, if it
+-- is known, the new file gets these permission bits, or those that the system gives. The bits of a
+-- file are kept only if the new file has the same owner. A directory, a pipe, a socket and a device
+-- are not replaced. (own)
+pub data IsMode (keeps : Keeps) (user : Option ℕ) : Found → Option ℕ → Type 0 where
+  of_own : (mode owner : ℕ) → user ≡ Some owner
+      → IsMode keeps user (found.File mode owner) (Some (bit_and mode (bits_of keeps)))
+  of_other : (mode owner : ℕ) → user ≢ Some owner → IsMode keeps user (found.File mode owner) None
+  of_link : IsMode keeps user found.Link None
+  of_nothing : IsMode keeps user found.Nothing None
 
 -- The deeds that put a text under a name, by a new file of this number in the same directory. (own)
 abbrev pub writing : List ℕ → Option ℕ → List ℕ → ℕ → List Deed
 writing name mode text n = Made (temporary name n) ∷ Filled (temporary name n) mode text ∷ Renamed (temporary name n) name ∷ []
 
+-- The user id of the owner of a new file of this name, once it is made. (own)
+abbrev pub new_owner : Known → List ℕ → Option ℕ
+new_owner k name = owner_under (with_deeds k (Made name ∷ [])) name
+
 -- A new file in the directory of the name was made, where there was nothing, got its permission
 -- bits and the whole text, and was renamed. Nothing else was done. (own)
 pub data IsWritten (k : Known) (keeps : Keeps) (name text : List ℕ) : List Deed → Type 0 where
   written : (n : ℕ) (mode : Option ℕ) → kind_under k (temporary name n) ≡ found.Nothing
-      → IsMode keeps (kind_under k name) mode
+      → IsMode keeps (new_owner k (temporary name n)) (kind_under k name) mode
       → IsWritten k keeps name text (writing name mode text n)
 
--- Nothing was done, or a new file in the directory of the name was made and was removed again.
--- (own)
+-- What was found is a file with these bits and this owner, or no file, and may be replaced. (own)
+pub data IsOld : Found → Option Old → Type 0 where
+  old_file : (mode owner : ℕ)
+      → IsOld (found.File mode owner) (Some (record { mode = mode; owner = owner }))
+  old_link : IsOld found.Link None
+  no_old : IsOld found.Nothing None
+
+-- In the place of any such thing the new file gets these permission bits. (own)
+abbrev pub IsModeFor : Keeps → Option ℕ → Option Old → Option ℕ → Type 0
+IsModeFor keeps user old mode = (seen : Found) → IsOld seen old → IsMode keeps user seen mode
+
+-- A new file has no text yet, a part of its text, or the whole. (own)
+pub data IsUnnamed (name : List ℕ) : List Deed → Type 0 where
+  empty : IsUnnamed name []
+  cut : IsUnnamed name (Failed name ∷ [])
+  whole : (mode : Option ℕ) (text : List ℕ) → IsUnnamed name (Filled name mode text ∷ [])
+
+-- A new file did not get the name that it was made for, and was removed again, unless the system
+-- refused that. (own)
+pub data IsDropped (name : List ℕ) : List Deed → Type 0 where
+  removed : (deeds : List Deed) → IsUnnamed name deeds → IsDropped name (deeds ++ Removed name ∷ [])
+  left : (deeds : List Deed) → IsUnnamed name deeds → IsDropped name deeds
+
+-- Nothing was done, or a new file in the directory of the name was made, and was removed again,
+-- unless the system refused that. (own)
 pub data IsUndone (name : List ℕ) : List Deed → Type 0 where
   nothing : IsUndone name []
-  unfilled : (n : ℕ)
-      → IsUndone name (Made (temporary name n) ∷ Failed (temporary name n) ∷ Removed (temporary name n) ∷ [])
-  unnamed : (n : ℕ) (mode : Option ℕ) (text : List ℕ)
-      → IsUndone name (Made (temporary name n) ∷ Filled (temporary name n) mode text ∷ Removed (temporary name n) ∷ [])
+  dropped : (n : ℕ) (deeds : List Deed) → IsDropped (temporary name n) deeds
+      → IsUndone name (Made (temporary name n) ∷ deeds)
 
 -- The deed that makes this directory, if there is one. (own)
 abbrev pub making : Option (List ℕ) → List Deed

@@ -21,7 +21,7 @@ fn is_found_link(found: Found) -> bool
     match found {
         Found::Link => true,
         Found::Nothing => false,
-        Found::File(_) => false,
+        Found::File { .. } => false,
         Found::Directory => false,
         Found::Special => false,
     }

@@ -1,11 +1,11 @@
 //! Writing whole texts.
 
-ghost use Rattle.std.specs.Prelude.{◌≡◌, ◌⊎◌, ℕ, [], ◌∷◌, IfOk, IfSome, OnOk, OnErr, None, string_bytes};
-ghost use Rattle.file_disk.specs.Known.{Adds, Does, Made, Filled, Failed, Renamed, Removed, kind_under};
+ghost use Rattle.std.specs.Prelude.{◌≡◌, ℕ, [], ◌∷◌, IfOk, IfSome, OnOk, OnErr, Option, Some, string_bytes};
+ghost use Rattle.file_disk.specs.Known.{Adds, Does, Made, Filled, Renamed, kind_under, owner_under};
 ghost use Rattle.file_disk.specs.declared.found.Found.TheVariants as found;
 ghost use Rattle.file_texts.specs.Names.{IsFileName, temporary};
 ghost use Rattle.file_texts.specs.Steps as meant;
-ghost use Rattle.file_texts.specs.Steps.{writing, IsMode, IsWritten, IsUndone, IsReplaced, IsBegun};
+ghost use Rattle.file_texts.specs.Steps.{writing, new_owner, IsOld, IsModeFor, IsWritten, IsUnnamed, IsDropped, IsUndone, IsReplaced, IsBegun};
 
 use crate::names::{file_name, no_name, temporary};
 use file_disk::{Disk, Found, clear, create_filled, not_regular};
@@ -44,62 +44,6 @@ fn make_beside<D: Disk>(alloc: Global, disk: &mut D, name: &str) -> io::Result<N
     ))
 }
 
-/// Writes a text to a new file, closes it, and gives it another name. If that fails, removes it.
-fn finish<D: Disk>(
-    disk: &mut D,
-    other: &str,
-    file: D::File,
-    mode: Option<u32>,
-    text: &[u8],
-    name: &str,
-) -> io::Result<()>
-    ensures done { OnOk result (Adds (D.known disk.old) (D.known disk.new)
-        (Filled other.now mode text.now ∷ Renamed other.now name.now ∷ [])) }
-    ensures failed { OnErr result (
-        Adds (D.known disk.old) (D.known disk.new) (Failed other.now ∷ Removed other.now ∷ [])
-        ⊎ Adds (D.known disk.old) (D.known disk.new)
-        (Filled other.now mode text.now ∷ Removed other.now ∷ [])) }
-{
-    match disk.fill(other, file, mode, text) {
-        Ok(()) => match disk.rename(other, name) {
-            Ok(()) => Ok(()),
-            Err(e) => {
-                disk.remove(other);
-                Err(e)
-            }
-        },
-        Err(e) => {
-            disk.remove(other);
-            Err(e)
-        }
-    }
-}
-
-/// Puts a new file with this text in the place of a file, of a link, or of none. If that fails,
-/// what was there is as it was.
-fn replace<D: Disk>(
-    alloc: Global,
-    disk: &mut D,
-    name: &str,
-    mode: Option<u32>,
-    text: &[u8],
-) -> io::Result<()>
-    ensures written { OnOk result (
-        (n : ℕ)
-        × IfSome (D.known disk.old) (λ k. kind_under k (temporary name.now n) ≡ found.Nothing)
-        × Adds (D.known disk.old) (D.known disk.new) (writing name.now mode text.now n)) }
-    ensures undone { OnErr result
-        (Does (D.known disk.old) (D.known disk.new) (λ _ deeds. IsUndone name.now deeds)) }
-{
-    match make_beside(alloc, disk, name) {
-        Ok(new) => {
-            let NewFile { file, name: other } = new;
-            finish(disk, other.as_str(), file, mode, text, name)
-        }
-        Err(e) => Err(e),
-    }
-}
-
 /// The permission bits that a file keeps.
 #[derive(Clone, Copy)]
 pub enum Keeps {
@@ -119,16 +63,131 @@ fn bits_of(keeps: Keeps) -> u32
     }
 }
 
-/// Returns the permission bits that a new file gets, or an error if what is under its name is not
+/// A regular file that is replaced: its permission bits, and the user id of its owner.
+#[derive(Clone, Copy)]
+pub(crate) struct Old {
+    mode: u32,
+    owner: u32,
+}
+
+/// Returns the file that is replaced, if there is one, or an error if what is under its name is not
 /// replaced.
-fn mode_of(found: Found, keeps: Keeps) -> io::Result<Option<u32>>
-    ensures { IfOk result (IsMode keeps found) }
+fn old_of(found: Found) -> io::Result<Option<Old>>
+    ensures { IfOk result (IsOld found) }
 {
     match found {
-        Found::File(mode) => Ok(Some(mode & bits_of(keeps))),
+        Found::File { mode, owner } => Ok(Some(Old { mode, owner })),
         Found::Link => Ok(None),
         Found::Nothing => Ok(None),
         _ => Err(not_regular(found)),
+    }
+}
+
+/// Returns the permission bits that a new file of this owner keeps of an old one. If the old one
+/// has another owner, returns `None`: a stranger may have put it there to have the rights to write
+/// the new one.
+fn kept_of(old: Old, user: u32, keeps: Keeps) -> Option<u32>
+    ensures { IsModeFor keeps (Some user) (Some old) result }
+{
+    if user == old.owner {
+        Some(old.mode & bits_of(keeps))
+    } else {
+        None
+    }
+}
+
+/// Returns the permission bits that a new file gets.
+fn mode_of<D: Disk>(
+    disk: &D,
+    other: &str,
+    file: &D::File,
+    old: Option<Old>,
+    keeps: Keeps,
+) -> io::Result<Option<u32>>
+    ensures { IfOk result (λ mode. IfSome (D.known disk.now)
+        (λ k. IsModeFor keeps (owner_under k other.now) old mode)) }
+{
+    match old {
+        Some(old) => {
+            let user = disk.owner(other, file)?;
+            Ok(kept_of(old, user, keeps))
+        }
+        None => Ok(None),
+    }
+}
+
+/// Writes a text to a new file, closes it, and gives it another name.
+fn fill_and_rename<D: Disk>(
+    disk: &mut D,
+    other: &str,
+    file: D::File,
+    old: Option<Old>,
+    keeps: Keeps,
+    text: &[u8],
+    name: &str,
+) -> io::Result<()>
+    ensures done { OnOk result ((mode : Option ℕ)
+        × IfSome (D.known disk.old) (λ k. IsModeFor keeps (owner_under k other.now) old mode)
+        × Adds (D.known disk.old) (D.known disk.new)
+        (Filled other.now mode text.now ∷ Renamed other.now name.now ∷ [])) }
+    ensures failed { OnErr result
+        (Does (D.known disk.old) (D.known disk.new) (λ _ deeds. IsUnnamed other.now deeds)) }
+{
+    let mode = mode_of(disk, other, &file, old, keeps)?;
+    disk.fill(other, file, mode, text)?;
+    disk.rename(other, name)
+}
+
+/// Writes a text to a new file, closes it, and gives it another name. If that fails, removes it.
+fn finish<D: Disk>(
+    disk: &mut D,
+    other: &str,
+    file: D::File,
+    old: Option<Old>,
+    keeps: Keeps,
+    text: &[u8],
+    name: &str,
+) -> io::Result<()>
+    ensures done { OnOk result ((mode : Option ℕ)
+        × IfSome (D.known disk.old) (λ k. IsModeFor keeps (owner_under k other.now) old mode)
+        × Adds (D.known disk.old) (D.known disk.new)
+        (Filled other.now mode text.now ∷ Renamed other.now name.now ∷ [])) }
+    ensures failed { OnErr result
+        (Does (D.known disk.old) (D.known disk.new) (λ _ deeds. IsDropped other.now deeds)) }
+{
+    match fill_and_rename(disk, other, file, old, keeps, text, name) {
+        Ok(()) => Ok(()),
+        Err(e) => {
+            let _ = disk.remove(other);
+            Err(e)
+        }
+    }
+}
+
+/// Puts a new file with this text in the place of a file, of a link, or of none. If that fails,
+/// what was there is as it was.
+fn replace<D: Disk>(
+    alloc: Global,
+    disk: &mut D,
+    name: &str,
+    old: Option<Old>,
+    keeps: Keeps,
+    text: &[u8],
+) -> io::Result<()>
+    ensures written { OnOk result ((n : ℕ) × (mode : Option ℕ)
+        × IfSome (D.known disk.old) (λ k. kind_under k (temporary name.now n) ≡ found.Nothing)
+        × IfSome (D.known disk.old)
+        (λ k. IsModeFor keeps (new_owner k (temporary name.now n)) old mode)
+        × Adds (D.known disk.old) (D.known disk.new) (writing name.now mode text.now n)) }
+    ensures undone { OnErr result
+        (Does (D.known disk.old) (D.known disk.new) (λ _ deeds. IsUndone name.now deeds)) }
+{
+    match make_beside(alloc, disk, name) {
+        Ok(new) => {
+            let NewFile { file, name: other } = new;
+            finish(disk, other.as_str(), file, old, keeps, text, name)
+        }
+        Err(e) => Err(e),
     }
 }
 
@@ -136,16 +195,16 @@ fn mode_of(found: Found, keeps: Keeps) -> io::Result<Option<u32>>
 ///
 /// The text is written to a new file in the same directory, under the first name `acrun-N.tmp` that
 /// is not there, and that file is renamed. So the name has what it had or the whole text, at each
-/// moment, unless the power fails. A regular file keeps its permissions, but for the set-user-ID,
-/// set-group-ID and sticky bits, and those to execute it if `keeps` says so. If `name` names a
-/// symbolic link or nothing, the new file has the permissions that the system gives. A link is
-/// replaced, and what it names is not touched.
+/// moment, unless the power fails. A regular file of the user who writes keeps its permissions, but
+/// for the set-user-ID, set-group-ID and sticky bits, and those to execute it if `keeps` says so.
+/// Otherwise the new file has the permissions that the system gives: if `name` names a file of
+/// another user, a symbolic link or nothing. A link is replaced, and what it names is not touched.
 ///
 /// # Errors
 ///
 /// Fails if memory runs out, no file can have this name, `name` names a directory, a pipe, a socket
 /// or a device, 1,000 names are taken, or the system refuses one of these steps. Then what is under
-/// the name is as it was, and the new file is gone.
+/// the name is as it was, and the new file is gone, unless the system refuses to remove it.
 pub fn write_text<D: Disk>(
     alloc: Global,
     disk: &mut D,
@@ -164,8 +223,8 @@ pub fn write_text<D: Disk>(
         return Err(no_name());
     };
     let found = disk.look(path)?;
-    let mode = mode_of(found, keeps)?;
-    replace(alloc, disk, path, mode, text)
+    let old = old_of(found)?;
+    replace(alloc, disk, path, old, keeps, text)
 }
 
 /// Writes a text to a new file of this name. A regular file or a link of this name is removed

@@ -37,18 +37,36 @@ is_there file deeds name = bytes_eq name file && not (is_removed file deeds)
 abbrev pub text_in : List ℕ → List ℕ → List Deed → List ℕ → Option (List ℕ)
 text_in file text deeds name = if is_there file deeds name then Some text else None
 
--- What is under a name, if this file is the only one. (own)
-abbrev pub kind_in : List ℕ → List Deed → List ℕ → Found
-kind_in file deeds name = if is_there file deeds name then found.File 0o100755 else found.Nothing
+-- The deed makes a new file of this name. (own)
+abbrev pub makes : List ℕ → Deed → Bool
+makes name (MadeDirectories directory) = false
+makes name (Made new) = bytes_eq new name
+makes name (Filled new mode text) = false
+makes name (Failed new) = false
+makes name (Renamed from to) = false
+makes name (Removed old) = false
+
+-- The last of the deeds makes a new file of this name. (own)
+abbrev pub is_new : List Deed → List ℕ → Bool
+is_new [] name = false
+is_new (deed ∷ []) name = makes name deed
+is_new (deed ∷ next ∷ more) name = is_new (next ∷ more) name
+
+-- What is under a name, if this file of this owner is the only one, besides a new file that was just
+-- made, which is that of user 0. (own)
+abbrev pub kind_in : List ℕ → ℕ → List Deed → List ℕ → Found
+kind_in file owner deeds name =
+    if is_there file deeds name then found.File 0o100755 owner else (if is_new deeds name then found.File 0o100644 0 else found.Nothing)
 
 -- What is known of a disk on which these steps were done, and on which this file is the only one that is found,
--- until it is removed. There is no link, and one directory, whatever its name. (own)
-abbrev pub known_of : List ℕ → List ℕ → List Step → Known
-known_of file text steps = record {
+-- until it is removed, besides a new one that was just made. There is no link, and one directory, whatever its
+-- name. (own)
+abbrev pub known_of : List ℕ → List ℕ → ℕ → List Step → Known
+known_of file text owner steps = record {
   deeds = map deed_of steps;
   files = record {
     texts = text_in file text;
-    kinds = kind_in file;
+    kinds = kind_in file owner;
     targets = λ _ _. None;
     directories = λ _ _. Some (0, 0);
   };

@@ -12,22 +12,24 @@ use std::io::{self, ErrorKind};
 use std::process::Abort;
 use test_rows::cut;
 
-/// A disk in memory on which one file is found, a program, until it is removed. It keeps what is
-/// done. If it is full, no file can be filled.
+/// A disk in memory of user 0 on which one file is found, a program, until it is removed, and a new
+/// file until something else is done. It keeps what is done. If it is full, no file can be filled.
 #[derive(Drop)]
 pub struct MemoryDisk<'a, R: Abort> {
     rt: &'a R,
     alloc: Global,
     name: Bytes,
     text: Bytes,
+    owner: u32,
     is_full: bool,
     steps: Vec<Step>,
 }
 
 impl<'a, R: Abort> MemoryDisk<'a, R> {
     /// Returns a disk to which nothing was done, on which this file is found: its name, a blank,
-    /// and its text.
-    pub fn new(rt: &'a R, alloc: Global, file: &[u8], is_full: bool) -> MemoryDisk<'a, R>
+    /// and its text. If the word is `full`, no file can be filled. If it is `strange`, the file is
+    /// that of user 1.
+    pub fn new(rt: &'a R, alloc: Global, file: &[u8], word: &[u8]) -> MemoryDisk<'a, R>
         ensures { result.steps.items ≡ [] }
     {
         let (name, text) = cut(file, b" ");
@@ -36,7 +38,8 @@ impl<'a, R: Abort> MemoryDisk<'a, R> {
             alloc,
             name: copied(rt, alloc, name),
             text: copied(rt, alloc, text),
-            is_full,
+            owner: u32::from(word == b"strange".as_slice()),
+            is_full: word == b"full".as_slice(),
             steps: Vec::new(alloc),
         }
     }
@@ -52,6 +55,26 @@ impl<'a, R: Abort> MemoryDisk<'a, R> {
             ≡ meant.is_there self.now.name (map meant.deed_of self.now.steps.items) name.now }
     {
         is_named(&self.name, name) && !is_removed(&self.name, self.steps.as_slice())
+    }
+
+    /// Returns what is under this name.
+    fn found(&self, name: &str) -> Found
+        ensures { result ≡ meant.kind_in self.now.name self.now.owner
+            (map meant.deed_of self.now.steps.items) name.now }
+    {
+        if self.is_there(name) {
+            return Found::File {
+                mode: 0o100755,
+                owner: self.owner,
+            };
+        }
+        if is_new(self.steps.as_slice(), name) {
+            return Found::File {
+                mode: 0o100644,
+                owner: 0,
+            };
+        }
+        Found::Nothing
     }
 }
 
@@ -79,6 +102,30 @@ fn is_removed(file: &Bytes, steps: &[Step]) -> bool
         }
     }
     false
+}
+
+/// Returns whether a step makes a new file of this name.
+fn makes(name: &str, step: &Step) -> bool
+    ensures { result ≡ meant.makes name.now (meant.deed_of step.now) }
+{
+    match step {
+        Step::MadeDirectories(_) => false,
+        Step::Made(new) => new.as_slice() == name.as_bytes(),
+        Step::Filled(_, _, _) => false,
+        Step::Failed(_) => false,
+        Step::Renamed(_, _) => false,
+        Step::Removed(_) => false,
+    }
+}
+
+/// Returns whether the last of the steps makes a new file of this name.
+fn is_new(steps: &[Step], name: &str) -> bool
+    ensures { result ≡ meant.is_new (map meant.deed_of steps.now) name.now }
+{
+    match steps.last() {
+        Some(step) => makes(name, step),
+        None => false,
+    }
 }
 
 /// Returns a text, or its first 64 MiB and one byte more.
@@ -125,7 +172,7 @@ fn add<R: Abort>(rt: &R, steps: &mut Vec<Step>, step: Step)
 impl<'a, R: Abort> Disk for MemoryDisk<'a, R> {
     type File = ();
 
-    ghost known = { λ m. Some (meant.known_of m.name m.text m.steps.items) };
+    ghost known = { λ m. Some (meant.known_of m.name m.text m.owner m.steps.items) };
 
     fn read(&self, alloc: Global, name: &str) -> Result<Option<Bytes>, AllocError> {
         if self.is_there(name) {
@@ -139,10 +186,7 @@ impl<'a, R: Abort> Disk for MemoryDisk<'a, R> {
     }
 
     fn look(&self, name: &str) -> io::Result<Found> {
-        if self.is_there(name) {
-            return Ok(Found::File(0o100755));
-        }
-        Ok(Found::Nothing)
+        Ok(self.found(name))
     }
 
     fn link_target(&self, _alloc: Global, _name: &str) -> io::Result<String> {
@@ -160,12 +204,19 @@ impl<'a, R: Abort> Disk for MemoryDisk<'a, R> {
     }
 
     fn create(&mut self, name: &str) -> io::Result<()> {
-        if self.is_there(name) {
+        let Found::Nothing = self.found(name) else {
             return Err(io::Error::from(ErrorKind::AlreadyExists));
-        }
+        };
         let name = copied(self.rt, self.alloc, name.as_bytes());
         add(self.rt, &mut self.steps, Step::Made(name));
         Ok(())
+    }
+
+    fn owner(&self, name: &str, _file: &()) -> io::Result<u32> {
+        match self.found(name) {
+            Found::File { owner, .. } => Ok(owner),
+            _ => Err(io::Error::from(ErrorKind::NotFound)),
+        }
     }
 
     fn fill(&mut self, name: &str, _file: (), mode: Option<u32>, text: &[u8]) -> io::Result<()> {
@@ -186,8 +237,9 @@ impl<'a, R: Abort> Disk for MemoryDisk<'a, R> {
         Ok(())
     }
 
-    fn remove(&mut self, name: &str) {
+    fn remove(&mut self, name: &str) -> io::Result<()> {
         let name = copied(self.rt, self.alloc, name.as_bytes());
         add(self.rt, &mut self.steps, Step::Removed(name));
+        Ok(())
     }
 }

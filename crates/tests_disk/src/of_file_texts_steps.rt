@@ -98,8 +98,8 @@ fn put_after<R: Abort>(
 }
 
 /// A row has four parts, with bars between them: the name of the one file that is found, a blank
-/// and its text; `full`, if no file can be filled, or `closed`, if the receiver is closed first;
-/// the artifacts, with semicolons between them; and the last file.
+/// and its text; `full`, if no file can be filled, `strange`, if the file is another user's, or
+/// `closed`, if the receiver is closed first; the artifacts, with semicolons between them; and the last file.
 #[derive(Drop)]
 struct Deeds<'a, R: Abort> {
     rt: &'a R,
@@ -111,7 +111,7 @@ impl<R: Abort> RowCall for Deeds<'_, R> {
         let (word, rest) = cut(rest, b"|");
         let (words, last) = cut(rest, b"|");
         let artifacts = artifacts_of(page, words);
-        let disk = MemoryDisk::new(self.rt, page.alloc(), file, word == b"full".as_slice());
+        let disk = MemoryDisk::new(self.rt, page.alloc(), file, word);
         match word {
             b"closed" => put_after(page, disk, artifacts.as_slice(), last),
             _ => put_before(page, disk, artifacts.as_slice(), last),
@@ -124,6 +124,11 @@ const STEPS: &[u8] = b"\
 a x||file d/b y| => yes[config.status: creating d/b^J]directories d;made d/acrun-1.tmp;filled d/acrun-1.tmp[y];renamed d/acrun-1.tmp to d/b;
 a x||file a x| => yes[config.status: creating a^J]made acrun-1.tmp;filled acrun-1.tmp 493[x];renamed acrun-1.tmp to a;
 a x||record a y| => yes[]made acrun-1.tmp;filled acrun-1.tmp 420[y];renamed acrun-1.tmp to a;
+// Of a file of another user no permissions are kept, whatever is put in its place.
+a x|strange|file a y| => yes[config.status: creating a^J]made acrun-1.tmp;filled acrun-1.tmp[y];renamed acrun-1.tmp to a;
+a x|strange|record a y| => yes[]made acrun-1.tmp;filled acrun-1.tmp[y];renamed acrun-1.tmp to a;
+a x|strange|header a y| => yes[config.status: creating a^J]made acrun-1.tmp;filled acrun-1.tmp[y];renamed acrun-1.tmp to a;
+a x|strange|cache a y| => yes[]made acrun-1.tmp;filled acrun-1.tmp[y];renamed acrun-1.tmp to a;
 // A header or a cache that has its text already is left as it is.
 a x||header a x| => yes[config.status: a is unchanged^J]
 a x||header a y| => yes[config.status: creating a^J]made acrun-1.tmp;filled acrun-1.tmp 493[y];renamed acrun-1.tmp to a;

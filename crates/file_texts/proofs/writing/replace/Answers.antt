@@ -9,7 +9,7 @@ returns-in-Ok-clause-undone g c =
     let other = c.as_str.result.now in
     let is : other ≡ temporary c.args.name.now made.0 = c.as_str.ensures.value ∙ made.1 in
     err_then c.finish.result c.finish.ensures.failed
-    (λ f. undone _ _ _ c.args.name.now made.0 c.args.mode c.args.text.now other is made.3 f)
+    (λ f. undone _ _ _ c.args.name.now made.0 other is made.3 f)
 
 pub returns-in-Ok-clause-written : goal.returns-in-Ok-clause-written
 returns-in-Ok-clause-written g c =
@@ -17,7 +17,7 @@ returns-in-Ok-clause-written g c =
     let other = c.as_str.result.now in
     let is : other ≡ temporary c.args.name.now made.0 = c.as_str.ensures.value ∙ made.1 in
     ok_then c.finish.result c.finish.ensures.done
-    (λ f. done _ _ _ c.args.name.now made.0 c.args.mode c.args.text.now other is made.3 made.2 f)
+    (λ f. done _ _ _ c.args.keeps c.args.old c.args.name.now made.0 c.args.text.now other is made.3 made.2 f)
 
 pub returns-in-Err-clause-undone : goal.returns-in-Err-clause-undone
 returns-in-Err-clause-undone g c = nothing_done _ _ c.args.name.now c.in-Err.ensures.refused

@@ -10,8 +10,8 @@ returns-in_default-clause-undone g c = nothing_undone _ _
 pub returns-in_err-found-clause-undone : goal.returns-in_err-found-clause-undone
 returns-in_err-found-clause-undone g c = on_err _ (nothing_undone _ _)
 
-pub returns-in_err-mode-clause-undone : goal.returns-in_err-mode-clause-undone
-returns-in_err-mode-clause-undone g c = on_err _ (nothing_undone _ _)
+pub returns-in_err-old-clause-undone : goal.returns-in_err-old-clause-undone
+returns-in_err-old-clause-undone g c = on_err _ (nothing_undone _ _)
 
 pub returns-clause-written : goal.returns-clause-written
 returns-clause-written g c =
@@ -19,4 +19,4 @@ returns-clause-written g c =
     let after = g.D.Disk.known c.replace.new.disk in
     ok_then c.replace.result c.replace.ensures.written
     (λ w. subst (λ n. Does before after (λ k d. IsWritten k c.args.keeps n c.args.text.now d)) c.in-Some.ensures.text
-    (is_written before after c.args.keeps c.in-Some.path.now c.args.text.now c.in_ok-mode.mode c.in_ok-found.found c.in_ok-found.ensures c.in_ok-mode.ensures w))
+    (is_written before after c.args.keeps c.in-Some.path.now c.args.text.now c.in_ok-old.old c.in_ok-found.found c.in_ok-found.ensures c.in_ok-old.ensures w))
