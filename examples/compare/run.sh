@@ -97,7 +97,7 @@ write old/Makefile << 'END'
 # Makefile.  Generated from Makefile.in by configure.
 INSTALL = /usr/bin/install -c
 CFLAGS = -g -O2
-DEFS = -DA=1 -DB=2
+DEFS = -DA=1 -DB=2 -DHAVE_LIBZ=1 -DNAME=\"a\ b\" -I. -DFLAG
 mandir = ${prefix}/share/man
 srcdir=.
 
@@ -223,7 +223,7 @@ write new/Makefile << 'END'
 # Makefile.  Generated from Makefile.in by   configure.
 INSTALL = install -c
 CFLAGS = -O2
-DEFS = -DB=2 -DA=1
+DEFS = -DB=2 -DA=1 -DNAME=\"c\" -DFLAG=1 -I..
 mandir = ${datarootdir}/man
 datarootdir = ${prefix}/share
 srcdir = .
