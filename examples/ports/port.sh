@@ -66,9 +66,11 @@ fetch() {
 
 # Compares what acrun made with what Autoconf made in another directory, of sources that the second word names.
 compare() {
-    sh "$share/acrun-compare" -k -x "$here/known" "$1" "$work/ours" > "$work/compared" && return
-    wrong "the outputs differ from those of $2 in"
-    cat "$work/compared"
+    sh "$share/acrun-compare" -k -x "$here/known" "$1" "$work/ours" > "$work/compared" || {
+        wrong "the outputs differ from those of $2 in"
+        cat "$work/compared"
+    }
+    grep '^# nothing differs as line' "$work/compared" >> "$work/unneeded"
 }
 
 # Prints how long a command takes in a directory.
@@ -132,6 +134,7 @@ acrun -j4 configure -q -C || { wrong "acrun configure ends with $?"; exit 1; }
 (cd "$work/both" && rm -f configure && autoconf && ./configure -q) > both.out 2>&1 || { wrong 'Autoconf does not take the ported source'; exit 1; }
 compare "$work/theirs" 'the original'
 compare "$work/both" 'the ported source with Autoconf'
+sort "$work/unneeded" | uniq -d | sed "s/^# nothing differs as/$name: nothing differs here as/"
 checks=$(grep -c '^checking' config.log)
 make -s > make.out 2>&1 || { wrong 'make fails'; tail -n 5 make.out; }
 (eval "$tests") > tests.out 2>&1 || { wrong 'its tests fail'; tail -n 5 tests.out; }
