@@ -327,6 +327,10 @@ cp same/Makefile saved
 mkdir empty
 # What is hard to read.
 mkdir hard1 hard2
+printf 'config_files="Make\000file"\n' > hard1/config.status
+printf 'config_files="Makefile\000"\n' > hard2/config.status
+echo 'a = 1' > hard1/Makefile
+echo 'a = 1' > hard2/Makefile
 printf '#define A \033[31m1\r\n#define B "\303\244"\n' > hard1/a.h
 printf '#define A 1\r\n#define B "\303\266"\n' > hard2/a.h
 awk 'BEGIN { for (at = 0; at < 30000; at++) text = text "/**/"; print text "#define A 1" }' > hard1/comments.h
@@ -393,6 +397,7 @@ lines'
     run empty same
     run hard1 hard2 a.h nul long long.h comments.h empty open.h
     run hard1 hard2 directory pipe missing a.h
+    run hard1 hard2
     run -q hard1 hard2 a.h missing
     run hard1 hard2 "missing\\t	$(printf '\033')"
     run
