@@ -7,7 +7,7 @@
 # make edits    tries the wrong bodies of every crate, or of those that NAMES names: make edits NAMES="crew plan"
 # make edits-test  tries the script that does it
 # make plants   tries the wrong bodies that tests alone refuse, of every crate, or of those that NAMES names
-# make install  puts the program, its manual page, completions and share/configure below $(DESTDIR)$(prefix)
+# make install  puts the program, acrun-compare, the manual pages, completions and share/configure below $(DESTDIR)$(prefix)
 # make uninstall  removes them
 # make dist     makes an archive of the program for machines without the toolchain, out/acrun-VERSION-x86_64-linux.tar.gz
 # make deb      makes a Debian package of the same files
@@ -43,6 +43,7 @@ demo: all
 	@sh examples/completions/run.sh out/acrun
 	@sh examples/wrapper/run.sh
 	@sh examples/hostile/run.sh out/acrun
+	@sh examples/compare/run.sh
 
 # The status 77 says that packages were skipped, and that none failed.
 ports: all
@@ -69,14 +70,17 @@ install: all install-files
 install-files:
 	mkdir -p "$(DESTDIR)$(bindir)" "$(DESTDIR)$(mandir)/man1" "$(DESTDIR)$(datadir)/acrun" "$(DESTDIR)$(bashdir)" "$(DESTDIR)$(zshdir)" "$(DESTDIR)$(fishdir)"
 	install -m 755 out/acrun "$(DESTDIR)$(bindir)/acrun"
+	install -m 755 share/acrun-compare "$(DESTDIR)$(bindir)/acrun-compare"
 	install -m 755 share/configure "$(DESTDIR)$(datadir)/acrun/configure"
 	install -m 644 share/acrun.1 "$(DESTDIR)$(mandir)/man1/acrun.1"
+	install -m 644 share/acrun-compare.1 "$(DESTDIR)$(mandir)/man1/acrun-compare.1"
 	install -m 644 share/completions/acrun.bash "$(DESTDIR)$(bashdir)/acrun"
 	install -m 644 share/completions/_acrun "$(DESTDIR)$(zshdir)/_acrun"
 	install -m 644 share/completions/acrun.fish "$(DESTDIR)$(fishdir)/acrun.fish"
 
 uninstall:
 	rm -f "$(DESTDIR)$(bindir)/acrun" "$(DESTDIR)$(datadir)/acrun/configure" "$(DESTDIR)$(mandir)/man1/acrun.1"
+	rm -f "$(DESTDIR)$(bindir)/acrun-compare" "$(DESTDIR)$(mandir)/man1/acrun-compare.1"
 	rm -f "$(DESTDIR)$(bashdir)/acrun" "$(DESTDIR)$(zshdir)/_acrun" "$(DESTDIR)$(fishdir)/acrun.fish"
 	-rmdir "$(DESTDIR)$(datadir)/acrun"
 

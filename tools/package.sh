@@ -59,7 +59,7 @@ make_deb() {
         printf 'acrun (%s) unstable; urgency=medium\n\n  * CHANGELOG.md lists the changes.\n\n' "$version"
         printf ' -- %s  %s\n' "$(git log -1 --format='%an <%ae>')" "$(LC_ALL=C date -u -R -d "@$SOURCE_DATE_EPOCH")"
     } | gzip -9n > "$share/doc/acrun/changelog.gz"
-    gzip -9n "$share/man/man1/acrun.1"
+    gzip -9n "$share"/man/man1/*.1
     cat > "$folder/DEBIAN/control" << END
 Package: acrun
 Version: $version

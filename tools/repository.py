@@ -230,17 +230,20 @@ def codes_that_do_not_agree():
 
 
 def manual_page_faults():
-    """A formatter of manual pages complains of share/acrun.1; nothing if there is none. Or the page, or the texts of the help, have
-    another version."""
-    page = "share/acrun.1"
-    for words in (["mandoc", "-T", "lint", page], ["man", "--warnings", "-l", page]):
-        if shutil.which(words[0]):
-            said = subprocess.run(words, stdout=subprocess.PIPE, stderr=subprocess.PIPE, env={**os.environ, "MANPAGER": "cat"}, text=True)
-            yield from (said.stdout if words[0] == "mandoc" else said.stderr).splitlines()
-            break
+    """A formatter of manual pages complains of a page below share; nothing if there is none. Or a page, or the texts of the help, have
+    another version. Or `make install` puts a page nowhere, or `make uninstall` leaves it."""
     version = re.search(r'VERSION: &str = "(.*)"', (CRATES / "cmd_help/src/texts.rt").read_text())[1]
-    if f'"acrun {version}"' not in pathlib.Path(page).read_text():
-        yield f"{page} is not of version {version}"
+    makefile = pathlib.Path("Makefile").read_text()
+    for page in sorted(pathlib.Path("share").glob("*.1")):
+        for words in (["mandoc", "-T", "lint", page], ["man", "--warnings", "-l", page]):
+            if shutil.which(words[0]):
+                said = subprocess.run(words, stdout=subprocess.PIPE, stderr=subprocess.PIPE, env={**os.environ, "MANPAGER": "cat"}, text=True)
+                yield from (said.stdout if words[0] == "mandoc" else said.stderr).splitlines()
+                break
+        if f'"acrun {version}"' not in page.read_text():
+            yield f"{page} is not of version {version}"
+        if makefile.count(f'$(mandir)/man1/{page.name}"') != 2:
+            yield f"the Makefile does not install and remove {page}"
     if f"## [{version}]" not in pathlib.Path("CHANGELOG.md").read_text():
         yield f"CHANGELOG.md has no version {version}"
 

@@ -12,7 +12,7 @@ if ! command -v cc > /dev/null || ! command -v make > /dev/null; then
 fi
 work=$(mktemp -d) || exit 2
 trap 'rm -rf "$work"' EXIT
-mkdir "$work/bin" && ln -s "$acrun" "$work/bin/acrun" || exit 2
+mkdir "$work/bin" && ln -s "$acrun" "$work/bin/acrun" && ln -s "$root/share/acrun-compare" "$work/bin/acrun-compare" || exit 2
 PATH=$work/bin:$PATH LC_ALL=C
 export LC_ALL
 unset CC CFLAGS CPPFLAGS LDFLAGS LIBS MAKEFLAGS MFLAGS MAKELEVEL ACRUN_WHY

@@ -1,20 +1,17 @@
 # Moves a package of Debian over to acrun: NAME/edits has what `acrun port` can't do in its configure.ac, and what is to be done in the
 # templates, and `acrun port --idioms` does the rest. The result is configured with acrun, and beside it the original and the result with
-# Autoconf. All three have to agree, but for what is named. Then it builds the package with acrun's files and runs its tests.
+# Autoconf. All three have to agree by share/acrun-compare, but for what is named. Then it builds the package with acrun's files and runs its
+# tests.
 #   port.sh PROGRAM NAME LISTS
 # LISTS is the directory that sources.sh filled: APT fetches the archive, and the checksum decides whether it is the one that is meant.
 # NAME/settings sets the variables below:
 #   source, version, sum   the name of Debian's source package, the version of the package, and the SHA-256 of its archive
 #   prepare      commands that make configure.ac and the templates of what the archive has, if they aren't there
 #   autoconf     commands that make the package's own script, `autoconf` if there are none
-#   header       the config header, if there is one
-#   macros       the macros of the header that may differ
-#   makefiles    the Makefiles, `Makefile` if it is the only one
-#   variables    the variables of a Makefile whose lines may differ
-#   texts        the texts, one a line, that make it no fault if a line of a Makefile differs
-#   others       further outputs, which may not differ
 #   tests        commands that run the package's own tests
 #   tools        commands that the tests need
+# NAME/known has the differences that may be there, as `acrun-compare -x` reads them, and why. What docs/language.md and the guide name as a
+# difference from Autoconf, and `acrun-compare -k` leaves out, isn't there.
 # The edits are of configure.ac and templates alone, as the archive has them, and have the new lines alone: see apply.sh. `acrun port` has
 # to leave nothing after them. What is needed: the network, APT with an archive of Debian, make, a C compiler, Autoconf 2.71, and the
 # libraries of the package. If one is missing, or if the machine's archives have the package in another version alone, it says so and ends
@@ -26,6 +23,7 @@ set -u
 acrun=$(realpath "$1") || exit 2
 here=$(realpath "$(dirname "$0")/$2") || exit 2
 name=$2
+share=$(realpath "$(dirname "$0")/../../share") || exit 2
 lists=$3
 work=$(mktemp -d) || exit 2
 trap 'rm -rf "$work"' EXIT
@@ -66,34 +64,13 @@ fetch() {
     [ "$(sha256sum < "$archive" | cut -d ' ' -f 1)" = "$sum" ] || { wrong 'the archive is another one'; exit 1; }
 }
 
-# The lines of a config header that define a macro, or say that it isn't, each once and without blanks that vary.
-macros_of() {
-    sed -n -e 's/^# *define[ 	][ 	]*/define /p' -e 's/^\/\* *# *undef[ 	][ 	]*\([A-Za-z0-9_]*\).*/undef \1/p' "$1" |
-        sed 's/[ 	][ 	]*/ /g' | sort -u
-}
-
 # Compares what acrun made with what Autoconf made in another directory, of sources that the second word names.
 compare() {
-    if [ -n "${header-}" ]; then
-        macros_of "$1/$header" > "$work/macros.theirs"
-        macros_of "$work/ours/$header" > "$work/macros.ours"
-        for macro in $(diff "$work/macros.theirs" "$work/macros.ours" | sed -n 's/^[<>] [a-z]* \([A-Za-z0-9_]*\).*/\1/p' | sort -u); do
-            case " ${macros-} " in *" $macro "*) ;; *) wrong "$header differs in $macro from that of $2" ;; esac
-        done
-    fi
-    printf '%s\n' "$texts" > "$work/texts"
-    for makefile in ${makefiles-Makefile}; do
-        [ -f "$1/$makefile" ] || wrong "there is no $makefile of $2"
-        diff "$1/$makefile" "$work/ours/$makefile" | sed -n 's/^[<>] \{0,1\}//p' |
-            grep -E -v "^($(echo $variables | tr ' ' '|'))[ 	]*=|^[ 	]*\$" | grep -F -v -f "$work/texts" > "$work/rest"
-        if [ -s "$work/rest" ]; then
-            wrong "$makefile differs from that of $2 in"
-            cat "$work/rest"
-        fi
-    done
-    for other in ${others-}; do
-        cmp -s "$1/$other" "$work/ours/$other" || wrong "$other differs from that of $2"
-    done
+    sh "$share/acrun-compare" -k -x "$here/known" "$1" "$work/ours" > "$work/compared" || {
+        wrong "the outputs differ from those of $2 in"
+        cat "$work/compared"
+    }
+    grep '^# nothing differs as line' "$work/compared" >> "$work/unneeded"
 }
 
 # Prints how long a command takes in a directory.
@@ -153,10 +130,11 @@ acrun port --idioms "$work/edited/configure.ac" > configure.ac
 [ -z "${ROWS-}" ] || { cp -R . "$work/one" && cp -R . "$work/four"; }
 cp -R . "$work/both"
 acrun lint --json . | grep -q '"severity":"error"' && wrong 'lint finds an error'
-acrun -j4 configure -q || { wrong "acrun configure ends with $?"; exit 1; }
+acrun -j4 configure -q -C || { wrong "acrun configure ends with $?"; exit 1; }
 (cd "$work/both" && rm -f configure && autoconf && ./configure -q) > both.out 2>&1 || { wrong 'Autoconf does not take the ported source'; exit 1; }
 compare "$work/theirs" 'the original'
 compare "$work/both" 'the ported source with Autoconf'
+sort "$work/unneeded" | uniq -d | sed "s/^# nothing differs as/$name: nothing differs here as/"
 checks=$(grep -c '^checking' config.log)
 make -s > make.out 2>&1 || { wrong 'make fails'; tail -n 5 make.out; }
 (eval "$tests") > tests.out 2>&1 || { wrong 'its tests fail'; tail -n 5 tests.out; }
