@@ -278,6 +278,12 @@ def is_stated(name, patterns, before=None):
     return False
 
 
+def template_names(body):
+    """Returns the output variables of a script."""
+    found = re.search(r"(?s)ac_subst_vars='(.*?)'", body)
+    return sorted({*(found[1].split() if found else []), "INSTALL", "MKDIR_P"} - {"LTLIBOBJS", "LIBOBJS"})
+
+
 # The cache variables of what Autoconf looks for by itself.
 OF_DEFAULT_INCLUDES = re.compile(r"ac_cv_header_(stdio|stdlib|string|inttypes|stdint|strings|sys_stat|sys_types|unistd)_h$")
 
@@ -291,13 +297,22 @@ OF_LANGUAGE = (
 )
 
 
+# What docs/running.md states of `-a` and `-o`, so that no source has such a test of an unquoted variable of no or several words.
+OF_JOINTS = ("running", "If an unquoted variable is empty or has a blank, the whole `test` is an error for a shell, and after `port` only its part of it.")
+
+
+@functools.lru_cache
+def said(document, sentence):
+    """Ends the script if a document doesn't state what is left out here."""
+    if sentence not in " ".join((HERE.parent / f"docs/{document}.md").read_text().split()):
+        sys.exit(f"docs/{document}.md does not say: {sentence}")
+
+
 @functools.lru_cache
 def of_language():
     """Returns the pattern of the names that docs/language.md states to differ."""
-    text = " ".join((HERE.parent / "docs/language.md").read_text().split())
     for sentence, _ in OF_LANGUAGE:
-        if sentence not in text:
-            sys.exit(f"docs/language.md does not say: {sentence}")
+        said("language", sentence)
     return re.compile("|".join(f"(?:{pattern})$" for _, pattern in OF_LANGUAGE))
 
 
@@ -520,20 +535,31 @@ class Maker:
     def word(self):
         return self.one(['"$enable_foo"', "$enable_foo", '"x$enable_foo"', "x$enable_foo", '"$v1"', "x$v2", '"$LIBS"', "$with_bar", '"$prefix"', '"${v1}"', "yes", '"$a b"'])
 
-    def test(self):
+    def one_word(self):
+        """Returns a word that is one word for a shell, whatever its variable has."""
+        return self.one(['"$enable_foo"', '"x$enable_foo"', '"$v1"', "x$with_bar", '"$LIBS"', '"$prefix"', '"${v1}"', "yes", '"$a b"'])
+
+    def test(self, word=None):
+        word = word or self.word
         kind = self.at.randrange(6)
         if kind < 3:
-            return f"{self.word()} {self.one(['=', '=', '!='])} {self.one([*VALUES, self.word()])}"
+            return f"{word()} {self.one(['=', '=', '!='])} {self.one([*VALUES, word()])}"
         if kind < 5:
-            return f"{self.one(['-n', '-z'])} {self.word()}"
-        return self.word()
+            return f"{self.one(['-n', '-z'])} {word()}"
+        return word()
+
+    def joint(self):
+        """Returns a test with `-a` or `-o`."""
+        said(*OF_JOINTS)
+        more = f" {self.one(['-a', '-o'])} {self.test(self.one_word)}" if self.has(0.5) else ""
+        return f"{self.test(self.one_word)} {self.one(['-a', '-o'])} {self.test(self.one_word)}{more}"
 
     def condition(self):
         kind = self.at.randrange(12)
         if kind < 6:
             return f"test {self.test()}"
         if kind == 6:
-            return f"test {self.test()} {self.one(['-a', '-o'])} {self.test()}"
+            return f"test {self.joint()}"
         if kind == 7:
             return f"test {self.test()} {self.one(['&&', '||'])} test {self.test()}"
         if kind == 8:
@@ -542,7 +568,7 @@ class Maker:
             return f"test ! {self.test()}" if self.has(0.5) else f"! test {self.test()}"
         if kind == 10:
             return self.one(["test -f configure", "false", "true", ":"])
-        return f"test {self.test()} {self.one(['-a', '-o'])} {self.test()} {self.one(['-a', '-o'])} {self.test()}"
+        return f"test {self.joint()}"
 
     def compound(self, depth):
         """Returns an `if`, a `case` or a list of the shell."""
@@ -697,14 +723,18 @@ def joined(first, blocks, last):
 OF_SOURCE = re.compile(r"not read|does not know|no macro that acrun knows|other text beside it")
 
 
+def without_excerpts(message):
+    return re.sub(r"(?s)`.*?`", "``", message)
+
+
 def written_errors(program, text, ported):
     """Returns the errors that acrun reports in lines that port wrote, and not in the source."""
     found = []
     for each in (text, ported):
         lines = subprocess.run([program, "lint", "--json", "-"], input=each, capture_output=True, text=True, errors="replace").stdout.splitlines()
         found.append([it for it in map(json.loads, lines) if it["severity"] == "error" and it["code"] != "template"])
-    known, lines = {it["message"] for it in found[0]}, ported.splitlines()
-    new = [it for it in found[1] if it["message"] not in known and not OF_SOURCE.search(it["message"]) and lines[it["line"] - 1] not in text.splitlines()]
+    known, lines = {without_excerpts(it["message"]) for it in found[0]}, ported.splitlines()
+    new = [it for it in found[1] if without_excerpts(it["message"]) not in known and not OF_SOURCE.search(it["message"]) and lines[it["line"] - 1] not in text.splitlines()]
     return [(Setting(by="lint"), {f"error in {lines[it['line'] - 1]}: {it['message']}": ("", "")}) for it in new]
 
 

@@ -411,7 +411,7 @@ def allowed():
     yield "`acrun port` writes these without `--idioms` too. A `*` is for any text."
     yield from ("", "| In place of | Otherwise | Why |", "|---|---|---|")
     for names, listed, reason in rows:
-        yield f"| {', '.join(names)} | {', '.join(f'`{it}`' for it in listed)} | {reason} |"
+        yield f"| {', '.join(names)} | {', '.join(f'`` {it} ``' if '`' in it else f'`{it}`' for it in listed)} | {reason} |"
 
 
 def part_of_guide():
