@@ -127,6 +127,8 @@ class Setting:
     by: str = "port"
 
     def shown(self):
+        if self.by == "lint":
+            return "lint:"
         of_env = " ".join(f"{name}={value}" for name, value in self.environment)
         about = f"programs {self.programs}, {'cross, ' * self.is_cross}seed {self.seed}"
         return f"{self.by}: {of_env} ./configure {' '.join(self.arguments)}  ({about})"
@@ -194,7 +196,7 @@ def left(room, body, setting, names, assigned, defined, creates=True):
         found = {"status": made.returncode, "standard output": printed.splitlines()}
         found["standard error"] = [re.sub(r"^\./configure: (line )?\d+: ", "", it) for it in made.stderr.splitlines()]
         found |= {f"cache {name}": value for name, value in values_in(section(log, "Cache variables.")).items() if not name.startswith("ac_cv_env_")}
-        found |= {f"output {name}": value for name, value in values_in(section(log, "Output variables.")).items()}
+        found |= {f"output {name}": value for name, value in values_in(section(log, "Output variables.")).items() if name != "INSTALL"}
         defined = re.findall(r"(?m)^#define (\w+) ?(.*)$", section(log, "confdefs.h."))
         found |= {f"#{name}": value for name, value in defined}
         found["order of definitions"] = [name for name, _ in defined]
@@ -262,38 +264,61 @@ def without_repeats(found):
     return found
 
 
-def is_stated(name, patterns):
-    """Returns whether a difference is one of those that are stated."""
-    if name.startswith("standard "):
-        return any(fnmatch.fnmatchcase(name.split(": ", 1)[1][2:], it) for it in patterns if " " in it)
+def is_stated(name, patterns, before=None):
+    """Returns whether a difference is one of those that are stated. A pattern `NAME=VALUE` is of a name with such a value before port."""
     if name == "order of definitions":
         return False
+    if name.startswith("standard "):
+        return any(fnmatch.fnmatchcase(name.split(": ", 1)[1][2:], it) for it in patterns if " " in it)
     plain = name.lstrip("#").split(" ")[-1]
-    return any(fnmatch.fnmatchcase(plain, it) for it in patterns)
+    for pattern in patterns:
+        wanted, has_value, value = pattern.partition("=") if re.match(r"[\w*?]+=", pattern) else (pattern, "", "")
+        if fnmatch.fnmatchcase(plain, wanted) and (not has_value or fnmatch.fnmatchcase(str(before), value)):
+            return True
+    return False
 
 
 def template_names(body):
+    """Returns the output variables of a script."""
     found = re.search(r"(?s)ac_subst_vars='(.*?)'", body)
     return sorted({*(found[1].split() if found else []), "INSTALL", "MKDIR_P"} - {"LTLIBOBJS", "LIBOBJS"})
 
+
+# The cache variables of what Autoconf looks for by itself.
+OF_DEFAULT_INCLUDES = re.compile(r"ac_cv_header_(stdio|stdlib|string|inttypes|stdint|strings|sys_stat|sys_types|unistd)_h$")
 
 # What docs/language.md states of acrun, and the names that it is said of. Each sentence has to be there.
 OF_LANGUAGE = (
     ("HAVE_STDINT_H, HAVE_UNISTD_H and their kin are defined only if AC_CHECK_HEADERS names the header",
      r"config\.h (HAVE_(STDIO|STDLIB|STRING|INTTYPES|STDINT|STRINGS|SYS_STAT|SYS_TYPES|UNISTD)_H|STDC_HEADERS)"),
-    ("SHELL, PATH_SEPARATOR, OBJEXT, EXEEXT, LIBOBJS, ECHO_N and its kin, `build_alias` and its kin, and the variables that begin with `abs_` are no "
-     "output variables", r"values (SHELL|PATH_SEPARATOR|OBJEXT|EXEEXT|ECHO_[NCT]|(build|host|target)_alias)"),
+    ("SHELL, PATH_SEPARATOR, OBJEXT, EXEEXT, LIBOBJS, ECHO_N and its kin, `build_alias` and its kin, `program_transform_name`, `ac_ct_CC`, and the variables "
+     "that begin with `abs_` are no output variables", r"values (SHELL|PATH_SEPARATOR|OBJEXT|EXEEXT|ECHO_[NCT]|(build|host|target)_alias|program_transform_name|ac_ct_CC)"),
+    ("Nor are CPP, GREP and EGREP, which Autoconf's checks look for on their way, nor DEFS without a header", r"values (CPP|E?GREP|DEFS)"),
 )
+
+
+# What docs/running.md states of `-a` and `-o`, so that no source has such a test of an unquoted variable of no or several words.
+OF_JOINTS = ("running", "If an unquoted variable is empty or has a blank, the whole `test` is an error for a shell, and after `port` only its part of it.")
+
+
+@functools.lru_cache
+def said(document, sentence):
+    """Ends the script if a document doesn't state what is left out here."""
+    if sentence not in " ".join((HERE.parent / f"docs/{document}.md").read_text().split()):
+        sys.exit(f"docs/{document}.md does not say: {sentence}")
 
 
 @functools.lru_cache
 def of_language():
     """Returns the pattern of the names that docs/language.md states to differ."""
-    text = " ".join((HERE.parent / "docs/language.md").read_text().split())
     for sentence, _ in OF_LANGUAGE:
-        if sentence not in text:
-            sys.exit(f"docs/language.md does not say: {sentence}")
+        said("language", sentence)
     return re.compile("|".join(f"(?:{pattern})$" for _, pattern in OF_LANGUAGE))
+
+
+def is_missing(value):
+    """Returns whether a run has not defined a name, or left a variable of a template as it is."""
+    return value is None or re.fullmatch(r"@\w+@", value)
 
 
 def beside_acrun(room, program, text, setting, names, defined, before):
@@ -303,7 +328,7 @@ def beside_acrun(room, program, text, setting, names, defined, before):
     if mine["status"] and kept["status"]:
         return {}
     kept["standard error"] = mine["standard error"] if not mine["status"] and not kept["status"] else before["standard error"]
-    return {name: it for name, it in differences(kept, mine).items() if not of_language().match(name.removeprefix("src/"))}
+    return {name: it for name, it in differences(kept, mine).items() if not (of_language().match(name.removeprefix("src/")) and is_missing(it[1]))}
 
 
 def compared(room, text, ported, settings, program=""):
@@ -315,7 +340,7 @@ def compared(room, text, ported, settings, program=""):
     if bodies[1] is None:
         return [(Setting(), {"Autoconf refuses the output": ("", "")})]
     names = template_names(bodies[0])
-    assigned = sorted({*re.findall(r"\b([A-Za-z_]\w*)=", text + ported)})
+    assigned = sorted({*re.findall(r"\b([A-Za-z_]\w*)=", text + ported), *(["INSTALL"] if "AC_PROG_INSTALL" in text else [])})
     defined = sorted({*re.findall(r"#define (\w+)", bodies[0] + bodies[1]), *(f"HAVE_{re.sub(r'[^A-Za-z0-9]', '_', it).upper()}" for it in re.findall(r"[\w./]+", ported))})
     patterns, found = stated(text), []
     for setting in settings:
@@ -325,7 +350,9 @@ def compared(room, text, ported, settings, program=""):
             continue
         runs = [left(room, it, setting, names, assigned, defined, creates) for it in dict.fromkeys(bodies)]
         runs = [runs[0], runs[-1]]
-        differs = {name: it for name, it in differences(*runs).items() if not is_stated(name, patterns)}
+        differs = {name: it for name, it in differences(*runs).items() if not is_stated(name, patterns, it[0])}
+        if any("yntax error" in it for it in runs[0]["standard error"]):
+            return "refused"
         if differs:
             found.append((setting, differs))
         if by_acrun:
@@ -508,20 +535,31 @@ class Maker:
     def word(self):
         return self.one(['"$enable_foo"', "$enable_foo", '"x$enable_foo"', "x$enable_foo", '"$v1"', "x$v2", '"$LIBS"', "$with_bar", '"$prefix"', '"${v1}"', "yes", '"$a b"'])
 
-    def test(self):
+    def one_word(self):
+        """Returns a word that is one word for a shell, whatever its variable has."""
+        return self.one(['"$enable_foo"', '"x$enable_foo"', '"$v1"', "x$with_bar", '"$LIBS"', '"$prefix"', '"${v1}"', "yes", '"$a b"'])
+
+    def test(self, word=None):
+        word = word or self.word
         kind = self.at.randrange(6)
         if kind < 3:
-            return f"{self.word()} {self.one(['=', '=', '!='])} {self.one([*VALUES, self.word()])}"
+            return f"{word()} {self.one(['=', '=', '!='])} {self.one([*VALUES, word()])}"
         if kind < 5:
-            return f"{self.one(['-n', '-z'])} {self.word()}"
-        return self.word()
+            return f"{self.one(['-n', '-z'])} {word()}"
+        return word()
+
+    def joint(self):
+        """Returns a test with `-a` or `-o`."""
+        said(*OF_JOINTS)
+        more = f" {self.one(['-a', '-o'])} {self.test(self.one_word)}" if self.has(0.5) else ""
+        return f"{self.test(self.one_word)} {self.one(['-a', '-o'])} {self.test(self.one_word)}{more}"
 
     def condition(self):
         kind = self.at.randrange(12)
         if kind < 6:
             return f"test {self.test()}"
         if kind == 6:
-            return f"test {self.test()} {self.one(['-a', '-o'])} {self.test()}"
+            return f"test {self.joint()}"
         if kind == 7:
             return f"test {self.test()} {self.one(['&&', '||'])} test {self.test()}"
         if kind == 8:
@@ -530,7 +568,7 @@ class Maker:
             return f"test ! {self.test()}" if self.has(0.5) else f"! test {self.test()}"
         if kind == 10:
             return self.one(["test -f configure", "false", "true", ":"])
-        return f"test {self.test()} {self.one(['-a', '-o'])} {self.test()} {self.one(['-a', '-o'])} {self.test()}"
+        return f"test {self.joint()}"
 
     def compound(self, depth):
         """Returns an `if`, a `case` or a list of the shell."""
@@ -579,7 +617,9 @@ class Maker:
         names = [*READ]
         for entry in {id(it[1]): it[1] for it in self.exact if it[0] in self.called}.values():
             names += re.findall(r"AC_(?:SUBST|CHECK_PROGS|PATH_PROG|ARG_VAR)\(\[(\w+)\]", entry.text()) * 3
-        names += [name for name in self.cached if not is_stated(name, stated(" ".join(self.called)))]
+        names += [name for name in self.cached if not OF_DEFAULT_INCLUDES.match(name)]
+        differing = [it.partition("=")[0] for it in stated(" ".join(self.called))]
+        names = [name for name in names if not any(fnmatch.fnmatchcase(name, it) for it in differing)]
         return f"\"${self.one(names)}\""
 
     def statement(self, depth):
@@ -683,14 +723,18 @@ def joined(first, blocks, last):
 OF_SOURCE = re.compile(r"not read|does not know|no macro that acrun knows|other text beside it")
 
 
+def without_excerpts(message):
+    return re.sub(r"(?s)`.*?`", "``", message)
+
+
 def written_errors(program, text, ported):
     """Returns the errors that acrun reports in lines that port wrote, and not in the source."""
     found = []
     for each in (text, ported):
         lines = subprocess.run([program, "lint", "--json", "-"], input=each, capture_output=True, text=True, errors="replace").stdout.splitlines()
         found.append([it for it in map(json.loads, lines) if it["severity"] == "error" and it["code"] != "template"])
-    known, lines = {it["message"] for it in found[0]}, ported.splitlines()
-    new = [it for it in found[1] if it["message"] not in known and not OF_SOURCE.search(it["message"]) and lines[it["line"] - 1] not in text.splitlines()]
+    known, lines = {without_excerpts(it["message"]) for it in found[0]}, ported.splitlines()
+    new = [it for it in found[1] if without_excerpts(it["message"]) not in known and not OF_SOURCE.search(it["message"]) and lines[it["line"] - 1] not in text.splitlines()]
     return [(Setting(by="lint"), {f"error in {lines[it['line'] - 1]}: {it['message']}": ("", "")}) for it in new]
 
 

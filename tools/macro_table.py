@@ -22,9 +22,9 @@ The lines of macros.txt, by how they begin:
   `$ `      arguments of a run in which that script compares both, in place of one without arguments
   `? `      names of definitions and variables, a colon and a reason: what the idiom leaves otherwise than the macro does, by design.
             That script fails if it doesn't
-  `~ `      names of macros, a colon, what is otherwise, a colon and a reason: what the exact idiom of these leaves otherwise. That is
-            names of definitions, variables and cache variables, and lines that are printed in quotes, with `*` for any text; a
-            variable with `*` for all that a macro names so. tools/fuzz_exact.py allows these differences and no others
+  `~ `      names of macros, a colon, what is otherwise, a colon and a reason: what the exact idiom of these macros, or a `drop`, leaves
+            otherwise. That is names of definitions, variables and cache variables, `NAME=VALUE` for one that the macro gives such a
+            value, and lines that are printed, in quotes; a `*` is for any text. tools/fuzz_exact.py allows these differences alone
   blanks    4 of them begin a line of the entry's text
 Empty lines mean nothing. `specs/Places` and `specs/Values` of the crate say what places are, and what they are filled with.
 """
@@ -402,6 +402,18 @@ def rows():
             yield f"| other macros that begin with `{entry.names[0]}` | {entry.text()} |"
 
 
+def allowed():
+    """Yields the lines of the table of what exact replacements leave otherwise."""
+    rows = [(names, listed, reason) for entry in entries() for names, listed, reason in entry.allowed]
+    if not rows:
+        return
+    yield from ("", "### What an exact replacement leaves otherwise", "")
+    yield "`acrun port` writes these without `--idioms` too. A `*` is for any text."
+    yield from ("", "| In place of | Otherwise | Why |", "|---|---|---|")
+    for names, listed, reason in rows:
+        yield f"| {', '.join(names)} | {', '.join(f'`` {it} ``' if '`' in it else f'`{it}`' for it in listed)} | {reason} |"
+
+
 def part_of_guide():
     """Returns the part of the guide: a table of all macros, and a section for each heading."""
     lines = [
@@ -416,6 +428,7 @@ def part_of_guide():
     for section in filter(is_shown, sections()):
         lines += ["", f"### {section.heading}", *([""] + section.prose if section.prose else [])]
         lines += [*table_of_idioms(section), *blocks(section), *what_differs(section)]
+    lines += allowed()
     return "\n".join(lines) + "\n"
 
 
