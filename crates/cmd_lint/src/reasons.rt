@@ -3,7 +3,7 @@
 use deftable::Bytes;
 use lint_findings::Finding;
 use lint_table::{Page, WordPart, keys};
-use port_shell::{Reason, Staying, staying};
+use port_shell::{Reason, Staying, kept_statements};
 use std::alloc::{AllocError, Global};
 
 /// Returns whether an error is of text that is no statement.
@@ -58,7 +58,7 @@ pub fn add_reasons(alloc: Global, text: &[u8], errors: &mut [Finding]) -> Result
     if !errors.iter().any(|error| is_of_text(error)) {
         return Ok(());
     }
-    let statements = staying(alloc, text)?;
+    let statements = kept_statements(alloc, text)?;
     for error in errors {
         add_reason(alloc, statements.as_slice(), error)?;
     }

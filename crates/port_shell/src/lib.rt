@@ -41,4 +41,4 @@ mod shell;
 
 pub use echoes::told;
 pub use passes::formed;
-pub use reasons::{Reason, Staying, staying};
+pub use reasons::{Reason, Staying, kept_statements};

@@ -105,7 +105,7 @@ fn reason_of(
 /// # Errors
 ///
 /// Fails only if memory runs out.
-pub fn staying(alloc: Global, text: &[u8]) -> Result<Vec<Staying>, AllocError> {
+pub fn kept_statements(alloc: Global, text: &[u8]) -> Result<Vec<Staying>, AllocError> {
     let calls = calls_of(alloc, text)?;
     let drawing = drawing_in(alloc, text, calls.as_slice())?;
     let mut out = Vec::new(alloc);
