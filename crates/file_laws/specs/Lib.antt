@@ -1,3 +1,5 @@
+pub mod Absent
 pub mod Flat
+pub mod Tree
 pub mod Rerun
 pub mod Again
