@@ -1,4 +1,5 @@
 mod Absents
+mod Examples
 mod Flats
 mod Places
 mod Reruns

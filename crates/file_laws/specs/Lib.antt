@@ -1,4 +1,5 @@
 pub mod Absent
+pub mod Example
 pub mod Flat
 pub mod Tree
 pub mod Rerun
