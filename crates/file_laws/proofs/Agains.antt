@@ -30,7 +30,7 @@ use Rattle.file_texts.specs.declared.places.FilePlace.{FilePlace}
 use Rattle.engine.specs.Configured.{artifacts, record_after}
 use Rattle.engine.specs.Remaking.{Remakes, is_chosen, is_record, outputs_with}
 use Rattle.fallible.proofs.Binds.{bind_ok, ok_is}
-use Rattle.file_laws.specs.Rerun.{AreNeverLinks, InputsAreKept, IsNeverLink, IsOver, OutputsAreRead}
+use Rattle.file_laws.specs.Rerun.{no_deeds, AreNeverLinks, InputsAreKept, IsNeverLink, IsOver, OutputsAreRead}
 use Rattle.engine_frame.specs.Faults.{of_precious, named, ◌>>=◌}
 use Rattle.engine_frame.specs.Given as given
 use Rattle.engine_frame.specs.Handing.{IfCompleted}
@@ -183,7 +183,7 @@ module _ (window : ℕ) (arguments : List (List ℕ)) (script : Script) (setting
       let path = path_of settings.srcdir name in
       let held = guarded_at (after files []) run.guards path apart.place (guards (read_name (after files []) path text read)) apart.at in
       law files run.guards handed (codes "config.log") (log_of run.report.log) plain.place left.deeds path apart.place text c plain.outputs plain.log over held apart.other
-      (record { end = path; leads = itself (apart.never []); at = apart.at; read = read_there (after files []) path text read })
+      (record { end = path; leads = itself (apart.never [] no_deeds); at = apart.at; read = read_there (after files []) path text read })
 
   -- What is there next is what is there after the run.
   next_is : (name : List ℕ) → text_under (handed_on left) name ≡ text_under (after files left.deeds) name

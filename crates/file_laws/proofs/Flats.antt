@@ -65,9 +65,9 @@ renamed_text start d from to =
 
 pub is_coherent : (start : Texts) → IsCoherent (flat start)
 is_coherent start = record {
-  filled = λ d name mode text. last_deed start d (Filled name mode text) (last_of name) ∙ at_name (last_of name) (Some text) (after_deeds start d (last_of name));
-  renamed = λ d from to. renamed_text start d from to;
-  renamed_kind = λ d from to. ap kind_of (renamed_text start d from to);
+  filled = λ d name mode text has. last_deed start d (Filled name mode text) (last_of name) ∙ at_name (last_of name) (Some text) (after_deeds start d (last_of name));
+  renamed = λ d from to has not_link. renamed_text start d from to;
+  renamed_kind = λ d from to has not_link. ap kind_of (renamed_text start d from to);
   gone = λ d name. ap kind_of (last_deed start d (Removed name) (last_of name) ∙ at_name (last_of name) None (after_deeds start d (last_of name)));
   nothing = λ d name is. no_text (after_deeds start d (last_of name)) is;
   somewhere = λ d name some. (place_at name (0, 0), refl);

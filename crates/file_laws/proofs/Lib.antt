@@ -1,5 +1,9 @@
+mod Absents
+mod Examples
 mod Flats
 mod Places
 mod Reruns
+mod Runs
+mod Trees
 mod Lookups
 mod Agains

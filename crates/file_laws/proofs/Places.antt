@@ -17,12 +17,10 @@ use Rattle.file_texts.specs.declared.places.FilePlace.{FilePlace}
 use Rattle.file_texts.specs.declared.writing.Keeps.{Keeps}
 use Rattle.output_put.specs.declared.artifact.Kind.{Kind}
 use Rattle.output_put.specs.declared.artifact.Kind.TheVariants.{Cache, Record, File, Header}
-use Rattle.file_laws.specs.Rerun.{IsNeverLink}
+use Rattle.file_laws.specs.Rerun.{AreOfRun, IsNeverLink}
+use Rattle.file_laws.proofs.Runs.{three, of_making, of_filled, new_plain}
 
 -- ---- directories
-
-three : (d : List Deed) (a b c : Deed) → ((d ++ a ∷ []) ++ b ∷ []) ++ c ∷ [] ≡ d ++ a ∷ b ∷ c ∷ []
-three d a b c = ap (λ l. l ++ c ∷ []) (append_assoc d (a ∷ []) (b ∷ [])) ∙ append_assoc d (a ∷ b ∷ []) (c ∷ [])
 
 -- The directory under a name is this one.
 abbrev pub IsIn : Files → List Deed → List ℕ → ℕ × ℕ → Type 0
@@ -36,30 +34,29 @@ in_after_making f c d None name x at = in_after_none f d name x at
 in_after_making f c d (Some m) name x at = c.directories_last d m name x at
 
 in_after_written : (f : Files) → IsCoherent f → (d : List Deed) (keeps : Keeps) (file text : List ℕ) (deeds : List Deed) (name : List ℕ) (x : ℕ × ℕ)
-    → IsNeverLink f file → IsWritten (after f d) keeps file text deeds → IsIn f d name x → IsIn f (d ++ deeds) name x
-in_after_written f c d keeps file text deeds name x never (written n mode free is) at =
+    → IsNeverLink f file → AreOfRun f d → IsWritten (after f d) keeps file text deeds → IsIn f d name x → IsIn f (d ++ deeds) name x
+in_after_written f c d keeps file text deeds name x never of (written n mode free is) at =
     let t : List ℕ = temporary file n in
     let one : List Deed = d ++ Made t ∷ [] in
     let two : List Deed = one ++ Filled t mode text ∷ [] in
-    let first : is_link (kind_under (after f one) t) ≡ false = c.no_new_link d (Made t) t tt (ap is_link free) in
-    let second : is_link (kind_under (after f two) t) ≡ false = c.no_new_link one (Filled t mode text) t tt first in
+    let second : is_link (kind_under (after f two) t) ≡ false = new_plain f c d t text mode free in
     subst (λ l. IsIn f l name x) (three d (Made t) (Filled t mode text) (Renamed t file))
-    (c.directories_stay two (Renamed t file) name (second, never two) ∙ c.directories_stay one (Filled t mode text) name tt ∙ c.directories_stay d (Made t) name tt ∙ at)
+    (c.directories_stay two (Renamed t file) name (second, never two (of_filled f d t text mode of)) ∙ c.directories_stay one (Filled t mode text) name tt ∙ c.directories_stay d (Made t) name tt ∙ at)
 
 in_after_both : (f : Files) → IsCoherent f → (d : List Deed) (keeps : Keeps) (own file text : List ℕ) (deeds : List Deed) (name : List ℕ) (x : ℕ × ℕ)
-    → IsNeverLink f file → IsWritten (with_deeds (after f d) (directories_for own)) keeps file text deeds → IsIn f d name x → IsIn f (d ++ (directories_for own ++ deeds)) name x
-in_after_both f c d keeps own file text deeds name x never w at =
+    → IsNeverLink f file → AreOfRun f d → IsWritten (with_deeds (after f d) (directories_for own)) keeps file text deeds → IsIn f d name x → IsIn f (d ++ (directories_for own ++ deeds)) name x
+in_after_both f c d keeps own file text deeds name x never of w at =
     subst (λ l. IsIn f l name x) (append_assoc d (directories_for own) deeds)
-    (in_after_written f c (d ++ directories_for own) keeps file text deeds name x never w (in_after_making f c d (directory_of own) name x at))
+    (in_after_written f c (d ++ directories_for own) keeps file text deeds name x never (of_making f d (directory_of own) of) w (in_after_making f c d (directory_of own) name x at))
 
 pub in_after_put : (f : Files) → IsCoherent f → (d : List Deed) (kind : Kind) (own file text line : List ℕ) (deeds : List Deed) (name : List ℕ) (x : ℕ × ℕ)
-    → IsNeverLink f file → IsPut (after f d) own file text kind line deeds → IsIn f d name x → IsIn f (d ++ deeds) name x
-in_after_put f c d Cache own file text line [] name x never (cache_same is) at = in_after_none f d name x at
-in_after_put f c d Cache own file text line deeds name x never (cache_put rest other w) at = in_after_written f c d _ file text rest name x never w at
-in_after_put f c d Record own file text line deeds name x never (record_put rest w) at = in_after_written f c d _ file text rest name x never w at
-in_after_put f c d File own file text line deeds name x never (file_put rest w) at = in_after_both f c d _ own file text rest name x never w at
-in_after_put f c d Header own file text line [] name x never (header_same is) at = in_after_none f d name x at
-in_after_put f c d Header own file text line deeds name x never (header_put rest other w) at = in_after_both f c d _ own file text rest name x never w at
+    → IsNeverLink f file → AreOfRun f d → IsPut (after f d) own file text kind line deeds → IsIn f d name x → IsIn f (d ++ deeds) name x
+in_after_put f c d Cache own file text line [] name x never of (cache_same is) at = in_after_none f d name x at
+in_after_put f c d Cache own file text line deeds name x never of (cache_put rest other w) at = in_after_written f c d _ file text rest name x never of w at
+in_after_put f c d Record own file text line deeds name x never of (record_put rest w) at = in_after_written f c d _ file text rest name x never of w at
+in_after_put f c d File own file text line deeds name x never of (file_put rest w) at = in_after_both f c d _ own file text rest name x never of w at
+in_after_put f c d Header own file text line [] name x never of (header_same is) at = in_after_none f d name x at
+in_after_put f c d Header own file text line deeds name x never of (header_put rest other w) at = in_after_both f c d _ own file text rest name x never of w at
 
 -- ---- places
 
@@ -83,9 +80,9 @@ place_after_made f c d File own name place at = place_stays f d (d ++ directorie
 place_after_made f c d Header own name place at = place_stays f d (d ++ directories_for own) name place (λ x is. in_after_making f c d (directory_of own) (home_of name) x is) at
 
 pub place_after_put : (f : Files) → IsCoherent f → (d : List Deed) (kind : Kind) (own file text line : List ℕ) (deeds : List Deed) (name : List ℕ) (place : FilePlace)
-    → IsNeverLink f file → IsPut (after f d) own file text kind line deeds → place_under (after f d) name ≡ Some place → place_under (after f (d ++ deeds)) name ≡ Some place
-place_after_put f c d kind own file text line deeds name place never put at =
-    place_stays f d (d ++ deeds) name place (λ x is. in_after_put f c d kind own file text line deeds (home_of name) x never put is) at
+    → IsNeverLink f file → AreOfRun f d → IsPut (after f d) own file text kind line deeds → place_under (after f d) name ≡ Some place → place_under (after f (d ++ deeds)) name ≡ Some place
+place_after_put f c d kind own file text line deeds name place never of put at =
+    place_stays f d (d ++ deeds) name place (λ x is. in_after_put f c d kind own file text line deeds (home_of name) x never of put is) at
 
 -- A place is itself, and is among those to which it was added.
 same_place : (p : FilePlace) → is_place p p ≡ true
@@ -100,15 +97,15 @@ pub among_more : (p : FilePlace) (places more : List FilePlace) → is_among p p
 among_more p places more is = list_any-append (λ other. is_place p other) places more ∙ or_left (is_among p places) (is_among p more) is
 
 -- An artifact whose name is that of no link is put to the file of its name.
-pub end_is_name : (f : Files) (d : List Deed) (name : List ℕ) (kind : Kind) (file : List ℕ) → IsNeverLink f name → IsEnd (after f d) name kind file → file ≡ name
-end_is_name f d name Cache file never end = leads_nowhere file end
+pub end_is_name : (f : Files) (d : List Deed) (name : List ℕ) (kind : Kind) (file : List ℕ) → IsNeverLink f name → AreOfRun f d → IsEnd (after f d) name kind file → file ≡ name
+end_is_name f d name Cache file never of end = leads_nowhere file end
   where
     leads_nowhere : (file : List ℕ) → LeadsTo (after f d) name file → file ≡ name
     leads_nowhere file (itself is) = refl
-    leads_nowhere file (on next last link n leads) = absurd (true≢false (sym link ∙ never d))
-end_is_name f d name Record file never end = end
-end_is_name f d name File file never end = end
-end_is_name f d name Header file never end = end
+    leads_nowhere file (on next last link n leads) = absurd (true≢false (sym link ∙ never d of))
+end_is_name f d name Record file never of end = end
+end_is_name f d name File file never of end = end
+end_is_name f d name Header file never of end = end
 
 -- What was added for an artifact: the place of its file, which was free.
 pub record HasFree (k : Known) (guards : List Guard) (places new : List FilePlace) (name file : List ℕ) : Type 0 where
@@ -155,16 +152,16 @@ before_none : (f : Files) (d : List Deed) (name : List ℕ) (place : FilePlace) 
 before_none f d name place at = subst (λ l. place_under (after f l) name ≡ Some place) (sym (append-nil d)) at
 
 stays_written : (f : Files) → IsCoherent f → (d : List Deed) (keeps : Keeps) (file text : List ℕ) (deeds : List Deed) (place : FilePlace)
-    → IsNeverLink f file → IsWritten (after f d) keeps file text deeds → place_under (after f d) file ≡ Some place → place_under (after f (d ++ deeds)) file ≡ Some place
-stays_written f c d keeps file text deeds place never w at =
-    place_stays f d (d ++ deeds) file place (λ x is. in_after_written f c d keeps file text deeds (home_of file) x never w is) at
+    → IsNeverLink f file → AreOfRun f d → IsWritten (after f d) keeps file text deeds → place_under (after f d) file ≡ Some place → place_under (after f (d ++ deeds)) file ≡ Some place
+stays_written f c d keeps file text deeds place never of w at =
+    place_stays f d (d ++ deeds) file place (λ x is. in_after_written f c d keeps file text deeds (home_of file) x never of w is) at
 
 stays_both : (f : Files) → IsCoherent f → (d : List Deed) (keeps : Keeps) (own file text : List ℕ) (deeds : List Deed) (place : FilePlace)
-    → IsNeverLink f file → IsWritten (with_deeds (after f d) (directories_for own)) keeps file text deeds → place_under (after f (d ++ directories_for own)) file ≡ Some place
+    → IsNeverLink f file → AreOfRun f d → IsWritten (with_deeds (after f d) (directories_for own)) keeps file text deeds → place_under (after f (d ++ directories_for own)) file ≡ Some place
     → place_under (after f (d ++ (directories_for own ++ deeds))) file ≡ Some place
-stays_both f c d keeps own file text deeds place never w at =
+stays_both f c d keeps own file text deeds place never of w at =
     subst (λ l. place_under (after f l) file ≡ Some place) (append_assoc d (directories_for own) deeds)
-    (stays_written f c (d ++ directories_for own) keeps file text deeds place never w at)
+    (stays_written f c (d ++ directories_for own) keeps file text deeds place never (of_making f d (directory_of own) of) w at)
 
 -- What has a text is somewhere.
 somewhere_of : (f : Files) → IsCoherent f → (d : List Deed) (name text : List ℕ) → text_under (after f d) name ≡ Some text → (place : FilePlace) × (place_under (after f d) name ≡ Some place)
@@ -183,11 +180,11 @@ same_header f c d name file text place same is at =
     before_none f d file place (subst (λ n. place_under (after f d) n ≡ Some place) (sym same) (found.1 ∙ ap Some one))
 
 pub own_stays : (f : Files) → IsCoherent f → (d : List Deed) (kind : Kind) (name file text line : List ℕ) (deeds : List Deed) (place : FilePlace)
-    → IsNeverLink f file → file ≡ name → IsPut (after f d) name file text kind line deeds → place_under (after f (d ++ may_make kind name)) file ≡ Some place
+    → IsNeverLink f file → AreOfRun f d → file ≡ name → IsPut (after f d) name file text kind line deeds → place_under (after f (d ++ may_make kind name)) file ≡ Some place
     → place_under (after f (d ++ deeds)) file ≡ Some place
-own_stays f c d Cache name file text line [] place never same (cache_same is) at = at
-own_stays f c d Cache name file text line deeds place never same (cache_put rest other w) at = stays_written f c d _ file text rest place never w (after_none f d file place at)
-own_stays f c d Record name file text line deeds place never same (record_put rest w) at = stays_written f c d _ file text rest place never w (after_none f d file place at)
-own_stays f c d File name file text line deeds place never same (file_put rest w) at = stays_both f c d _ name file text rest place never w at
-own_stays f c d Header name file text line [] place never same (header_same is) at = same_header f c d name file text place same is at
-own_stays f c d Header name file text line deeds place never same (header_put rest other w) at = stays_both f c d _ name file text rest place never w at
+own_stays f c d Cache name file text line [] place never of same (cache_same is) at = at
+own_stays f c d Cache name file text line deeds place never of same (cache_put rest other w) at = stays_written f c d _ file text rest place never of w (after_none f d file place at)
+own_stays f c d Record name file text line deeds place never of same (record_put rest w) at = stays_written f c d _ file text rest place never of w (after_none f d file place at)
+own_stays f c d File name file text line deeds place never of same (file_put rest w) at = stays_both f c d _ name file text rest place never of w at
+own_stays f c d Header name file text line [] place never of same (header_same is) at = same_header f c d name file text place same is at
+own_stays f c d Header name file text line deeds place never of same (header_put rest other w) at = stays_both f c d _ name file text rest place never of w at

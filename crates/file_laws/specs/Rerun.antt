@@ -1,6 +1,6 @@
 -- What is read after a run on a disk that nobody else changes.
-use Rattle.std.specs.Prelude.{◌≡◌, ◌≢◌, ℕ, true, false, List, [], ◌++◌, Some, All}
-use Rattle.file_disk.specs.Known.{Files, Deed, kind_under, text_under}
+use Rattle.std.specs.Prelude.{◌≡◌, ◌≢◌, ℕ, true, false, List, [], ◌∷◌, ◌++◌, Some, ⊤, All}
+use Rattle.file_disk.specs.Known.{Known, Files, Deed, MadeDirectories, Made, Filled, Failed, Renamed, Removed, kind_under, text_under}
 use Rattle.file_texts.specs.Coherent.{after, IsCoherent, ReadsAt}
 use Rattle.file_texts.specs.Done.{AreDone}
 use Rattle.file_texts.specs.Links.{is_link}
@@ -10,9 +10,26 @@ use Rattle.file_texts.specs.declared.places.Guard.{Guard}
 use Rattle.file_texts.specs.declared.places.FilePlace.{FilePlace}
 use Rattle.output_put.specs.declared.artifact.Artifact.{Artifact}
 
--- No link is under the name, whatever is done to the disk. (own)
+-- The deed is one that a run does: it makes directories or a new file, writes to one, removes a file,
+-- or renames one that is no link. (own)
+abbrev pub IsOfRun : Known → Deed → Type 0
+IsOfRun k (MadeDirectories name) = ⊤
+IsOfRun k (Made name) = ⊤
+IsOfRun k (Filled name mode text) = ⊤
+IsOfRun k (Failed name) = ⊤
+IsOfRun k (Renamed from to) = is_link (kind_under k from) ≡ false
+IsOfRun k (Removed name) = ⊤
+
+-- Each of these deeds is one that a run does, in order. (own)
+pub data AreOfRun (files : Files) : List Deed → Type 0 where
+  no_deeds : AreOfRun files []
+  one_more : (deeds : List Deed) (deed : Deed) → AreOfRun files deeds → IsOfRun (after files deeds) deed
+      → AreOfRun files (deeds ++ deed ∷ [])
+
+-- No link is under the name, whatever a run does to the disk. (own)
 abbrev pub IsNeverLink : Files → List ℕ → Type 0
-IsNeverLink files name = (deeds : List Deed) → is_link (kind_under (after files deeds) name) ≡ false
+IsNeverLink files name = (deeds : List Deed) → AreOfRun files deeds
+    → is_link (kind_under (after files deeds) name) ≡ false
 
 -- The same of the names of these artifacts. (own)
 abbrev pub AreNeverLinks : Files → List Artifact → Type 0
@@ -40,10 +57,12 @@ OutputsAreRead = (files : Files) (guards : List Guard) (artifacts : List Artifac
     → IsOver files guards artifacts last text place deeds
     → All (λ artifact. text_under (after files deeds) artifact.name ≡ Some artifact.text) artifacts
 
--- After such a run the last file is read under its name. (own)
+-- After such a run the last file is read under its name, if none of these names is that of a link.
+-- (own)
 unfoldable pub LastIsRead : Type 0
 LastIsRead = (files : Files) (guards : List Guard) (artifacts : List Artifact) (last text : List ℕ) (place : FilePlace) (deeds : List Deed)
-    → IsCoherent files → IsOver files guards artifacts last text place deeds
+    → IsCoherent files → AreNeverLinks files artifacts → IsNeverLink files last
+    → IsOver files guards artifacts last text place deeds
     → text_under (after files deeds) last ≡ Some text
 
 -- After such a run what was read before under a name whose place was guarded is read again, if it is

@@ -11,12 +11,17 @@
 //! and under each other name what was written. `acrun status` reads `config.status` and
 //! `Makefile.in` as the run left them, and makes the same `Makefile`.
 //!
-//! Read `specs/Rerun.antt`, `specs/Flat.antt`, a disk of one directory, to which the laws apply,
+//! Read `specs/Rerun.antt`, `specs/Tree.antt`, a disk to which the laws apply, `specs/Example.antt`,
 //! and then `specs/Again.antt`.
 #![tactic(auto)]
 
 mod again;
+mod example;
 mod rerun;
 
 pub use again::status_makes_the_same;
-pub use rerun::{flat_disks_are_coherent, inputs_are_kept, outputs_are_read};
+pub use example::premises_can_be_met;
+pub use rerun::{
+    flat_disks_are_coherent, inputs_are_kept, outputs_are_read, real_disks_need_premises,
+    trees_are_coherent,
+};

@@ -6,13 +6,14 @@ use Rattle.file_disk.specs.Clearing.{clearing}
 use Rattle.file_disk.specs.Known.{Known, Files, Deed, MadeDirectories, Made, Filled, Renamed, Removed, text_under, kind_under}
 use Rattle.file_disk.specs.declared.found.Found.{Found}
 use Rattle.file_disk.specs.declared.found.Found.TheVariants as found
-use Rattle.file_texts.specs.Coherent.{after, IsElsewhere, KeepsDirectories, IsCoherent}
+use Rattle.file_texts.specs.Coherent.{after, HasPlace, IsElsewhere, KeepsDirectories, IsCoherent}
 use Rattle.file_texts.specs.Links.{is_link, LeadsTo, itself, on}
 use Rattle.file_texts.specs.Names.{home_of, temporary}
 use Rattle.file_texts.specs.Places.{place_at, place_under}
 use Rattle.file_texts.specs.Steps.{IsWritten, written}
 use Rattle.file_texts.specs.declared.places.FilePlace.{FilePlace}
 use Rattle.file_texts.specs.declared.writing.Keeps.{Keeps}
+use Rattle.file_texts.proofs.Beside.{has_beside}
 
 three : (d : List Deed) (a b c : Deed) → ((d ++ a ∷ []) ++ b ∷ []) ++ c ∷ [] ≡ d ++ a ∷ b ∷ c ∷ []
 three d a b c = ap (λ l. l ++ c ∷ []) (append_assoc d (a ∷ []) (b ∷ [])) ∙ append_assoc d (a ∷ b ∷ []) (c ∷ [])
@@ -136,31 +137,49 @@ leads_through f c d t file text mode name end w plain (on next last link is_next
     on next end s.link (record { target = is_next.target; there = s.has ∙ is_next.there; from = is_next.from })
     (leads_through f c d t file text mode next end w plain leads)
 
+-- A place that is there stays.
+pub place_still : (f : Files) → IsCoherent f → (d : List Deed) (e : Deed) (name : List ℕ)
+    → KeepsDirectories (after f d) e → HasPlace (after f d) name → HasPlace (after f (d ++ e ∷ [])) name
+place_still f c d e name keeps has = (has.0, place_stays f c d e name keeps ∙ has.1)
+
+-- A new file is no link.
+new_plain : (f : Files) → IsCoherent f → (d : List Deed) (t text : List ℕ) (mode : Option ℕ)
+    → kind_under (after f d) t ≡ found.Nothing
+    → is_link (kind_under (after f ((d ++ Made t ∷ []) ++ Filled t mode text ∷ [])) t) ≡ false
+new_plain f c d t text mode free =
+    c.no_new_link (d ++ Made t ∷ []) (Filled t mode text) t tt (c.no_new_link d (Made t) t tt (free_plain _ free))
+
 -- What was written is read.
 pub own_text : (f : Files) → IsCoherent f → (d : List Deed) (keeps : Keeps) (file text : List ℕ) (deeds : List Deed)
-    → IsWritten (after f d) keeps file text deeds
+    → HasPlace (after f d) file → IsWritten (after f d) keeps file text deeds
     → text_under (after f (d ++ deeds)) file ≡ Some text
-own_text f c d keeps file text deeds (written n mode free is_mode) =
+own_text f c d keeps file text deeds has (written n mode free is_mode) =
     let t = temporary file n in
+    let d1 = d ++ Made t ∷ [] in
+    let d2 = d1 ++ Filled t mode text ∷ [] in
+    let beside : HasPlace (after f d1) t = place_still f c d (Made t) t tt (has_beside (after f d) file n has) in
+    let later : HasPlace (after f d2) file = place_still f c d1 (Filled t mode text) file tt (place_still f c d (Made t) file tt has) in
     subst (λ l. text_under (after f l) file ≡ Some text) (three d (Made t) (Filled t mode text) (Renamed t file))
-    (c.renamed ((d ++ Made t ∷ []) ++ Filled t mode text ∷ []) t file ∙ c.filled (d ++ Made t ∷ []) t mode text)
+    (c.renamed d2 t file later (new_plain f c d t text mode free) ∙ c.filled d1 t mode text beside)
 
 -- The same through a link.
 pub linked_text : (f : Files) → IsCoherent f → (d : List Deed) (keeps : Keeps) (name file text : List ℕ) (deeds : List Deed)
     → LeadsTo (after f d) name file → is_link (kind_under (after f d) file) ≡ false
-    → IsWritten (after f d) keeps file text deeds
+    → HasPlace (after f d) file → IsWritten (after f d) keeps file text deeds
     → text_under (after f (d ++ deeds)) name ≡ Some text
-linked_text f c d keeps name file text deeds leads plain (written n mode free is_mode) =
+linked_text f c d keeps name file text deeds leads plain has (written n mode free is_mode) =
     let t = temporary file n in
     let d1 = d ++ Made t ∷ [] in
     let d2 = d1 ++ Filled t mode text ∷ [] in
     let w : Writable f d t file = record { free = free; plain = plain } in
+    let later : HasPlace (after f d2) file = place_still f c d1 (Filled t mode text) file tt (place_still f c d (Made t) file tt has) in
+    let plain_new = new_plain f c d t text mode free in
     let still : is_link (kind_under (after f (d2 ++ Renamed t file ∷ [])) file) ≡ false =
-    ap is_link (c.renamed_kind d2 t file) ∙ (keeps_last f c d t file text mode w).0 in
+    ap is_link (c.renamed_kind d2 t file later plain_new) ∙ plain_new in
     let end : is_link (kind_under (after f (d ++ Made t ∷ Filled t mode text ∷ Renamed t file ∷ [])) file) ≡ false =
     subst (λ l. is_link (kind_under (after f l) file) ≡ false) (three d (Made t) (Filled t mode text) (Renamed t file)) still in
     c.linked _ name file (leads_through f c d t file text mode name file w end leads)
-    ∙ own_text f c d keeps file text (Made t ∷ Filled t mode text ∷ Renamed t file ∷ []) (written n mode free is_mode)
+    ∙ own_text f c d keeps file text (Made t ∷ Filled t mode text ∷ Renamed t file ∷ []) has (written n mode free is_mode)
 
 -- A name leads to a file that has a text.
 pub end_is_plain : (k : Known) (name end : List ℕ) → LeadsTo k name end
@@ -193,7 +212,7 @@ other_text f c d keeps file text deeds name end place has plain leads at apart r
     (c.linked _ name end leads_on ∙ s.has, leads_on, s.at)
 
 -- Directories that are made change no text.
-made_stays : (f : Files) → IsCoherent f → (d : List Deed) (made name : List ℕ) (place : FilePlace)
+pub made_stays : (f : Files) → IsCoherent f → (d : List Deed) (made name : List ℕ) (place : FilePlace)
     → place_under (after f d) name ≡ Some place
     → place_under (after f (d ++ MadeDirectories made ∷ [])) name ≡ Some place
 made_stays f c d made name place at = in_place name _ _ place (λ x is. c.directories_last d made (home_of name) x is) at
@@ -228,13 +247,28 @@ made_text f c d made name end place has leads at read =
 
 -- ---- the last file, which is made anew
 
-pub own_last : (f : Files) → IsCoherent f → (d : List Deed) (file text : List ℕ) (cleared : List Deed)
-    → text_under (after f (d ++ (cleared ++ Made file ∷ Filled file None text ∷ []))) file ≡ Some text
-own_last f c d file text cleared =
-    let front = (d ++ cleared) ++ Made file ∷ [] in
-    subst (λ l. text_under (after f l) file ≡ Some text)
-    (append_assoc (d ++ cleared) (Made file ∷ []) (Filled file None text ∷ []) ∙ append_assoc d cleared (Made file ∷ Filled file None text ∷ []))
-    (c.filled front file None text)
+own_filled : (f : Files) → IsCoherent f → (d : List Deed) (file text : List ℕ) → HasPlace (after f d) file
+    → text_under (after f (d ++ Made file ∷ Filled file None text ∷ [])) file ≡ Some text
+own_filled f c d file text has =
+    let made = d ++ Made file ∷ [] in
+    subst (λ l. text_under (after f l) file ≡ Some text) (append_assoc d (Made file ∷ []) (Filled file None text ∷ []))
+    (c.filled made file None text (place_still f c d (Made file) file tt has))
+
+own_removed : (f : Files) → IsCoherent f → (d : List Deed) (file text : List ℕ) → HasPlace (after f d) file
+    → is_link (kind_under (after f d) file) ≡ false
+    → text_under (after f (d ++ Removed file ∷ Made file ∷ Filled file None text ∷ [])) file ≡ Some text
+own_removed f c d file text has plain =
+    subst (λ l. text_under (after f l) file ≡ Some text) (append_assoc d (Removed file ∷ []) (Made file ∷ Filled file None text ∷ []))
+    (own_filled f c (d ++ Removed file ∷ []) file text (place_still f c d (Removed file) file plain has))
+
+pub own_last : (f : Files) → IsCoherent f → (d : List Deed) (file text : List ℕ) (seen : Found)
+    → HasPlace (after f d) file → is_link (kind_under (after f d) file) ≡ false
+    → text_under (after f (d ++ (clearing file seen ++ Made file ∷ Filled file None text ∷ []))) file ≡ Some text
+own_last f c d file text found.Nothing has plain = own_filled f c d file text has
+own_last f c d file text found.Directory has plain = own_filled f c d file text has
+own_last f c d file text found.Special has plain = own_filled f c d file text has
+own_last f c d file text found.Link has plain = own_removed f c d file text has plain
+own_last f c d file text (found.File mode owner) has plain = own_removed f c d file text has plain
 
 -- A name leads to where it led after one deed, if nothing that is a link is at a place that the deed changes.
 leads_on : (f : Files) → IsCoherent f → (d : List Deed) (e : Deed) (name end : List ℕ)

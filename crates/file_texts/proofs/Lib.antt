@@ -1,3 +1,4 @@
+pub mod Beside
 mod Coherence
 mod Guarded
 mod Kept

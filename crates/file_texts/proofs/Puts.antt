@@ -1,6 +1,6 @@
 -- How an artifact is put.
 use Rattle.std.proofs.lemmas.Bool.{true≢false}
-use Rattle.std.proofs.Common.{◌≡◌, ℕ, ◌+◌, Bool, true, false, List, [], ◌∷◌, ◌++◌, Option, Some, None, IfSome, Result, Ok, Err, OnOk, OnErr, IfOk, refl, sym, ◌∙◌, subst, arith}
+use Rattle.std.proofs.Common.{◌≡◌, ℕ, ◌+◌, Bool, true, false, List, [], ◌∷◌, ◌++◌, Option, Some, None, IfSome, Result, Ok, Err, OnOk, OnErr, sym, ◌∙◌, subst, arith}
 use Rattle.file_disk.specs.Known.{Known, Deed, Does, with_deeds}
 use Rattle.file_disk.proofs.Deeds.{with_none, does_none, does_more, after_does}
 use Rattle.output_put.specs.declared.artifact.Artifact.{Artifact}

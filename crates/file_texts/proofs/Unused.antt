@@ -1,7 +1,6 @@
 -- A receiver that has taken nothing.
-use Rattle.std.proofs.Common.{◌≡◌, ℕ, List, [], ◌∷◌, ◌++◌, refl, sym, ap, subst, ◌∙◌, append-nil, append_assoc}
-use Rattle.output_put.specs.Receipt.{Receipt}
-use Rattle.file_texts.specs.Held.{Held, fresh, closings, receipt_of, with_guards, GuardsMore, IsUnused}
+use Rattle.std.proofs.Common.{◌≡◌, [], ◌++◌, refl, sym, ap, ◌∙◌, append-nil, append_assoc}
+use Rattle.file_texts.specs.Held.{Held, fresh, receipt_of, with_guards, GuardsMore, IsUnused}
 
 pub guards_none : {D : Type 0} (o : Held D) → GuardsMore o o
 guards_none o = ([], ap (with_guards o) (sym (append-nil o.guards)))

@@ -40,16 +40,24 @@ IsOfNewFile (Failed name) = ⊤
 IsOfNewFile (Renamed from to) = ⊥
 IsOfNewFile (Removed name) = ⊥
 
+-- The directory of the name is there. (own)
+abbrev pub HasPlace : Known → List ℕ → Type 0
+HasPlace k name = (place : FilePlace) × (place_under k name ≡ Some place)
+
 -- The files are changed by what is done to them, and by nothing else, and what is written can be
 -- read again. (own)
 pub record IsCoherent (files : Files) : Type 0 where
-  -- A file has the text that was written to it.
+  -- A file has the text that was written to it, if its directory is there.
   pub filled : (d : List Deed) (name : List ℕ) (mode : Option ℕ) (text : List ℕ)
+      → HasPlace (after files d) name
       → text_under (after files (d ++ Filled name mode text ∷ [])) name ≡ Some text
-  -- A file that is renamed is under the other name what it was.
-  pub renamed : (d : List Deed) (from to : List ℕ)
+  -- What is renamed, and is no link, is under the other name what it was, if the directory of that
+  -- name is there.
+  pub renamed : (d : List Deed) (from to : List ℕ) → HasPlace (after files d) to
+      → is_link (kind_under (after files d) from) ≡ false
       → text_under (after files (d ++ Renamed from to ∷ [])) to ≡ text_under (after files d) from
-  pub renamed_kind : (d : List Deed) (from to : List ℕ)
+  pub renamed_kind : (d : List Deed) (from to : List ℕ) → HasPlace (after files d) to
+      → is_link (kind_under (after files d) from) ≡ false
       → kind_under (after files (d ++ Renamed from to ∷ [])) to ≡ kind_under (after files d) from
   -- What is removed is gone.
   pub gone : (d : List Deed) (name : List ℕ)
@@ -58,7 +66,7 @@ pub record IsCoherent (files : Files) : Type 0 where
   pub nothing : (d : List Deed) (name : List ℕ) → kind_under (after files d) name ≡ found.Nothing
       → text_under (after files d) name ≡ None
   pub somewhere : (d : List Deed) (name : List ℕ) → kind_under (after files d) name ≢ found.Nothing
-      → (place : FilePlace) × (place_under (after files d) name ≡ Some place)
+      → HasPlace (after files d) name
   -- At one place is one thing, under whatever name.
   pub one : (d : List Deed) (a b : List ℕ) (place : FilePlace)
       → place_under (after files d) a ≡ Some place → place_under (after files d) b ≡ Some place

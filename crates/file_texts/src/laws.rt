@@ -1,9 +1,10 @@
 //! Laws of what is written and then read, on disks that nobody else changes.
 
-ghost use Rattle.std.specs.Prelude.{◌≡◌, ℕ, List, Some};
-ghost use Rattle.file_disk.specs.Known.{Known, Deed, with_deeds, text_under};
-ghost use Rattle.file_texts.specs.Coherent.{IsCoherent, IsApart, IsPutApart, ReadsAt};
+ghost use Rattle.std.specs.Prelude.{◌≡◌, ℕ, false, List, Some};
+ghost use Rattle.file_disk.specs.Known.{Known, Deed, with_deeds, kind_under, text_under};
+ghost use Rattle.file_texts.specs.Coherent.{HasPlace, IsCoherent, IsApart, IsPutApart, ReadsAt};
 ghost use Rattle.file_texts.specs.Done.{IsTakenSo};
+ghost use Rattle.file_texts.specs.Links.{is_link};
 ghost use Rattle.file_texts.specs.Steps.{IsReplaced};
 ghost use Rattle.file_texts.specs.declared.places.Guard.{Guard};
 ghost use Rattle.file_texts.specs.declared.places.FilePlace.{FilePlace};
@@ -30,8 +31,8 @@ pub fn puts_leave_others()
 #[tactic(auto, using(crate::proofs::Reread::last_is_read, crate::proofs::Reread::last_leaves_others))]
 pub fn last_files_are_read()
     ensures read { (k : Known) (file text : List ℕ) (deeds : List Deed)
-        → IsCoherent k.files → IsReplaced k file text deeds
-        → text_under (with_deeds k deeds) file ≡ Some text }
+        → IsCoherent k.files → HasPlace k file → is_link (kind_under k file) ≡ false
+        → IsReplaced k file text deeds → text_under (with_deeds k deeds) file ≡ Some text }
     ensures others { (k : Known) (file written : List ℕ) (deeds : List Deed) (name : List ℕ)
         (place : FilePlace) (text : List ℕ) → IsCoherent k.files → IsReplaced k file written deeds
         → IsApart k file place → ReadsAt k name place text

@@ -46,11 +46,15 @@ makes name (Failed new) = false
 makes name (Renamed from to) = false
 makes name (Removed old) = false
 
+-- The last of the deeds makes a new file of this name, or else the one before them did, if there are
+-- none. (own)
+abbrev pub is_last : List ℕ → Bool → List Deed → Bool
+is_last name was [] = was
+is_last name was (deed ∷ deeds) = is_last name (makes name deed) deeds
+
 -- The last of the deeds makes a new file of this name. (own)
 abbrev pub is_new : List Deed → List ℕ → Bool
-is_new [] name = false
-is_new (deed ∷ []) name = makes name deed
-is_new (deed ∷ next ∷ more) name = is_new (next ∷ more) name
+is_new deeds name = is_last name false deeds
 
 -- What is under a name, if this file of this owner is the only one, besides a new file that was just
 -- made, which is that of user 0. (own)

@@ -122,10 +122,11 @@ fn makes(name: &str, step: &Step) -> bool
 fn is_new(steps: &[Step], name: &str) -> bool
     ensures { result ≡ meant.is_new (map meant.deed_of steps.now) name.now }
 {
-    match steps.last() {
-        Some(step) => makes(name, step),
-        None => false,
+    let mut is = false;
+    for step in steps {
+        is = makes(name, step);
     }
+    is
 }
 
 /// Returns a text, or its first 64 MiB and one byte more.

@@ -1,4 +1,4 @@
-use Rattle.std.proofs.Common.{ℕ, List, IfSome, OnOk, OnErr, ap, sym, subst, ◌∙◌, string_bytes, ◌≡◌, false}
+use Rattle.std.proofs.Common.{ℕ, List, OnOk, OnErr, ap, sym, subst, ◌∙◌, string_bytes, ◌≡◌, false}
 use Rattle.std.specs.Prelude.{option_map}
 use Rattle.file_disk.specs.Known.{Does}
 use Rattle.output_put.specs.declared.artifact.Artifact.{Artifact}

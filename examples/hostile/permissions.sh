@@ -1,7 +1,7 @@
 #!/bin/sh
 # Puts files of another user where the program writes: what takes their place has the permissions of a new file. A file of the
 # same user keeps its permissions. Two users are needed, so this is skipped unless root runs it, and may give files away.
-#   owners.sh PROGRAM
+#   permissions.sh PROGRAM
 set -u
 acrun=$(realpath "$1") || exit 2
 folder=$(mktemp -d) || exit 2
@@ -9,8 +9,8 @@ trap 'rm -rf "$folder"' EXIT
 cd "$folder" || exit 2
 : > given
 if [ "$(id -u)" != 0 ] || ! chown nobody given 2> given.log; then
-    echo 'owners: skipped, since it needs two users'
-    exit 0
+    echo 'permissions: skipped, since it needs two users'
+    exit 77
 fi
 chmod 1777 .
 wrong=0
@@ -20,7 +20,7 @@ has() {
     found=$(stat -c '%u %a' "$1")
     if [ "$found" != "0 $2" ]; then
         wrong=1
-        echo "owners: $1 has '$found', and not '0 $2'"
+        echo "permissions: $1 has '$found', and not '0 $2'"
     fi
 }
 
@@ -47,5 +47,5 @@ trial() {
 
 trial 022 644
 trial 077 600
-[ "$wrong" = 0 ] && echo 'owners: no permissions of another user were kept'
+[ "$wrong" = 0 ] && echo 'permissions: no permissions of another user were kept'
 exit "$wrong"
