@@ -26,11 +26,11 @@ use std::rt::Files;
 /// The start is refused if the job has no word, if a word isn't UTF-8, if the conftest can't be
 /// written or the child can't be started, or if memory for its record runs out.
 ///
-/// `next` waits for the oldest child. It reads what the child writes to standard error, with at
-/// most 1,024 reads of at most 4,096 bytes each, and keeps the first 65,536 bytes. A read that a
-/// signal interrupts is tried up to 1,024 times, and counts once. It then closes the pipe and waits
-/// for the child. The end is refused if a read or the wait fails, or if memory for its record runs
-/// out. The child is waited for even if a read fails.
+/// `next` waits for the oldest child. It reads what the child writes to standard error, up to its
+/// end or for 4 MiB, in however many pieces it arrives, and keeps the first 65,536 bytes. A read that
+/// a signal interrupts is tried up to 1,024 times. It then closes the pipe and waits for the child.
+/// The end is refused if a read or the wait fails, or if memory for its record runs out. The child
+/// is waited for even if a read fails.
 #[derive(Drop)]
 pub struct ProcessCrew<R: Files + Processes + Drop> {
     children: Children<DiskLauncher<System<R>>>,

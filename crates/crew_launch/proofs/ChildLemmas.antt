@@ -1,9 +1,9 @@
 -- Lemmas on what is read from a real child, and on its words.
-use Rattle.std.proofs.Common.{◌≡◌, ◌≢◌, ℕ, zero, suc, ◌≤◌, ◌+◌, ◌-◌, List, [], ◌∷◌, ◌++◌, length, take, refl, sym, ap, ◌∙◌, arith, length-append, Option, Some, None, inl, inr, min, Result, Ok, Err, is_ok, OnOk, if◌then◌else◌, ◌<◌, IsUtf8, get_or, subst}
+use Rattle.std.proofs.Common.{◌≡◌, ℕ, zero, suc, ◌≤◌, ◌+◌, ◌-◌, ◌*◌, List, [], ◌∷◌, ◌++◌, length, take, refl, sym, ap, ◌∙◌, arith, length-append, Option, Some, None, inl, inr, min, Result, Ok, Err, is_ok, OnOk, if◌then◌else◌, ◌<◌, IsUtf8, get_or, subst}
 use Rattle.std.specs.Prelude.{All}
 use Rattle.std.proofs.lemmas.List.Elements.{All-get_or}
 use Rattle.std.proofs.Math.Seq.{take-append-add}
-use Rattle.std.proofs.lemmas.List.{append-nil, length-take, length-take-le, take_min}
+use Rattle.std.proofs.lemmas.List.{length-take, length-take-le, take_min}
 use Rattle.std.proofs.KnownBytes.{Consumes-trans}
 use Rattle.std.specs.Io.KnownBytes.{Consumes, Keeps, IsAtEnd}
 use Rattle.crew_launch.specs.Ending.{IsKept}
@@ -21,12 +21,12 @@ kept_again zero bytes piece = refl
 kept_again (suc n) [] piece = refl
 kept_again (suc n) (b ∷ bytes) piece = ap (λ t. b ∷ t) (kept_again n bytes piece)
 
--- n reads have given bytes, of which the text is kept
+-- so many full pieces have given bytes, of which the text is kept
 pub record HasRead (known rest : Option (List ℕ)) (text : List ℕ) (reads : ℕ) : Type 0 where
   pub bytes : List ℕ
   pub consumed : Consumes known rest bytes
   pub kept : text ≡ take 65536 bytes
-  pub each : reads ≤ length bytes
+  pub each : length bytes ≡ 4096 * reads
 
 consumes_none : (known : Option (List ℕ)) → Consumes known known []
 consumes_none None = tt
@@ -35,30 +35,35 @@ consumes_none (Some xs) = refl
 pub read_none : (known : Option (List ℕ)) (text : List ℕ) → text ≡ [] → HasRead known known text 0
 read_none known text is = record { bytes = []; consumed = consumes_none known; kept = is; each = omega arith }
 
-pub read_more : (known rest new : Option (List ℕ)) (text piece all : List ℕ) (n reads : ℕ) → HasRead known rest text reads → Consumes rest new (take n piece) → n ≤ length piece → n ≢ 0 → all ≡ take 65536 (text ++ take n piece) → HasRead known new all (reads + 1)
-read_more known rest new text piece all n reads h consumed within some is =
+-- what is kept of the bytes so far and of one piece more
+kept_more : (text bytes piece all : List ℕ) → text ≡ take 65536 bytes → all ≡ take 65536 (text ++ piece) → all ≡ take 65536 (bytes ++ piece)
+kept_more text bytes piece all kept is = is ∙ ap (λ t. take 65536 (t ++ piece)) kept ∙ kept_again 65536 bytes piece
+
+-- a full piece
+pub read_more : (known rest new : Option (List ℕ)) (text piece all : List ℕ) (n reads : ℕ) → HasRead known rest text reads → Consumes rest new (take n piece) → n ≤ length piece → n ≡ 4096 → all ≡ take 65536 (text ++ take n piece) → HasRead known new all (reads + 1)
+read_more known rest new text piece all n reads h consumed within full is =
     let longer = length-append h.bytes (take n piece) in
     let n_long = length-take-le n piece within in
     record {
       bytes = h.bytes ++ take n piece;
       consumed = Consumes-trans known rest new h.bytes (take n piece) h.consumed consumed;
-      kept = is ∙ ap (λ t. take 65536 (t ++ take n piece)) h.kept ∙ kept_again 65536 h.bytes (take n piece);
-      each = omega (arith, h.each, longer, n_long, some);
+      kept = kept_more text h.bytes (take n piece) all h.kept is;
+      each = omega (arith, h.each, longer, n_long, full);
     }
 
-pub read_end : (known rest new : Option (List ℕ)) (text piece : List ℕ) (n reads : ℕ) → HasRead known rest text reads → Consumes rest new (take n piece) → n ≡ 0 → IsAtEnd new → IsKept known text
-read_end known rest new text piece n reads h consumed none end =
-    let same : h.bytes ++ take n piece ≡ h.bytes = ap (λ k. h.bytes ++ take k piece) none ∙ append-nil h.bytes in
+-- the last piece, which the end cut
+pub read_end : (known rest new : Option (List ℕ)) (text piece all : List ℕ) (n reads : ℕ) → HasRead known rest text reads → Consumes rest new (take n piece) → all ≡ take 65536 (text ++ take n piece) → IsAtEnd new → IsKept known all
+read_end known rest new text piece all n reads h consumed is end =
     record {
       bytes = h.bytes ++ take n piece;
       rest = new;
       consumed = Consumes-trans known rest new h.bytes (take n piece) h.consumed consumed;
-      kept = h.kept ∙ ap (take 65536) (sym same);
+      kept = kept_more text h.bytes (take n piece) all h.kept is;
       all = inl end;
     }
 
 pub read_most : (known rest : Option (List ℕ)) (text : List ℕ) → HasRead known rest text 1024 → IsKept known text
-read_most known rest text h = record { bytes = h.bytes; rest = rest; consumed = h.consumed; kept = h.kept; all = inr h.each }
+read_most known rest text h = record { bytes = h.bytes; rest = rest; consumed = h.consumed; kept = h.kept; all = inr (omega (arith, h.each)) }
 
 pub keeps_same : (known : Option (List ℕ)) → Keeps known known
 keeps_same None = tt

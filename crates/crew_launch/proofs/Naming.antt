@@ -1,5 +1,5 @@
 -- Causes that name one of several things.
-use Rattle.std.proofs.Common.{◌≡◌, ◌⊎◌, ℕ, zero, suc, ◌<◌, List, [], ◌∷◌, length, get_or, Option, Some, None, Result, Ok, Err, inl, inr, sym, subst, arith}
+use Rattle.std.proofs.Common.{◌≡◌, ℕ, zero, suc, ◌<◌, List, [], ◌∷◌, length, get_or, Option, Some, None, Result, Ok, Err, inl, inr, subst, arith}
 use Rattle.std.specs.Prelude.{IfErr, IfSome}
 use Rattle.crew_refusals.specs.Shown.{IsCauseOf}
 use Rattle.crew_launch.specs.Launch.{IsAbout, IsOfFile, IsOfOne}

@@ -1,5 +1,5 @@
 -- The reply at the end of a real child, and its cause if it is refused.
-use Rattle.std.specs.Prelude.{◌≡◌, ◌⊎◌, ℕ, ℤ, ◌≤◌, List, length, take, unsigned_abs, codes, Option, Some, None, IfSome, Result, Ok, Err}
+use Rattle.std.specs.Prelude.{◌≡◌, ◌⊎◌, ℕ, ℤ, ◌^◌, List, length, take, unsigned_abs, codes, Option, Some, None, IfSome, Result, Ok, Err}
 use Rattle.std.specs.Process.{exit_code}
 use Rattle.std.specs.Io.KnownBytes.{Consumes, IsAtEnd}
 use Rattle.std.specs.declared.process.status.ExitStatus.{ExitStatus}
@@ -24,13 +24,13 @@ reply_of (Ok status) None = EndRefused
 reply_of (Err e) text = EndRefused
 
 -- The text that is kept of a pipe with these bytes: the first 65,536 of those that were read. Either the pipe was read to
--- its end, or at least 1,024 bytes were read. (own)
+-- its end, or 4 MiB of it were read. (own)
 pub record IsKept (known : Option (List ℕ)) (text : List ℕ) : Type 0 where
   pub bytes : List ℕ
   pub rest : Option (List ℕ)
   pub consumed : Consumes known rest bytes
   pub kept : text ≡ take 65536 bytes
-  pub all : IsAtEnd rest ⊎ (1024 ≤ length bytes)
+  pub all : IsAtEnd rest ⊎ (length bytes ≡ 2 ^ 22)
 
 -- An answer has the status that a wait returned, and a text with this property; a refused end claims nothing. (own)
 abbrev pub Answers : Reply → Option ExitStatus → (List ℕ → Type 0) → Type 0

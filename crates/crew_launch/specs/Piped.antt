@@ -2,8 +2,8 @@
 use Rattle.std.specs.Prelude.{◌≡◌, ◌⊎◌, ℕ, Bool, true, false, List, Option, Some, None}
 use Rattle.std.specs.declared.process.status.ExitStatus.{ExitStatus}
 
--- A pipe: whether it is open, what is left in it, if that is known, how often it was read, whether a read gave its end, and
--- whether a read failed. (own)
+-- A pipe: whether it is open, what is left in it, if that is known, how many pieces of it were read, whether its end was
+-- read, and whether a read failed. (own)
 pub record Piped : Type 0 where
   pub is_open : Bool
   pub left : Option (List ℕ)
@@ -20,7 +20,7 @@ left_of (Some known) = known
 abbrev pub IsUnread : Piped → Type 0
 IsUnread pipe = (pipe.reads ≡ 0) × (pipe.has_failed ≡ false)
 
--- The pipe was read to its end, or 1,024 times, and no read failed. (own)
+-- The pipe was read to its end, or 1,024 pieces of it were, and no read failed. (own)
 abbrev pub IsReadThrough : Piped → Type 0
 IsReadThrough pipe = ((pipe.is_read ≡ true) ⊎ (pipe.reads ≡ 1024)) × (pipe.has_failed ≡ false)
 

@@ -8,27 +8,28 @@ use crate::pipe::Pipe;
 use std::alloc::{AllocError, Global};
 use std::io::{self, Read};
 
+/// The largest number of pieces that are read. So at most 4 MiB are.
 const MOST_READS: u32 = 1024;
 
 const MOST_KEPT: usize = 65_536;
 
-const READ_SIZE: usize = 4096;
+const PIECE_SIZE: usize = 4096;
 
-/// Reads what a child wrote, and returns at most the first 65,536 bytes. Fails if a read fails or
-/// memory runs out.
+/// Reads what a child wrote, up to its end or for 4 MiB, and returns at most the first 65,536 bytes.
+/// Fails if a read fails or memory runs out.
 pub(crate) fn diagnostics<R: Read + Drop>(alloc: Global, pipe: &mut Pipe<R>) -> io::Result<Vec<u8>>
     requires { IsUnread pipe.old }
     ensures kept { IfOk result (λ text. IsKept pipe.old.left text.items) }
     ensures through { IfOk result (λ _. IsReadThrough pipe.new) }
 {
     let mut text = Vec::new(alloc);
-    let mut piece = [0u8; READ_SIZE];
+    let mut piece = [0u8; PIECE_SIZE];
     for _ in 0..MOST_READS {
         let n = pipe.read(&mut piece)?;
-        if n == 0 {
+        keep(&mut text, &piece[..n])?;
+        if n < PIECE_SIZE {
             return Ok(text);
         }
-        keep(&mut text, &piece[..n])?;
     }
     Ok(text)
 }

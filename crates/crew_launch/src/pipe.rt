@@ -1,4 +1,4 @@
-//! The pipe of a child's diagnostics, which counts its reads.
+//! The pipe of a child's diagnostics, which is read piece by piece, and counts the pieces.
 
 ghost use Rattle.std.specs.Prelude.{◌≡◌, ◌+◌, ◌<◌, ◌≤◌, length, take, true, false, option_map, IfNone, IfOk, IsErr};
 ghost use Rattle.std.specs.Io.KnownBytes.{Consumes, IsAtEnd};
@@ -10,7 +10,7 @@ use std::marker::Model;
 /// How often a read is tried that a signal interrupts.
 const MOST_TRIES: u32 = 1024;
 
-/// A pipe, unless there is none or it is closed. It counts its reads, and keeps whether one gave
+/// A pipe, unless there is none or it is closed. It counts its pieces, and keeps whether one came to
 /// its end and whether one failed.
 #[derive(Drop)]
 pub struct Pipe<R: Read + Drop> {
@@ -55,23 +55,29 @@ impl<R: Read + Drop> Pipe<R> {
         self.reader.is_some()
     }
 
-    /// Reads once. A read that a signal interrupts is tried up to 1,024 times, and counts once.
+    /// Reads a piece: as many bytes as it has room for, or those up to the end of the pipe. Returns
+    /// their number.
+    ///
+    /// A pipe gives what is there, so a piece may take as many calls of the system as it has bytes.
+    /// It counts once.
     pub(crate) fn read(&mut self, piece: &mut [u8]) -> io::Result<usize>
         requires { self.old.reads < 1024 }
         ensures within { IfOk result (λ n. n ≤ length piece.new) }
+        ensures size { length piece.new ≡ length piece.old }
         ensures bytes { IfOk result (λ n. Consumes self.old.left self.new.left (take n piece.new)) }
-        ensures end { IfOk result (λ n. n ≡ 0 → 0 < length piece.old → IsAtEnd self.new.left) }
+        ensures end { IfOk result (λ n. n < length piece.new → IsAtEnd self.new.left) }
         ensures counted { self.new.reads ≡ self.old.reads + 1 }
-        ensures is_read { IfOk result (λ n. n ≡ 0 → self.new.is_read ≡ true) }
+        ensures is_read { IfOk result (λ n. n < length piece.new → self.new.is_read ≡ true) }
         ensures sound { IfOk result (λ _. self.new.has_failed ≡ self.old.has_failed) }
     {
         self.reads += 1;
         match read_from(&mut self.reader, piece) {
-            Ok(0) => {
-                self.is_read = true;
-                Ok(0)
+            Ok(n) => {
+                if n < piece.len() {
+                    self.is_read = true;
+                }
+                Ok(n)
             }
-            Ok(n) => Ok(n),
             Err(e) => {
                 self.has_failed = true;
                 Err(e)
@@ -90,30 +96,53 @@ impl<R: Read + Drop> Pipe<R> {
     }
 }
 
-/// Reads once, if there is a reader.
+/// Fills the piece, if there is a reader.
 fn read_from<R: Read>(reader: &mut Option<R>, piece: &mut [u8]) -> io::Result<usize>
     ensures within { IfOk result (λ n. n ≤ length piece.new) }
+    ensures size { length piece.new ≡ length piece.old }
     ensures bytes { IfOk result (λ n.
         Consumes (left_of (option_map R.remaining reader.old))
         (left_of (option_map R.remaining reader.new)) (take n piece.new)) }
     ensures end { IfOk result (λ n.
-        n ≡ 0 → 0 < length piece.old → IsAtEnd (left_of (option_map R.remaining reader.new))) }
+        n < length piece.new → IsAtEnd (left_of (option_map R.remaining reader.new))) }
 {
     match reader {
-        Some(reader) => read_some(reader, piece),
+        Some(reader) => fill(reader, piece),
         None => Err(io::Error::from(ErrorKind::BrokenPipe)),
     }
 }
 
-/// Reads once, and tries again if a signal interrupts the read. Fails if the last try does.
-fn read_some<R: Read>(pipe: &mut R, piece: &mut [u8]) -> io::Result<usize>
+/// Reads until the piece is full or a read gives the end. Each read gives a byte or the end.
+/// Returns how many bytes the piece has.
+fn fill<R: Read>(reader: &mut R, piece: &mut [u8]) -> io::Result<usize>
     ensures within { IfOk result (λ n. n ≤ length piece.new) }
+    ensures size { length piece.new ≡ length piece.old }
     ensures bytes { IfOk result (λ n.
-        Consumes (R.remaining pipe.old) (R.remaining pipe.new) (take n piece.new)) }
-    ensures end { IfOk result (λ n. n ≡ 0 → 0 < length piece.old → IsAtEnd (R.remaining pipe.new)) }
+        Consumes (R.remaining reader.old) (R.remaining reader.new) (take n piece.new)) }
+    ensures end { IfOk result (λ n. n < length piece.new → IsAtEnd (R.remaining reader.new)) }
+{
+    let mut filled = 0;
+    'fill: while filled < piece.len() {
+        let n = read_some(reader, &mut piece[filled..])?;
+        if n == 0 {
+            return Ok(filled);
+        }
+        filled += n;
+    }
+    Ok(filled)
+}
+
+/// Reads once, and tries again if a signal interrupts the read. Fails if the last try does.
+fn read_some<R: Read>(reader: &mut R, piece: &mut [u8]) -> io::Result<usize>
+    ensures within { IfOk result (λ n. n ≤ length piece.new) }
+    ensures size { length piece.new ≡ length piece.old }
+    ensures bytes { IfOk result (λ n.
+        Consumes (R.remaining reader.old) (R.remaining reader.new) (take n piece.new)) }
+    ensures end { IfOk result (λ n.
+        n ≡ 0 → 0 < length piece.new → IsAtEnd (R.remaining reader.new)) }
 {
     for _ in 0..MOST_TRIES {
-        match pipe.read(piece) {
+        match reader.read(piece) {
             Ok(n) => return Ok(n),
             Err(e) if e.kind() == ErrorKind::Interrupted => {}
             Err(e) => return Err(e),

@@ -92,6 +92,11 @@ const CHILDREN: &[u8] = b"\
 // a signal, and a child that lives on after the end of its text
 1||sh,-c,echo a >&2; kill -9 $$ =>  0:256:a^J
 1||sh,-c,echo a >&2; exec 2>&-; sleep 0.3; exit 3 =>  0:3:a^J
+// It writes line by line, more lines than a child may have pieces, and waits after each of the first.
+1||sh,-c,i=0; while [ $i -lt 3000 ]; do echo note >&2; i=$((i+1)); done; exit 3 =>  0:3:15000 bytes note^Jnote^Jnote^Jn .. ^Jnote^Jnote^Jnote^J
+1||sh,-c,i=0; while [ $i -lt 1100 ]; do echo note >&2; /bin/true; i=$((i+1)); done; exit 3 =>  0:3:5500 bytes note^Jnote^Jnote^Jn .. ^Jnote^Jnote^Jnote^J
+// It writes 4 MiB less a byte by pieces of another size, and then ends by itself.
+1||sh,-c,yes abcdefg | head -c 4194303 | dd bs=100 >&2 2>/dev/null; exit 4 =>  0:4:65536 bytes abcdefg^Jabcdefg^J .. abcdefg^Jabcdefg^J
 // It writes 8 MiB, of which the first 65,536 bytes are kept.
 1||sh,-c,yes abcdefg | head -c 8388608 >&2; exit 4 =>  0:4:65536 bytes abcdefg^Jabcdefg^J .. abcdefg^Jabcdefg^J
 // It writes 8 MiB by itself, or never stops writing: it ends once nothing is read any more.
