@@ -21,16 +21,18 @@ use std::rt::Files;
 
 /// A crew that starts real children, in the directory and with the environment of the program.
 ///
-/// `start` writes the conftest to a new file, in the place of a regular file or a link of its name
-/// if there is one, and starts the child with empty standard input; its standard output is dropped.
-/// The start is refused if the job has no word, if a word isn't UTF-8, if the conftest can't be
-/// written or the child can't be started, or if memory for its record runs out.
+/// `start` removes what a compiler made of an earlier conftest of this name, as `conftest1.o` and
+/// `conftest1`, if they are regular files or links. It writes the conftest to a new file, in the
+/// place of a regular file or a link of its name if there is one, and starts the child with empty
+/// standard input; its standard output is dropped. The start is refused if the job has no word, if a
+/// word isn't UTF-8, if what a compiler makes can't be removed, if the conftest can't be written or
+/// the child can't be started, or if memory for its record runs out.
 ///
 /// `next` waits for the oldest child. It reads what the child writes to standard error, up to its
-/// end or for 4 MiB, in however many pieces it arrives, and keeps the first 65,536 bytes. A read that
-/// a signal interrupts is tried up to 1,024 times. It then closes the pipe and waits for the child.
-/// The end is refused if a read or the wait fails, or if memory for its record runs out. The child
-/// is waited for even if a read fails.
+/// end or for 4 MiB, in however many pieces it arrives, and keeps the first 65,536 bytes. A read
+/// that a signal interrupts is tried up to 1,024 times. It then closes the pipe and waits for the
+/// child. The end is refused if a read or the wait fails, or if memory for its record runs out. The
+/// child is waited for even if a read fails.
 #[derive(Drop)]
 pub struct ProcessCrew<R: Files + Processes + Drop> {
     children: Children<DiskLauncher<System<R>>>,
@@ -56,7 +58,8 @@ impl<R: Files + Processes + Drop> ProcessCrew<R> {
         ensures causes { IfOk result (λ c. c.table.causes ≡ []) }
         ensures stale { IfOk result (λ c. c.stale ≡ None) }
     {
-        let children = Children::new(DiskLauncher::new(System::new(rt), None), alloc)?;
+        let launcher = DiskLauncher::new(alloc, System::new(rt), None);
+        let children = Children::new(launcher, alloc)?;
         Ok(ProcessCrew { children })
     }
 
@@ -74,7 +77,8 @@ impl<R: Files + Processes + Drop> ProcessCrew<R> {
         ensures causes { IfOk result (λ c. c.table.causes ≡ []) }
         ensures stale { IfOk result (λ c. c.stale ≡ Some stale.now) }
     {
-        let children = Children::new(DiskLauncher::new(System::new(rt), Some(stale)), alloc)?;
+        let launcher = DiskLauncher::new(alloc, System::new(rt), Some(stale));
+        let children = Children::new(launcher, alloc)?;
         Ok(ProcessCrew { children })
     }
 }

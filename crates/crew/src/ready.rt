@@ -50,7 +50,8 @@ impl<R: Files + Processes + Drop> ReadyCrew<R> {
         ensures causes { IfOk result (λ c. c.table.causes ≡ []) }
         ensures stale { IfOk result (λ c. c.stale ≡ None) }
     {
-        let children = Children::new(DiskLauncher::new(System::new(rt), None), alloc)?;
+        let launcher = DiskLauncher::new(alloc, System::new(rt), None);
+        let children = Children::new(launcher, alloc)?;
         Ok(ReadyCrew { children })
     }
 
@@ -66,7 +67,8 @@ impl<R: Files + Processes + Drop> ReadyCrew<R> {
         ensures causes { IfOk result (λ c. c.table.causes ≡ []) }
         ensures stale { IfOk result (λ c. c.stale ≡ Some stale.now) }
     {
-        let children = Children::new(DiskLauncher::new(System::new(rt), Some(stale)), alloc)?;
+        let launcher = DiskLauncher::new(alloc, System::new(rt), Some(stale));
+        let children = Children::new(launcher, alloc)?;
         Ok(ReadyCrew { children })
     }
 }

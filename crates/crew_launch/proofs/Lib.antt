@@ -1,4 +1,5 @@
 pub mod ChildLemmas
 mod Explaining
+mod Freeing
 mod Naming
 mod Spoilt

@@ -15,8 +15,8 @@ const MOST_KEPT: usize = 65_536;
 
 const PIECE_SIZE: usize = 4096;
 
-/// Reads what a child wrote, up to its end or for 4 MiB, and returns at most the first 65,536 bytes.
-/// Fails if a read fails or memory runs out.
+/// Reads what a child wrote, up to its end or for 4 MiB, and returns at most the first 65,536
+/// bytes. Fails if a read fails or memory runs out.
 pub(crate) fn diagnostics<R: Read + Drop>(alloc: Global, pipe: &mut Pipe<R>) -> io::Result<Vec<u8>>
     requires { IsUnread pipe.old }
     ensures kept { IfOk result (λ text. IsKept pipe.old.left text.items) }

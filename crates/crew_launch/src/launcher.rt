@@ -3,11 +3,13 @@
 ghost use Rattle.std.specs.Prelude.{◌≡◌, ℕ, [], ◌∷◌, None, Option, List, OnOk, OnErr, option_map};
 ghost use Rattle.std.specs.Process.{command_args, command_program};
 ghost use Rattle.file_disk.specs.Clearing.{DoesAll};
-ghost use Rattle.crew_launch.specs.Fresh.{DoesFront, after, clearing_stale, replacing, spoiling};
+ghost use Rattle.file_disk.specs.Known.{Does};
+ghost use Rattle.crew_launch.specs.Fresh.{DoesFront, PreparesAfter, after, breaking, clearing_stale};
 ghost use Rattle.crew_launch.specs.Launch.{Adds, SystemCall, Failed, Spawned, Wrote};
 
-use crate::fresh::write_fresh;
+use crate::fresh::write_conftest;
 use file_disk::{Disk, clear};
+use std::alloc::Global;
 use std::io;
 use std::marker::Model;
 use std::process::{Child, Command, OpenProcess, Processes, Stdio};
@@ -50,6 +52,7 @@ pub trait Launcher {
 /// The launcher over a disk that can start programs.
 #[derive(Drop)]
 pub struct DiskLauncher<D: Disk + Processes> {
+    alloc: Global,
     system: D,
     stale: Option<&'static str>,
 }
@@ -66,11 +69,15 @@ impl<D: Disk + Processes> Model for DiskLauncher<D> {
 impl<D: Disk + Processes> DiskLauncher<D> {
     /// Returns a launcher. Before it first writes a file or starts a command, it removes the file
     /// that is stale, if there is one.
-    pub fn new(system: D, stale: Option<&'static str>) -> DiskLauncher<D>
+    pub fn new(alloc: Global, system: D, stale: Option<&'static str>) -> DiskLauncher<D>
         ensures { result
             ≡ record { disk = system; stale = option_map (λ name. name.now) stale.entry } }
     {
-        DiskLauncher { system, stale }
+        DiskLauncher {
+            alloc,
+            system,
+            stale,
+        }
     }
 
     /// Removes the file that is stale, once.
@@ -94,16 +101,17 @@ impl<D: Disk + Processes> Launcher for DiskLauncher<D> {
 
     ghost stale = { λ h. h.stale };
 
-    // The file is new, as `write_fresh` says.
+    // The file is new, and what a compiler makes of it isn't there, as `write_conftest` says.
+    #[tactic(auto, using(crate::proofs::Freeing::prepared_after, crate::proofs::Freeing::refused_then, crate::proofs::Freeing::refused_clear))]
     fn write(&mut self, name: &str, text: &[u8]) -> io::Result<()>
-        ensures written { OnOk result (DoesAll (D.known self.old.disk) (D.known self.new.disk)
-            (after (clearing_stale self.old.stale) (replacing name.now text.now))) }
+        ensures written { OnOk result (Does (D.known self.old.disk) (D.known self.new.disk)
+            (PreparesAfter self.old.stale name.now text.now)) }
         ensures spoilt { OnErr result (DoesFront (D.known self.old.disk) (D.known self.new.disk)
-            (after (clearing_stale self.old.stale) (spoiling name.now))) }
+            (after (clearing_stale self.old.stale) (breaking name.now))) }
         ensures once { self.new.stale ≡ None }
     {
         match self.clear() {
-            Ok(()) => write_fresh(&mut self.system, name, text),
+            Ok(()) => write_conftest(self.alloc, &mut self.system, name, text),
             Err(e) => Err(e),
         }
     }

@@ -1,7 +1,7 @@
 //! Starts and ends a real child.
 //!
 //! ```text
-//! let mut launcher = DiskLauncher::new(System::new(rt), None);
+//! let mut launcher = DiskLauncher::new(alloc, System::new(rt), None);
 //! let mut child = start_child(&mut launcher, alloc, &job)?; // writes the conftest, and starts the command
 //! let (reply, cause) = end_child(alloc, &mut child);        // reads what it writes to standard error, and waits for it
 //! ```
@@ -17,8 +17,9 @@
 //! Read `specs/Launch.antt`, which defines the requests for a job, `specs/Fresh.antt`, which
 //! defines what is done to files for them, and `specs/Ending.antt`, which defines the reply at the
 //! end of a child. `specs/Piped.antt` defines what is counted of its reads. Then read `launcher`,
-//! `fresh`, which writes new files, `system`, `pipe`, `started`, which is a child, `starting`,
-//! `ending`, and `diagnostics`, which reads what a child writes.
+//! `fresh`, which writes new files, `products`, which removes what a compiler made, `system`,
+//! `pipe`, `started`, which is a child, `starting`, `ending`, and `diagnostics`, which reads what a
+//! child writes.
 #![tactic(auto)]
 
 mod diagnostics;
@@ -26,6 +27,7 @@ mod ending;
 mod fresh;
 mod launcher;
 mod pipe;
+mod products;
 mod started;
 mod starting;
 mod system;

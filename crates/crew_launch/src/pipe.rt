@@ -10,8 +10,8 @@ use std::marker::Model;
 /// How often a read is tried that a signal interrupts.
 const MOST_TRIES: u32 = 1024;
 
-/// A pipe, unless there is none or it is closed. It counts its pieces, and keeps whether one came to
-/// its end and whether one failed.
+/// A pipe, unless there is none or it is closed. It counts its pieces, and keeps whether its end was
+/// read and whether a read failed.
 #[derive(Drop)]
 pub struct Pipe<R: Read + Drop> {
     reader: Option<R>,

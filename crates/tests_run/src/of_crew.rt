@@ -123,7 +123,21 @@ const CHILDREN: &[u8] = b"\
 1|/dev/full int x;|sh,-c,: > made =>  0:S
 1|c\xff.c int x;|sh,-c,: > made =>  0:S
 1|c\0.c int x;|sh,-c,: > made =>  0:S
+// Neither does one with a directory or a pipe where the compiler is to put what it makes.
+1||sh,-c,mkdir d.o e; mkfifo f.o g =>  0:0:
+1|d.c int x;|sh,-c,: > made =>  0:S
+1|e.c int x;|sh,-c,: > made =>  0:S
+1|f.c int x;|sh,-c,: > made =>  0:S
+1|g.c int x;|sh,-c,: > made =>  0:S
 1||sh,-c,[ -e made ] =>  0:1:
+// A regular file or a link there is removed before the child is started, and not what a link leads to.
+1||sh,-c,: > h.o; : > h; echo kept > i; ln -s i j.o; ln -s nowhere j =>  0:0:
+1|h.c int x;|sh,-c,ls h* >&2 =>  0:0:h.c^J
+1|j.c int x;|sh,-c,ls j* i >&2; cat i >&2 =>  0:0:i^Jj.c^Jkept^J
+// Another name has none, and a child without a conftest removes nothing.
+1||sh,-c,: > k.o; : > k; : > l.o; : > l =>  0:0:
+1|k int x;|sh,-c,ls k* >&2 =>  0:0:k^Jk.o^J
+1||sh,-c,ls l* >&2,l.c =>  0:0:l^Jl.o^J
 // The last child ends first, and is taken last.
 3||sh,-c,[ $1 = 2 ] && echo $$ > last && exit 2; i=0; while [ $i -lt 400 ]; do \
 [ -s last ] && grep -q State:.Z /proc/$(cat last)/status && exit $1; i=$((i+1)); sleep 0.05; done; exit 9,slot =>  0:0: 1:1: 2:2:

@@ -64,6 +64,10 @@ const CAUSES: &[u8] = b"\
 1|/dev/full int x;|true => /dev/full: File exists
 1|c\xff.c int x;|true => c\\xff.c: not UTF-8
 1|c.c int x;|./c.c => ./c.c: Permission denied
+// conftests of which a compiler can't make anything
+1|/proc.c int x;|true => /proc.c: its program is a directory
+1|/dev/null.c int x;|true => /dev/null.c: its program is a pipe, a socket or a device
+1|/proc/version.c int x;|true => /proc/version.c: its program can't be removed
 // no child has this number
 0||/nowhere/cc => not known
 2||/nowhere/cc => not known
