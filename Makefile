@@ -42,7 +42,7 @@ demo: all
 	@sh examples/port/run.sh out/acrun
 	@sh examples/completions/run.sh out/acrun
 	@sh examples/wrapper/run.sh
-	@sh examples/hostile/owners.sh out/acrun
+	@sh examples/hostile/run.sh out/acrun
 
 # The status 77 says that packages were skipped, and that none failed.
 ports: all

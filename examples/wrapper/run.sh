@@ -17,6 +17,13 @@ if [ -f ../help ] && [ "$3" = --help ]; then
 fi
 printf '[%s]' "$@"
 if [ -f shows ]; then printf ' %s' "${ACRUN_PROGRESS-unset}"; fi
+if [ -f makes ]; then
+    printf ' then '
+    for name in conftest*; do [ ! -e "$name" ] || printf '%s ' "$name"; done
+    : > conftest2.c
+    : > conftest2
+fi
+if [ -f ends ]; then . ./ends; fi
 if [ -n "${build+y}" ]; then printf ' build=%s srcdir=%s name=%s' "$build" "$srcdir" "$name"; fi
 END
 chmod +x "$folder/acrun" "$folder/source/configure"
@@ -34,6 +41,40 @@ row() {
     if [ "$said" != "$expected" ]; then
         wrong=1
         printf '%s: configure %s\n  is       %s\n  expected %s\n' "$shell" "$*" "$said" "$expected"
+    fi
+}
+
+# left EXPECTED: the conftests that are there, and then all that begin so are removed.
+left() {
+    expected=$1 said=''
+    for name in conftest*; do if [ -e "$name" ] || [ -h "$name" ]; then said="$said$name "; fi; done
+    rows=$((rows + 1))
+    if [ "$said" != "$expected" ]; then
+        wrong=1
+        printf '%s: configure leaves\n  %s\n  expected %s\n' "$shell" "$said" "$expected"
+    fi
+    rm -rf conftest*
+}
+
+# Makes conftests, and other files whose names begin so.
+conftests() {
+    touch conftest conftest.c conftest.o conftest1 conftest1.c conftest1.o conftest12 conftest256.c conftest256.o
+    touch conftest.py conftest.c.in conftest1.c.c conftest1.txt conftest1x conftestx.c conftest-1.c 'conftest 1.c' conftest1. conftest.h conftest0.c conftest01
+    mkdir conftest7 conftest8.o
+    ln -s conftest.py conftest9.o
+    ln -s nowhere conftest10
+}
+
+# status EXPECTED SHELL-WORD..: the exit status of the script.
+status() {
+    expected=$1
+    shift
+    "$@" > /dev/null 2>&1
+    said=$?
+    rows=$((rows + 1))
+    if [ "$said" != "$expected" ]; then
+        wrong=1
+        printf '%s: the status of %s is %s, expected %s\n' "$shell" "$*" "$said" "$expected"
     fi
 }
 
@@ -105,6 +146,43 @@ rows_of_one_shell() {
     DEB_BUILD_OPTIONS='terse,parallel=2' row '[-j2][configure] unset'
     DEB_BUILD_OPTIONS='terser' row '[-j1][configure] lines'
     rm shows
+    # Conftests are removed before the run and after it, and nothing else is.
+    touch makes
+    others='conftest 1.c conftest-1.c conftest.c.in conftest.h conftest.py conftest0.c conftest01 conftest1. conftest1.c.c conftest1.txt conftest1x conftest7 conftest8.o conftestx.c '
+    conftests
+    row "[-j1][configure][-q] then $others" -q
+    left "$others"
+    row '[-j1][configure] then '
+    left ''
+    conftests
+    ACRUN_KEEP='' row "[-j1][configure] then $others"
+    left "$others"
+    touch conftest1.c conftest
+    ACRUN_KEEP=1 row '[-j1][configure] then conftest conftest1.c '
+    left 'conftest conftest1.c conftest2 conftest2.c '
+    touch conftest1.c conftest
+    row '[-j1][configure][--help] then conftest conftest1.c ' --help
+    left 'conftest conftest1.c conftest2 conftest2.c '
+    # A start that is refused removes nothing.
+    touch conftest1.c
+    row 'configure: error: acrun does not rename programs: --program-prefix=g' --program-prefix=g
+    left 'conftest1.c '
+    # The status is handed on, and a signal.
+    for number in 0 1 2 77 200 255; do
+        echo "exit $number" > ends
+        status "$number" "$shell" ./configure
+        left ''
+    done
+    for name in HUP=129 INT=130 TERM=143; do
+        echo "kill -s ${name%=*} \$PPID" > ends
+        status "${name#*=}" "$shell" ./configure
+        left ''
+    done
+    # shellcheck disable=SC2016
+    echo 'kill -s KILL $$' > ends
+    status 137 "$shell" ./configure
+    left ''
+    rm makes ends
     # In another directory
     cd build || exit 2
     said=$($shell ../configure -q)
