@@ -59,7 +59,7 @@ left() {
 # Makes conftests, and other files whose names begin so.
 conftests() {
     touch conftest conftest.c conftest.o conftest1 conftest1.c conftest1.o conftest12 conftest256.c conftest256.o
-    touch conftest.py conftest.c.in conftest1.c.c conftest1.txt conftest1x conftestx.c conftest-1.c 'conftest 1.c' conftest1. conftest.h
+    touch conftest.py conftest.c.in conftest1.c.c conftest1.txt conftest1x conftestx.c conftest-1.c 'conftest 1.c' conftest1. conftest.h conftest0.c conftest01
     mkdir conftest7 conftest8.o
     ln -s conftest.py conftest9.o
     ln -s nowhere conftest10
@@ -148,7 +148,7 @@ rows_of_one_shell() {
     rm shows
     # Conftests are removed before the run and after it, and nothing else is.
     touch makes
-    others='conftest 1.c conftest-1.c conftest.c.in conftest.h conftest.py conftest1. conftest1.c.c conftest1.txt conftest1x conftest7 conftest8.o conftestx.c '
+    others='conftest 1.c conftest-1.c conftest.c.in conftest.h conftest.py conftest0.c conftest01 conftest1. conftest1.c.c conftest1.txt conftest1x conftest7 conftest8.o conftestx.c '
     conftests
     row "[-j1][configure][-q] then $others" -q
     left "$others"

@@ -178,7 +178,7 @@ const ENDS: &[u8] = b"\
 1024 1|1792 =>  0:7:1024 bytes aaaaaaaaaaaaaaaa .. aaaaaaaaaaaaaaaa, waits 1
 1025 1|1792 =>  0:7:1025 bytes aaaaaaaaaaaaaaaa .. aaaaaaaaaaaaaaaa, waits 1
 5000 1|1792 =>  0:7:5000 bytes aaaaaaaaaaaaaaaa .. aaaaaaaaaaaaaaaa, waits 1
-9000 7|1792 =>  0:7:63000 bytes aaaaaaaaaaaaaaaa .. aaaaaaaaaaaaaaaa, waits 1
+8000 8|1792 =>  0:7:64000 bytes aaaaaaaaaaaaaaaa .. aaaaaaaaaaaaaaaa, waits 1
 16 4096|1792 =>  0:7:65536 bytes aaaaaaaaaaaaaaaa .. aaaaaaaaaaaaaaaa, waits 1
 17 4096|1792 =>  0:7:65536 bytes aaaaaaaaaaaaaaaa .. aaaaaaaaaaaaaaaa, waits 1
 // 4 MiB are read, in pieces of whatever size, and nothing after them.
