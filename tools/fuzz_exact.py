@@ -1,9 +1,20 @@
 #!/usr/bin/env python3
 """Holds what `acrun port` calls exact against Autoconf 2.71, with sources that are made by number.
 
-    tools/fuzz_exact.py PROGRAM [--from N] [--count N] [--seconds N] [--jobs N] [--alone]
-    tools/fuzz_exact.py PROGRAM --replay N       shows source N, what port makes of it, and what differs
-    tools/fuzz_exact.py PROGRAM --minimize N     the same of the smallest part of it that still differs
+    tools/fuzz_exact.py PROGRAM [--from N] [--count N] [--seconds N] [--runs N] [--jobs N] [--only MACRO]..
+    tools/fuzz_exact.py PROGRAM --stored [NAME..]    the stored sources whose names begin so
+    tools/fuzz_exact.py PROGRAM --replay N           shows source N, what port makes of it, and what differs
+    tools/fuzz_exact.py PROGRAM --minimize N         the same of the smallest part of it that differs
+
+PROGRAM is a built acrun. A source has calls of the macros that crates/lint_macros/macros.txt has an exact idiom of, with --only of these
+macros alone, and the forms of shell that `port` rewrites. With each go settings for --runs runs. Autoconf makes a script of the source, and
+one of what `port` makes of it without --idioms. Both are run with the same settings in a directory of the same name, and have to leave
+and to print the same. If acrun reads what port wrote, it is run too, and its outputs have to be those of that script. And no line that port
+wrote may be an error for `acrun lint` that the source does not have.
+tools/seeded_compiler.c answers the programs, by what they ask.
+A difference is allowed if a line `~ ` of macros.txt states it for a macro of the source, or one of the sentences below of docs/language.md.
+Prints the differences of each source that has some, and last a count. The exit status is 1 if one differs. It needs Autoconf 2.71, m4 and a
+C compiler.
 """
 import argparse
 import concurrent.futures
@@ -299,6 +310,10 @@ OF_LANGUAGE = (
 
 # What docs/running.md states of `-a` and `-o`, so that no source has such a test of an unquoted variable of no or several words.
 OF_JOINTS = ("running", "If an unquoted variable is empty or has a blank, the whole `test` is an error for a shell, and after `port` only its part of it.")
+
+
+# What docs/language.md states of `dnl`, so that it follows calls alone, whose text ends in a newline.
+OF_DNL = ("language", "A line that `dnl` drops counts as a newline. Autoconf joins what is before it with the next line")
 
 
 @functools.lru_cache
@@ -637,14 +652,15 @@ class Maker:
         return self.simple(depth)
 
     def body(self, depth, count=None):
-        return "\n".join(self.laid_out(self.statement(depth)) for _ in range(count or self.at.choice((1, 1, 2))))
+        return "\n".join(self.laid_out(self.statement(depth), depth) for _ in range(count or self.at.choice((1, 1, 2))))
 
-    def laid_out(self, text):
+    def laid_out(self, text, depth):
         """Returns a statement with what may be around it on its lines."""
         kind = self.at.randrange(24)
         if kind == 0 and "\n" not in text:
             return f"{text} # a note"
-        if kind == 1 and re.search(r"\w\)?$", text):
+        if kind == 1 and depth == 0 and re.search(r"(?m)^A[CS]_\w+(\(.*\))?\Z", text):
+            said(*OF_DNL)
             return f"{text} dnl a note"
         if kind == 2:
             return f"# a note: it's (here\n{text}"
@@ -667,7 +683,7 @@ class Maker:
             # What checks look for on their way is looked for here, so that it is no news below.
             blocks += ["AC_CHECK_HEADERS([first.h])", "AC_CHECK_DECLS([EOF])", "AC_PREPROC_IFELSE([AC_LANG_SOURCE([[int first;]])], [v1=1], [v1=2])"]
         for _ in range(self.at.randint(2, 6)):
-            text = self.laid_out(self.statement(0))
+            text = self.laid_out(self.statement(0), 0)
             blocks.append(text)
             if self.has(0.15):
                 blocks.append(text)
@@ -871,7 +887,7 @@ def main():
     options.add_argument("--from", dest="first", type=int, default=0)
     options.add_argument("--count", type=int, default=200)
     options.add_argument("--seconds", type=int, default=0)
-    options.add_argument("--jobs", type=int, default=2)
+    options.add_argument("--jobs", type=int, default=os.cpu_count())
     options.add_argument("--runs", type=int, default=2)
     options.add_argument("--only", action="append", default=[])
     options.add_argument("--stored", nargs="*", metavar="NAME")

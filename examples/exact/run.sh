@@ -14,6 +14,6 @@ esac
 said=$(mktemp) || exit 2
 trap 'rm -f "$said"' EXIT
 for words in '--stored' '--count 200 --runs 1'; do
-    python3 "$here/../../tools/fuzz_exact.py" "$1" $words --jobs 4 > "$said" || { cat "$said"; exit 1; }
+    python3 "$here/../../tools/fuzz_exact.py" "$1" $words > "$said" || { cat "$said"; exit 1; }
     echo "exact: $(tail -n 1 "$said")"
 done
