@@ -723,7 +723,7 @@ def cache_names(name):
     found = []
     for call in ("", f"{name}\n"):
         body = script(f"AC_INIT([fuzz], [1.0])\nAC_PROG_CC\n{call}AC_OUTPUT\n") if least_of(name) == 0 else None
-        found.append({*re.findall(r"\bac_cv_\w+", body or "")})
+        found.append({*re.findall(r"\bac_cv_\w*[a-zA-Z0-9]\b", body or "")})
     return sorted(found[1] - found[0])
 
 
