@@ -383,9 +383,9 @@ def held(program, room, text, ported, is_read, settings):
     return found if found == "refused" or is_read else written_errors(program, text, ported) + found
 
 
-def port(program, text):
+def port(program, text, *switches):
     """Returns what port makes of a source, and whether acrun reads that."""
-    made = subprocess.run([program, "port", "-"], input=text, capture_output=True, text=True, errors="replace")
+    made = subprocess.run([program, "port", *switches, "-"], input=text, capture_output=True, text=True, errors="replace")
     return made.stdout, made.returncode == 0
 
 
@@ -787,22 +787,30 @@ def unescaped(text):
     return subprocess.run(["printf", "%b", text], stdout=subprocess.PIPE).stdout.decode("latin-1")
 
 
+# The files of stored sources, each with how the names of its rows begin, and with the switches of port.
+FILES = (
+    ("exact/sources.txt", ("",), ()),
+    ("port/sources.txt", ("shell-", "defines-", "arguments-", "lists-"), ()),
+    ("port/idioms.txt", ("idioms-echo",), ("--idioms",)),
+)
+
+
 def stored(names):
-    """Yields the name of each stored source, its text and its settings: those of examples/exact, and those of examples/port about shell text,
-    which are run with variables of one letter that are not set, `yes`, `b` and `1`."""
-    for file, fronts in (("exact", ("",)), ("port", ("shell-", "defines-", "arguments-", "lists-"))):
-        for row in (HERE.parent / f"examples/{file}/sources.txt").read_text().splitlines():
+    """Yields the name of each stored source, its text, its settings and the switches of port: those of examples/exact, and those of examples/port
+    about shell text, which are run with variables of one letter that are not set, `yes`, `b` and `1`."""
+    for file, fronts, switches in FILES:
+        for row in (HERE.parent / "examples" / file).read_text().splitlines():
             name, _, text = row.partition(" ")
             chosen = "plain,letters"
-            if file == "exact":
+            if file.startswith("exact"):
                 chosen, _, text = text.partition(" ")
             if name.startswith(fronts) and (not names or name.startswith(tuple(names))):
                 settings = [SETTINGS[it] for it in chosen.split(",")]
-                yield name, unescaped(text), [one for it in settings for one in (it if isinstance(it, list) else [it])]
+                yield name, unescaped(text), [one for it in settings for one in (it if isinstance(it, list) else [it])], switches
 
 
-def judge_stored(program, room, text, settings):
-    ported, is_read = port(program, text)
+def judge_stored(program, room, text, settings, switches):
+    ported, is_read = port(program, text, *switches)
     return held(program, room, text, ported, is_read, settings), text, ported
 
 
@@ -864,8 +872,8 @@ def task(given):
 
 
 def stored_task(given):
-    program, name, text, settings = given
-    return name, *judge_stored(program, ROOM, text, settings)
+    program, name, text, settings, switches = given
+    return name, *judge_stored(program, ROOM, text, settings, switches)
 
 
 def try_stored(program, options):
