@@ -40,6 +40,7 @@ demo: all
 	@sh examples/help/run.sh out/acrun
 	@sh examples/lint/run.sh out/acrun
 	@sh examples/port/run.sh out/acrun
+	@sh examples/exact/run.sh out/acrun
 	@sh examples/completions/run.sh out/acrun
 	@sh examples/wrapper/run.sh
 	@sh examples/hostile/run.sh out/acrun

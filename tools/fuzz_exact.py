@@ -1,9 +1,20 @@
 #!/usr/bin/env python3
 """Holds what `acrun port` calls exact against Autoconf 2.71, with sources that are made by number.
 
-    tools/fuzz_exact.py PROGRAM [--from N] [--count N] [--seconds N] [--jobs N] [--alone]
-    tools/fuzz_exact.py PROGRAM --replay N       shows source N, what port makes of it, and what differs
-    tools/fuzz_exact.py PROGRAM --minimize N     the same of the smallest part of it that still differs
+    tools/fuzz_exact.py PROGRAM [--from N] [--count N] [--seconds N] [--runs N] [--jobs N] [--only MACRO]..
+    tools/fuzz_exact.py PROGRAM --stored [NAME..]    the stored sources whose names begin so
+    tools/fuzz_exact.py PROGRAM --replay N           shows source N, what port makes of it, and what differs
+    tools/fuzz_exact.py PROGRAM --minimize N         the same of the smallest part of it that differs
+
+PROGRAM is a built acrun. A source has calls of the macros that crates/lint_macros/macros.txt has an exact idiom of, with --only of these
+macros alone, and the forms of shell that `port` rewrites. With each go settings for --runs runs. Autoconf makes a script of the source, and
+one of what `port` makes of it without --idioms. Both are run with the same settings in a directory of the same name, and have to leave
+and to print the same. If acrun reads what port wrote, it is run too, and its outputs have to be those of that script. And no line that port
+wrote may be an error for `acrun lint` that the source does not have.
+tools/seeded_compiler.c answers the programs, by what they ask.
+A difference is allowed if a line `~ ` of macros.txt states it for a macro of the source, or one of the sentences below of docs/language.md.
+Prints the differences of each source that has some, and last a count. The exit status is 1 if one differs. It needs Autoconf 2.71, m4 and a
+C compiler.
 """
 import argparse
 import concurrent.futures
@@ -301,6 +312,10 @@ OF_LANGUAGE = (
 OF_JOINTS = ("running", "If an unquoted variable is empty or has a blank, the whole `test` is an error for a shell, and after `port` only its part of it.")
 
 
+# What docs/language.md states of `dnl`, so that it follows calls alone, whose text ends in a newline.
+OF_DNL = ("language", "A line that `dnl` drops counts as a newline. Autoconf joins what is before it with the next line")
+
+
 @functools.lru_cache
 def said(document, sentence):
     """Ends the script if a document doesn't state what is left out here."""
@@ -368,9 +383,9 @@ def held(program, room, text, ported, is_read, settings):
     return found if found == "refused" or is_read else written_errors(program, text, ported) + found
 
 
-def port(program, text):
+def port(program, text, *switches):
     """Returns what port makes of a source, and whether acrun reads that."""
-    made = subprocess.run([program, "port", "-"], input=text, capture_output=True, text=True, errors="replace")
+    made = subprocess.run([program, "port", *switches, "-"], input=text, capture_output=True, text=True, errors="replace")
     return made.stdout, made.returncode == 0
 
 
@@ -637,14 +652,15 @@ class Maker:
         return self.simple(depth)
 
     def body(self, depth, count=None):
-        return "\n".join(self.laid_out(self.statement(depth)) for _ in range(count or self.at.choice((1, 1, 2))))
+        return "\n".join(self.laid_out(self.statement(depth), depth) for _ in range(count or self.at.choice((1, 1, 2))))
 
-    def laid_out(self, text):
+    def laid_out(self, text, depth):
         """Returns a statement with what may be around it on its lines."""
         kind = self.at.randrange(24)
         if kind == 0 and "\n" not in text:
             return f"{text} # a note"
-        if kind == 1 and re.search(r"\w\)?$", text):
+        if kind == 1 and depth == 0 and re.search(r"(?m)^A[CS]_\w+(\(.*\))?\Z", text):
+            said(*OF_DNL)
             return f"{text} dnl a note"
         if kind == 2:
             return f"# a note: it's (here\n{text}"
@@ -667,7 +683,7 @@ class Maker:
             # What checks look for on their way is looked for here, so that it is no news below.
             blocks += ["AC_CHECK_HEADERS([first.h])", "AC_CHECK_DECLS([EOF])", "AC_PREPROC_IFELSE([AC_LANG_SOURCE([[int first;]])], [v1=1], [v1=2])"]
         for _ in range(self.at.randint(2, 6)):
-            text = self.laid_out(self.statement(0))
+            text = self.laid_out(self.statement(0), 0)
             blocks.append(text)
             if self.has(0.15):
                 blocks.append(text)
@@ -707,7 +723,7 @@ def cache_names(name):
     found = []
     for call in ("", f"{name}\n"):
         body = script(f"AC_INIT([fuzz], [1.0])\nAC_PROG_CC\n{call}AC_OUTPUT\n") if least_of(name) == 0 else None
-        found.append({*re.findall(r"\bac_cv_\w+", body or "")})
+        found.append({*re.findall(r"\bac_cv_\w*[a-zA-Z0-9]\b", body or "")})
     return sorted(found[1] - found[0])
 
 
@@ -771,22 +787,30 @@ def unescaped(text):
     return subprocess.run(["printf", "%b", text], stdout=subprocess.PIPE).stdout.decode("latin-1")
 
 
+# The files of stored sources, each with how the names of its rows begin, and with the switches of port.
+FILES = (
+    ("exact/sources.txt", ("",), ()),
+    ("port/sources.txt", ("shell-", "defines-", "arguments-", "lists-"), ()),
+    ("port/idioms.txt", ("idioms-echo",), ("--idioms",)),
+)
+
+
 def stored(names):
-    """Yields the name of each stored source, its text and its settings: those of examples/exact, and those of examples/port about shell text,
-    which are run with variables of one letter that are not set, `yes`, `b` and `1`."""
-    for file, fronts in (("exact", ("",)), ("port", ("shell-", "defines-", "arguments-", "lists-"))):
-        for row in (HERE.parent / f"examples/{file}/sources.txt").read_text().splitlines():
+    """Yields the name of each stored source, its text, its settings and the switches of port: those of examples/exact, and those of examples/port
+    about shell text, which are run with variables of one letter that are not set, `yes`, `b` and `1`."""
+    for file, fronts, switches in FILES:
+        for row in (HERE.parent / "examples" / file).read_text().splitlines():
             name, _, text = row.partition(" ")
             chosen = "plain,letters"
-            if file == "exact":
+            if file.startswith("exact"):
                 chosen, _, text = text.partition(" ")
             if name.startswith(fronts) and (not names or name.startswith(tuple(names))):
                 settings = [SETTINGS[it] for it in chosen.split(",")]
-                yield name, unescaped(text), [one for it in settings for one in (it if isinstance(it, list) else [it])]
+                yield name, unescaped(text), [one for it in settings for one in (it if isinstance(it, list) else [it])], switches
 
 
-def judge_stored(program, room, text, settings):
-    ported, is_read = port(program, text)
+def judge_stored(program, room, text, settings, switches):
+    ported, is_read = port(program, text, *switches)
     return held(program, room, text, ported, is_read, settings), text, ported
 
 
@@ -848,8 +872,8 @@ def task(given):
 
 
 def stored_task(given):
-    program, name, text, settings = given
-    return name, *judge_stored(program, ROOM, text, settings)
+    program, name, text, settings, switches = given
+    return name, *judge_stored(program, ROOM, text, settings, switches)
 
 
 def try_stored(program, options):
@@ -871,7 +895,7 @@ def main():
     options.add_argument("--from", dest="first", type=int, default=0)
     options.add_argument("--count", type=int, default=200)
     options.add_argument("--seconds", type=int, default=0)
-    options.add_argument("--jobs", type=int, default=2)
+    options.add_argument("--jobs", type=int, default=os.cpu_count())
     options.add_argument("--runs", type=int, default=2)
     options.add_argument("--only", action="append", default=[])
     options.add_argument("--stored", nargs="*", metavar="NAME")
