@@ -1,4 +1,4 @@
-//! A run in which no compiler succeeded.
+//! A run in which no compiler succeeded, or one failed that wrote more than is kept.
 
 ghost use Rattle.std.specs.Prelude.{◌≡◌, false};
 
@@ -29,12 +29,33 @@ fn is_accepted(entry: &Entry) -> bool {
     answer_of(entry) == Some(0)
 }
 
-/// Says that no compiler job of the run with this log succeeded, if it is asked, and if at least
-/// one was answered.
+/// How many bytes of a child's diagnostics are kept.
+const MOST_KEPT: usize = 65_536;
+
+/// Returns whether the entry is a conftest that a compiler refused whose diagnostics are as long as
+/// what is kept, so that more may have been dropped.
+fn is_cut(entry: &Entry) -> bool {
+    match entry {
+        Entry::Child {
+            job,
+            reply: Reply::Answer { status, text },
+        } if job.file.is_some() && *status != 0 => text.len() >= MOST_KEPT,
+        _ => false,
+    }
+}
+
+/// Says of the run with this log, if it is asked, that no compiler job succeeded, if at least one
+/// was answered, and that one failed whose diagnostics were cut, if there is one: nobody reads after
+/// 4 MiB, and a compiler that writes more is ended by that (own).
 pub fn explain_compilers<E: Write>(alloc: Global, is_asked: bool, log: &[Entry], errors: &mut E)
     ensures silent { is_asked ≡ false → errors.new ≡ errors.old }
 {
-    if is_asked && log.iter().any(is_answered) && !log.iter().any(is_accepted) {
-        put_key(alloc, keys::NO_COMPILER_WORKS, errors);
+    if is_asked {
+        if log.iter().any(is_answered) && !log.iter().any(is_accepted) {
+            put_key(alloc, keys::NO_COMPILER_WORKS, errors);
+        }
+        if log.iter().any(is_cut) {
+            put_key(alloc, keys::CUT_DIAGNOSTICS, errors);
+        }
     }
 }

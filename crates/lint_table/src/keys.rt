@@ -702,9 +702,9 @@ pub const NO_DATAROOTDIR: Key = Key(b"no-datarootdir", b"its value begins with $
 #[rattlefmt::skip]
 pub const CONFIG_STATUS_SCRIPT: Key = Key(b"config-status-script", b"config.status is a record here, and no script that can be run", b"write `acrun status NAME` in the rule, and `acrun status --recheck` for `./config.status --recheck`");
 
-/// this rule removes config.status, and leaves the conftests of a run
+/// a run may leave conftests: this rule does not remove them, or this list takes them for sources
 #[rattlefmt::skip]
-pub const CONFTESTS_LEFT: Key = Key(b"conftests-left", b"this rule removes config.status, and leaves the conftests of a run", b"a run may leave these files besides its outputs\n  config.log config.status config.cache conftest* acrun-*.tmp");
+pub const CONFTESTS_LEFT: Key = Key(b"conftests-left", b"a run may leave conftests: this rule does not remove them, or this list takes them for sources", b"a run may leave these files besides its outputs\n  config.log config.status config.cache conftest* acrun-*.tmp\na list without them is `$(filter-out conftest%,$(wildcard *.c))`, and the script share/configure removes them");
 
 /// the last line has no newline, and so has that of the file that is made; Autoconf adds one
 #[rattlefmt::skip]
@@ -941,3 +941,7 @@ pub const OLD_SOURCE_NAME: Key = Key(b"old-source-name", b"configure.in is there
 /// no compiler job of this run succeeded: see config.log
 #[rattlefmt::skip]
 pub const NO_COMPILER_WORKS: Key = Key(b"no-compiler-works", b"no compiler job of this run succeeded: see config.log", b"");
+
+/// a compiler failed that wrote 65,536 bytes of diagnostics or more, which may be why: see config.log
+#[rattlefmt::skip]
+pub const CUT_DIAGNOSTICS: Key = Key(b"cut-diagnostics", b"a compiler failed that wrote 65,536 bytes of diagnostics or more, which may be why: see config.log", b"");

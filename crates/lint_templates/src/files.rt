@@ -18,6 +18,9 @@ const BELOW_DATAROOTDIR: [&[u8]; 9] = [
     b"@mandir@", b"@datadir@", b"@localedir@", b"@docdir@", b"@infodir@", b"@htmldir@", b"@dvidir@", b"@pdfdir@", b"@psdir@",
 ];
 
+/// What ends a name of the directory of the source.
+const SOURCE_DIRECTORIES: [&[u8]; 3] = [b"srcdir)", b"srcdir}", b"srcdir@"];
+
 /// Warns of the name between two `@`, the first time that it occurs.
 fn warn_once(
     alloc: Global,
@@ -137,9 +140,70 @@ fn cleaned_in(text: &[u8]) -> Option<(usize, usize)> {
     Some((at.saturating_add(start), length))
 }
 
+/// Returns whether a text ends in a name of the directory of the source.
+fn is_source_directory(text: &[u8]) -> bool {
+    SOURCE_DIRECTORIES.iter().any(|name| text.ends_with(*name))
+}
+
+/// Returns whether a pattern after this text, in the same word, is one of names in the directory of
+/// the run, or in that of the source, which is often the same.
+fn is_at_hand(before: &[u8]) -> bool {
+    match before.strip_suffix(b"/") {
+        Some(directory) => directory == b".".as_slice() || is_source_directory(directory),
+        None => match before.last() {
+            Some(byte) => b"=(\"'`,".contains(byte),
+            None => true,
+        },
+    }
+}
+
+/// Returns the offset of a pattern in a word that takes conftests for sources.
+fn sources_in_word(word: &[u8]) -> Option<usize> {
+    let at = word.find(b"*.c")?;
+    let after = word.get(at.saturating_add(3)..)?;
+    let ends = match after.first() {
+        Some(byte) => b")\"'`,;".contains(byte),
+        None => true,
+    };
+    if ends && is_at_hand(word.get(..at)?) {
+        Some(at)
+    } else {
+        None
+    }
+}
+
+/// Returns the offset of a pattern in a line that takes conftests for sources, unless the line is a
+/// comment or leaves them out.
+fn sources_in_line(line: &[u8]) -> Option<usize> {
+    if line.starts_with(b"#") || line.contains_str(b"conftest") {
+        return None;
+    }
+    let mut at = 0usize;
+    for word in line.split(|byte| *byte == b' ' || *byte == b'\t') {
+        if let Some(start) = sources_in_word(word) {
+            return Some(at.saturating_add(start));
+        }
+        at = at.saturating_add(word.len()).saturating_add(1);
+    }
+    None
+}
+
+/// Returns where a pattern takes conftests for sources.
+fn sources_in(text: &[u8]) -> Option<(usize, usize)> {
+    let mut at = 0usize;
+    for line in text.split(|byte| *byte == b'\n') {
+        if let Some(start) = sources_in_line(line) {
+            return Some((at.saturating_add(start), 3));
+        }
+        at = at.saturating_add(line.len()).saturating_add(1);
+    }
+    None
+}
+
 /// Adds the warnings about the template of a file: names between two `@` that no statement sets, a
 /// directory below `datarootdir` without that, a rule that runs `config.status`, a `distclean` that
-/// removes `config.status` and no conftest, and a last line without a newline (own).
+/// removes `config.status` and no conftest, a pattern `*.c` that takes conftests for sources, and a
+/// last line without a newline (own).
 ///
 /// # Errors
 ///
@@ -167,6 +231,8 @@ pub fn warn_of_file(
     warn_at(alloc, out, text, file, script, keys::CONFIG_STATUS_SCRIPT)?;
     let cleaned = cleaned_in(text);
     warn_at(alloc, out, text, file, cleaned, keys::CONFTESTS_LEFT)?;
+    let sources = sources_in(text);
+    warn_at(alloc, out, text, file, sources, keys::CONFTESTS_LEFT)?;
     warn_at(
         alloc,
         out,
