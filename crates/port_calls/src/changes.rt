@@ -207,15 +207,39 @@ fn to_nothing(
     }
 }
 
-/// Returns whether the idiom of a call does the same at its place.
-fn is_same_here(text: &[u8], spot: Spot, call: &CallAt) -> bool {
-    let is_once = part(text, call.start, call.name_end).ends_with(b"_ONCE");
-    begins_statement(text, spot, call.start)
-        && ends_statement(from(text, call.end))
-        && (!is_once || spot.is_at_top)
+/// Macros that Autoconf draws out of the argument of another call, as a whole or in part, and so
+/// does them in any case. Their idioms are done only if the action is.
+const DRAWN: [&[u8]; 7] = [
+    b"AC_PROG_INSTALL",
+    b"AC_PROG_MKDIR_P",
+    b"AC_PROG_CPP",
+    b"AC_FUNC_VPRINTF",
+    b"AC_VPRINTF",
+    b"AC_FUNC_STRERROR_R",
+    b"AC_HEADER_MAJOR",
+];
+
+/// Returns whether Autoconf draws a macro of this name out of an argument.
+fn is_drawn(name: &[u8]) -> bool {
+    name.ends_with(b"_ONCE") || DRAWN.iter().any(|other| *other == name)
 }
 
-/// Returns the change of a call to nothing, unless the source doesn't look for a compiler.
+/// Returns whether the idiom of a call does the same at its place.
+fn is_same_here(text: &[u8], spot: Spot, call: &CallAt) -> bool {
+    begins_statement(text, spot, call.start)
+        && ends_statement(from(text, call.end))
+        && (spot.is_at_top || !is_drawn(part(text, call.start, call.name_end)))
+}
+
+/// Returns whether m4 drops the rest of the line after a call, and so joins what is put in its
+/// place to the next line.
+fn joins_next_line(text: &[u8], call: &CallAt) -> bool {
+    let after = call.end.saturating_add(space_len(from(text, call.end)));
+    from(text, after).starts_with(b"dnl")
+}
+
+/// Returns the change of a call to nothing, unless the source doesn't look for a compiler, or a `:`
+/// in its place would be joined to the next line.
 fn left_out(
     alloc: Global,
     known: &Known,
@@ -227,7 +251,7 @@ fn left_out(
     ensures { IfOk result (λ o.
         IfSome o (λ change. specs.IsPut text.now (macro_call_of call.now) change.put.items)) }
 {
-    if !known.has_compiler {
+    if !known.has_compiler || (joins_next_line(text, call) && !can_be_left_out(known, text, spot)) {
         return Ok(None);
     }
     let change = to_nothing(alloc, known, text, spot, call)?;
