@@ -313,6 +313,9 @@ OF_JOINTS = (
     "If an unquoted variable is empty or has a blank, the whole `test` is an error for a shell, and after `port` only its part of it.",
 )
 
+# What docs/running.md states of a source without AC_PROG_CC, so that acrun is given none.
+OF_COMPILER = ("running", "linked and CC has no word, the run prints `configure: error: no acceptable C compiler found in $PATH`")
+
 # What docs/language.md states of `dnl`, so that it follows calls alone, whose text ends in a newline.
 OF_DNL = ("language", "A line that `dnl` drops counts as a newline. Autoconf joins what is before it with the next line")
 
@@ -391,7 +394,9 @@ def compared(room, text, ported, settings, program=""):
 
 def held(program, room, text, ported, is_read, settings):
     """Returns what is wrong with what port made of a source."""
-    found = compared(room, text, ported, settings, program if is_read else "")
+    said(*OF_COMPILER)
+    has_compiler = re.search(r"(?m)^AC_PROG_CC$", text)
+    found = compared(room, text, ported, settings, program if is_read and has_compiler else "")
     return found if found == "refused" or is_read else written_errors(program, text, ported) + found
 
 
