@@ -817,7 +817,7 @@ SETTINGS = {
     "seeds": [Setting(("CFLAGS=",), seed=it) for it in range(1, 5)],
     "host": Setting((f"--host={HOST}",), programs="cross"),
     "cross": Setting((f"--host={HOST}",), programs="cross", is_cross=True),
-    "given": Setting(("MKDIR_P=mymkdir -p", "RANLIB=myranlib", "MYNM=mynm"),
+    "given": Setting(("MKDIR_P=mymkdir -p", "RANLIB=myranlib", "MYNM=mynm", "GREP=mygrep", "SED=mysed"),
                      (("INSTALL", "myinstall"), ("INSTALL_DATA", "myinstall -m 600"), ("INSTALL_PROGRAM", "myinstall -s"),
                       ("INSTALL_SCRIPT", "myinstall -x"))),
     "ansi": Setting(("CFLAGS=-ansi",)),
