@@ -159,7 +159,8 @@ def run(room, words, folder, setting):
     path = f"{room.top}/{setting.programs}:{room.top}/given:{room.top}/farm"
     env = {"PATH": path, "LC_ALL": "C", "CONFIG_SHELL": "/bin/sh", "SEEDED_COMPILER": str(setting.seed), **dict(setting.environment)}
     env |= {"SEEDED_CROSS": "1"} if setting.is_cross else {}
-    return subprocess.run([*words, *setting.arguments], cwd=folder, env=env, stdin=subprocess.DEVNULL, capture_output=True, text=True, errors="replace", timeout=120)
+    how = {"cwd": folder, "env": env, "stdin": subprocess.DEVNULL, "capture_output": True, "text": True, "errors": "replace", "timeout": 120}
+    return subprocess.run([*words, *setting.arguments], **how)
 
 
 def left_by_acrun(room, program, text, setting, names, defined):
@@ -182,13 +183,10 @@ def put_templates(folder, names, defined):
 def outputs(folder):
     """Returns what is in the outputs of a run."""
     found = {}
-    for file in ("values", "src/values"):
+    for file, line in (("values", r"(?m)^(\w+)=(.*)$"), ("src/values", r"(?m)^(\w+)=(.*)$"), ("config.h", r"(?m)^#define (\w+) ?(.*)$")):
         if (folder / file).exists():
             found[f"file {file}"] = "made"
-            found |= {f"{file} {name}": value for name, value in re.findall(r"(?m)^(\w+)=(.*)$", (folder / file).read_text(errors="replace"))}
-    if (folder / "config.h").exists():
-        found["file config.h"] = "made"
-        found |= {f"config.h {name}": value for name, value in re.findall(r"(?m)^#define (\w+) ?(.*)$", (folder / "config.h").read_text(errors="replace"))}
+            found |= {f"{file} {name}": value for name, value in re.findall(line, (folder / file).read_text(errors="replace"))}
     return found
 
 
@@ -206,8 +204,9 @@ def left(room, body, setting, names, assigned, defined, creates=True):
         printed = re.sub(r"(\.\.\. )(?=checking |configure: |config\.status: )", r"\1\n", made.stdout)
         found = {"status": made.returncode, "standard output": printed.splitlines()}
         found["standard error"] = [re.sub(r"^\./configure: (line )?\d+: ", "", it) for it in made.stderr.splitlines()]
-        found |= {f"cache {name}": value for name, value in values_in(section(log, "Cache variables.")).items() if not name.startswith("ac_cv_env_")}
-        found |= {f"output {name}": value for name, value in values_in(section(log, "Output variables.")).items() if name != "INSTALL"}
+        cached, values = values_in(section(log, "Cache variables.")), values_in(section(log, "Output variables."))
+        found |= {f"cache {name}": value for name, value in cached.items() if not name.startswith("ac_cv_env_")}
+        found |= {f"output {name}": value for name, value in values.items() if name != "INSTALL"}
         defined = re.findall(r"(?m)^#define (\w+) ?(.*)$", section(log, "confdefs.h."))
         found |= {f"#{name}": value for name, value in defined}
         found["order of definitions"] = [name for name, _ in defined]
@@ -262,10 +261,10 @@ def without_repeats(found):
     for file in ("file values", "file src/values", "file config.h"):
         if file in found:
             found = {name: it for name, it in found.items() if not name.startswith(f"{file[5:]} ")}
+    first = {"src/values": ["values "], "output": ["values "], "config.h": ["#"], "variable": ["values ", "output ", "cache "]}
     for name in list(found):
         kind, _, rest = name.partition(" ")
-        first = {"src/values": [f"values {rest}"], "output": [f"values {rest}"], "config.h": [f"#{rest}"], "variable": [f"values {rest}", f"output {rest}", f"cache {rest}"]}
-        if any(found.get(it) == found[name] for it in first.get(kind, [])):
+        if any(found.get(f"{it}{rest}") == found[name] for it in first.get(kind, [])):
             del found[name]
     if any(name.startswith(("#", "order")) for name in found):
         found = {name: it for name, it in found.items() if name.split(" ")[-1] != "DEFS"}
@@ -302,15 +301,20 @@ OF_DEFAULT_INCLUDES = re.compile(r"ac_cv_header_(stdio|stdlib|string|inttypes|st
 OF_LANGUAGE = (
     ("HAVE_STDINT_H, HAVE_UNISTD_H and their kin are defined only if AC_CHECK_HEADERS names the header",
      r"config\.h (HAVE_(STDIO|STDLIB|STRING|INTTYPES|STDINT|STRINGS|SYS_STAT|SYS_TYPES|UNISTD)_H|STDC_HEADERS)"),
-    ("SHELL, PATH_SEPARATOR, OBJEXT, EXEEXT, LIBOBJS, ECHO_N and its kin, `build_alias` and its kin, `program_transform_name`, `ac_ct_CC`, and the variables "
-     "that begin with `abs_` are no output variables", r"values (SHELL|PATH_SEPARATOR|OBJEXT|EXEEXT|ECHO_[NCT]|(build|host|target)_alias|program_transform_name|ac_ct_CC)"),
+    ("SHELL, PATH_SEPARATOR, OBJEXT, EXEEXT, LIBOBJS, ECHO_N and its kin, `build_alias` and its kin, `program_transform_name`, `ac_ct_CC`, and "
+     "the variables that begin with `abs_` are no output variables",
+     r"values (SHELL|PATH_SEPARATOR|OBJEXT|EXEEXT|ECHO_[NCT]|(build|host|target)_alias|program_transform_name|ac_ct_CC)"),
     ("Nor are CPP, GREP and EGREP, which Autoconf's checks look for on their way, nor DEFS without a header", r"values (CPP|E?GREP|DEFS)"),
 )
 
-
 # What docs/running.md states of `-a` and `-o`, so that no source has such a test of an unquoted variable of no or several words.
-OF_JOINTS = ("running", "If an unquoted variable is empty or has a blank, the whole `test` is an error for a shell, and after `port` only its part of it.")
+OF_JOINTS = (
+    "running",
+    "If an unquoted variable is empty or has a blank, the whole `test` is an error for a shell, and after `port` only its part of it.",
+)
 
+# What docs/running.md states of a source without AC_PROG_CC, so that acrun is given none.
+OF_COMPILER = ("running", "linked and CC has no word, the run prints `configure: error: no acceptable C compiler found in $PATH`")
 
 # What docs/language.md states of `dnl`, so that it follows calls alone, whose text ends in a newline.
 OF_DNL = ("language", "A line that `dnl` drops counts as a newline. Autoconf joins what is before it with the next line")
@@ -340,10 +344,22 @@ def beside_acrun(room, program, text, setting, names, defined, before):
     """Returns what acrun leaves otherwise than the script of Autoconf did."""
     mine = left_by_acrun(room, program, text, setting, names, defined)
     kept = {name: it for name, it in before.items() if name.startswith(("status", "file ", "values ", "src/values ", "config.h "))}
-    if mine["status"] and kept["status"]:
+    if mine["status"] == kept["status"] != 0:
         return {}
-    kept["standard error"] = mine["standard error"] if not mine["status"] and not kept["status"] else before["standard error"]
-    return {name: it for name, it in differences(kept, mine).items() if not (of_language().match(name.removeprefix("src/")) and is_missing(it[1]))}
+    kept["standard error"] = mine["standard error"] if mine["status"] == kept["status"] else before["standard error"]
+    found = differences(kept, mine)
+    return {name: it for name, it in found.items() if not (of_language().match(name.removeprefix("src/")) and is_missing(it[1]))}
+
+
+def is_for_acrun(setting):
+    """Returns whether acrun takes this setting as a script does: it knows no `--host`, and adds no flags if CFLAGS is not given."""
+    return any(it.startswith("CFLAGS=") for it in setting.arguments) and not any(it.startswith("--host") for it in setting.arguments)
+
+
+def candidates(bodies, text):
+    """Returns the names that a header's template has: those that the scripts define, and one for each word of a source."""
+    words = re.findall(r"[\w./]+", text)
+    return sorted({*re.findall(r"#define (\w+)", "".join(bodies)), *(f"HAVE_{re.sub(r'[^A-Za-z0-9]', '_', it).upper()}" for it in words)})
 
 
 def compared(room, text, ported, settings, program=""):
@@ -356,10 +372,9 @@ def compared(room, text, ported, settings, program=""):
         return [(Setting(), {"Autoconf refuses the output": ("", "")})]
     names = template_names(bodies[0])
     assigned = sorted({*re.findall(r"\b([A-Za-z_]\w*)=", text + ported), *(["INSTALL"] if "AC_PROG_INSTALL" in text else [])})
-    defined = sorted({*re.findall(r"#define (\w+)", bodies[0] + bodies[1]), *(f"HAVE_{re.sub(r'[^A-Za-z0-9]', '_', it).upper()}" for it in re.findall(r"[\w./]+", ported))})
-    patterns, found = stated(text), []
+    patterns, found, defined = stated(text), [], candidates(bodies, ported)
     for setting in settings:
-        by_acrun = program and any(it.startswith("CFLAGS=") for it in setting.arguments) and not any(it.startswith("--host") for it in setting.arguments)
+        by_acrun = program and is_for_acrun(setting)
         creates = bool(by_acrun) or setting.seed % 4 == 0
         if bodies[0] == bodies[1] and not by_acrun:
             continue
@@ -379,7 +394,9 @@ def compared(room, text, ported, settings, program=""):
 
 def held(program, room, text, ported, is_read, settings):
     """Returns what is wrong with what port made of a source."""
-    found = compared(room, text, ported, settings, program if is_read else "")
+    said(*OF_COMPILER)
+    has_compiler = re.search(r"(?m)^AC_PROG_CC$", text)
+    found = compared(room, text, ported, settings, program if is_read and has_compiler else "")
     return found if found == "refused" or is_read else written_errors(program, text, ported) + found
 
 
@@ -396,7 +413,8 @@ FUNCTIONS = ("getcwd", "strdup", "foo", "pow")
 TEXTS = ("a text", "[a text]", "two words here", "[it, here]", "[$enable_foo is it]")
 INCLUDES = ("", "#include <stdio.h>", "#include <time.h>\n#include <zlib.h>")
 BODIES = ("puts (\"\");", "struct tm t[2]; t[0].tm_sec = 0;", "return foo (1, 2);", "char c = '\\\\'; (void) c;")
-# Arguments of the macros whose idiom has some: for each place texts, or the word that `argument` reads.
+PROGRAMS = ("int main (void) { return 0; }", "#include <stdio.h>\nint main (void) { return puts (\"a[1]\") < 0; }")
+# Arguments of macros that have an exact idiom, or had one: for each place texts, or the word that `argument` reads.
 ARGUMENTS = {
     "AC_CACHE_VAL": [("fz_cv_one", "fz_cv_two", "ac_cv_fz"), "commands"],
     "AC_CHECKING": [TEXTS],
@@ -424,27 +442,38 @@ ARGUMENTS = {
     "AC_TRY_COMPILE": [INCLUDES, BODIES, "action", "action"],
     "AC_TRY_LINK": [INCLUDES, BODIES, "action", "action"],
     "AC_TRY_LINK_FUNC": [FUNCTIONS, "action", "action"],
-    "AC_TRY_RUN": [("int main (void) { return 0; }", "#include <stdio.h>\nint main (void) { return puts (\"a[1]\") < 0; }"), "action", "action", "action"],
-    "AC_TEST_PROGRAM": [("int main (void) { return 0; }",), "action", "action", "action"],
+    "AC_TRY_RUN": [PROGRAMS, "action", "action", "action"],
+    "AC_TEST_PROGRAM": [PROGRAMS, "action", "action", "action"],
     "AC_TRY_CPP": [("#include <stdio.h>", "#include <foo.h>\n#ifndef FOO\n#error none\n#endif"), "action", "action"],
     "AS_VAR_COPY": [("copy", "v1"), ("level", "enable_foo", "v2")],
     "m4_pattern_allow": [("^AC_FOO$", "^fz_")],
 }
 VALUES = ("yes", "no", "xyes", "/opt", "NONE", '""')
+ONE_WORD = ('"$enable_foo"', '"x$enable_foo"', '"$v1"', "x$with_bar", '"$LIBS"', '"$prefix"', '"${v1}"', "yes", '"$a b"')
 CASED = ("$enable_foo", '"$with_bar"', "$prefix", '"$v1"', "x$v2")
 SET = ("yes", "b", "1", '"$v1 c"', "$prefix", "", "$enable_foo")
 FLAGS = ('"$LIBS -lz"', '"-ansi $CFLAGS"', "-DX")
 # Statements that acrun does not read.
-LEFT_AS_IS = ("for i in a b; do\n  v1=$i\ndone", "v2=`echo b`", "v1=$(echo c)", "echo a text", "cat <<EOT\nif a; then b; fi\nEOT", "v1=$?", "unset v2", "MY_CHECK([level])",
-              "MY_CHECK(v1)", "v1=${v2-none}")
+LEFT_AS_IS = (
+    "for i in a b; do\n  v1=$i\ndone", "v2=`echo b`", "v1=$(echo c)", "echo a text", "cat <<EOT\nif a; then b; fi\nEOT", "v1=$?", "unset v2",
+    "MY_CHECK([level])", "MY_CHECK(v1)", "v1=${v2-none}",
+)
+LAST = (
+    "AC_CONFIG_FILES([values])\nAC_OUTPUT",
+    "AC_CONFIG_FILES([values src/values])\nAC_OUTPUT",
+    "AC_OUTPUT([values])",
+    "AC_OUTPUT(values \\\n src/values)",
+    "AC_CONFIG_FILES([values])\nAC_OUTPUT()",
+)
 READ = ("prefix", "exec_prefix", "bindir", "LIBS", "CFLAGS", "CPPFLAGS", "CC", "enable_foo", "with_bar", "PACKAGE_NAME")
 GIVEN = {
-    "INSTALL": ("myinstall", "myinstall -c"), "INSTALL_DATA": ("myinstall -m 600",), "INSTALL_PROGRAM": ("myinstall -s",), "INSTALL_SCRIPT": ("myinstall -x",),
-    "MKDIR_P": ("mymkdir -p",), "RANLIB": ("myranlib", "myranlib -x"), "STRIP": ("mystrip",), "NM": ("mynm",), "MYNM": ("mynm",), "MYAR": ("myar",), "AWK": ("myawk",),
-    "SED": ("mysed",), "GREP": ("mygrep",), "CPP": ("mycpp",), "LN_S": ("cp -p",), "TOOL": ("strip",), "EXEEXT": (".exe",), "OBJEXT": ("obj",),
-    "LIBS": ("-lgiven",), "CPPFLAGS": ("-Igiven",), "LDFLAGS": ("-Lgiven",), "CC": ("cc", "gcc -ansi"),
-    "prefix": ("/env",), "v1": ("set",), "v2": ("yes",), "level": ("3",), "HAVE_AWK": ("maybe",), "copy": ("before",),
-    "ac_cv_func_getcwd": ("no",), "ac_cv_header_zlib_h": ("yes",), "ac_cv_prog_RANLIB": ("cached-ranlib",), "ac_cv_path_SED": ("/cached/sed",), "fz_cv_one": ("cached",),
+    "INSTALL": ("myinstall", "myinstall -c"), "INSTALL_DATA": ("myinstall -m 600",), "INSTALL_PROGRAM": ("myinstall -s",),
+    "INSTALL_SCRIPT": ("myinstall -x",), "MKDIR_P": ("mymkdir -p",), "RANLIB": ("myranlib", "myranlib -x"), "STRIP": ("mystrip",),
+    "NM": ("mynm",), "MYNM": ("mynm",), "MYAR": ("myar",), "AWK": ("myawk",), "SED": ("mysed",), "GREP": ("mygrep",), "CPP": ("mycpp",),
+    "LN_S": ("cp -p",), "TOOL": ("strip",), "EXEEXT": (".exe",), "OBJEXT": ("obj",), "LIBS": ("-lgiven",), "CPPFLAGS": ("-Igiven",),
+    "LDFLAGS": ("-Lgiven",), "CC": ("cc", "gcc -ansi"), "prefix": ("/env",), "v1": ("set",), "v2": ("yes",), "level": ("3",),
+    "HAVE_AWK": ("maybe",), "copy": ("before",), "ac_cv_func_getcwd": ("no",), "ac_cv_header_zlib_h": ("yes",),
+    "ac_cv_prog_RANLIB": ("cached-ranlib",), "ac_cv_path_SED": ("/cached/sed",), "fz_cv_one": ("cached",),
 }
 
 
@@ -500,15 +529,14 @@ class Maker:
 
     def call(self, depth):
         """Returns a call of an exact macro."""
-        name, entry, least, most = self.one(self.exact)
+        name, _, least, most = self.one(self.exact)
         count = self.at.randint(least, most)
         kinds = ARGUMENTS.get(name)
         if count == 0:
             return name
         if kinds is None:
             sys.exit(f"{name} has no arguments in ARGUMENTS")
-        said = ", ".join(self.argument(it, depth) for it in kinds[:count])
-        made = f"{name}({said})"
+        made = f"{name}({', '.join(self.argument(it, depth) for it in kinds[:count])})"
         if name in ("AC_MSG_FAILURE", "AC_ERROR"):
             return f"if test \"$enable_foo\" = stop; then {made}; fi" if self.has(0.8) else made
         if name == "AC_CACHE_VAL" and self.has(0.5):
@@ -548,11 +576,11 @@ class Maker:
         return f"AC_COMPILE_IFELSE([AC_LANG_PROGRAM([[{self.one(INCLUDES)}]], [[{self.one(BODIES)}]])], {self.action(depth)}, {self.action(depth)})"
 
     def word(self):
-        return self.one(['"$enable_foo"', "$enable_foo", '"x$enable_foo"', "x$enable_foo", '"$v1"', "x$v2", '"$LIBS"', "$with_bar", '"$prefix"', '"${v1}"', "yes", '"$a b"'])
+        return self.one([*ONE_WORD, "$enable_foo", "x$enable_foo", "x$v2", "$with_bar"])
 
     def one_word(self):
         """Returns a word that is one word for a shell, whatever its variable has."""
-        return self.one(['"$enable_foo"', '"x$enable_foo"', '"$v1"', "x$with_bar", '"$LIBS"', '"$prefix"', '"${v1}"', "yes", '"$a b"'])
+        return self.one(ONE_WORD)
 
     def test(self, word=None):
         word = word or self.word
@@ -590,8 +618,15 @@ class Maker:
         kind = self.at.randrange(10)
         if kind == 0:
             first, other = self.assignment(), self.assignment()
-            return self.one([f"if {self.condition()}; then {first}; fi", f"if {self.condition()}; then {first}; else {other}; fi", f"if {self.condition()}\nthen {first}\nfi; {other}",
-                             f"case {self.one(CASED)} in yes) {first};; *) {other};; esac", f"test {self.test()} && {{ {first}; {other}; }}", f"({first})", f"{first}; {other}"])
+            return self.one([
+                f"if {self.condition()}; then {first}; fi",
+                f"if {self.condition()}; then {first}; else {other}; fi",
+                f"if {self.condition()}\nthen {first}\nfi; {other}",
+                f"case {self.one(CASED)} in yes) {first};; *) {other};; esac",
+                f"test {self.test()} && {{ {first}; {other}; }}",
+                f"({first})",
+                f"{first}; {other}",
+            ])
         if kind < 5:
             text = f"if {self.condition()}; then\n{self.body(depth + 1)}\n"
             text += f"elif {self.condition()}; then\n{self.body(depth + 1)}\n" if self.has(0.2) else ""
@@ -641,7 +676,7 @@ class Maker:
         kind = self.at.random()
         if kind < 0.4:
             text = self.call(depth)
-            for name in {*re.findall(r"\b(?:A[CS]|m4)_\w+", text)} & {it[0] for it in self.exact} - self.called:
+            for name in sorted({*re.findall(r"\b(?:A[CS]|m4)_\w+", text)} & {it[0] for it in self.exact} - self.called):
                 self.called.add(name)
                 self.cached += cache_names(name)
             return text
@@ -676,8 +711,15 @@ class Maker:
         first = ["AC_INIT([fuzz], [1.0])", "AC_CONFIG_SRCDIR([configure.ac])"[: 0 if self.has(0.9) else None]]
         header = self.one(["AC_CONFIG_HEADERS([config.h])", "AC_CONFIG_HEADERS([config.h])", "AC_CONFIG_HEADER(config.h)", ""])
         blocks = [
-            self.one(["AC_ARG_ENABLE([foo], [do foo])", f"AC_ARG_ENABLE([foo], [do foo], {self.action(1)}, {self.action(1)})", "AC_ARG_ENABLE(foo, [  --enable-foo  do it],\n  if test \"$enableval\" = yes; then\n    v1=1\n  fi,\n  v2=0\n)"]),
-            self.one(["AC_ARG_WITH([bar], [use bar])", f"AC_ARG_WITH([bar], AC_HELP_STRING([--with-bar], [use bar]), [v1=\"$withval\"], {self.action(1)})"]),
+            self.one([
+                "AC_ARG_ENABLE([foo], [do foo])",
+                f"AC_ARG_ENABLE([foo], [do foo], {self.action(1)}, {self.action(1)})",
+                "AC_ARG_ENABLE(foo, [  --enable-foo  do it],\n  if test \"$enableval\" = yes; then\n    v1=1\n  fi,\n  v2=0\n)",
+            ]),
+            self.one([
+                "AC_ARG_WITH([bar], [use bar])",
+                f"AC_ARG_WITH([bar], AC_HELP_STRING([--with-bar], [use bar]), [v1=\"$withval\"], {self.action(1)})",
+            ]),
         ]
         if self.has(0.6):
             # What checks look for on their way is looked for here, so that it is no news below.
@@ -690,7 +732,7 @@ class Maker:
             if self.has(0.4):
                 name = self.fresh("r")
                 blocks.append(f"{name}={self.read()}\nAC_SUBST([{name}])")
-        last = self.one(["AC_CONFIG_FILES([values])\nAC_OUTPUT", "AC_CONFIG_FILES([values src/values])\nAC_OUTPUT", "AC_OUTPUT([values])", "AC_OUTPUT(values \\\n src/values)", "AC_CONFIG_FILES([values])\nAC_OUTPUT()"])
+        last = self.one(LAST)
         if any("MY_CHECK" in it for it in blocks):
             first.append("AC_DEFUN([MY_CHECK], [$1=mine])")
         return [*first, header], ["AC_PROG_CC"] * (not self.has(0.05)) + blocks, last
@@ -750,7 +792,8 @@ def written_errors(program, text, ported):
         lines = subprocess.run([program, "lint", "--json", "-"], input=each, capture_output=True, text=True, errors="replace").stdout.splitlines()
         found.append([it for it in map(json.loads, lines) if it["severity"] == "error" and it["code"] != "template"])
     known, lines = {without_excerpts(it["message"]) for it in found[0]}, ported.splitlines()
-    new = [it for it in found[1] if without_excerpts(it["message"]) not in known and not OF_SOURCE.search(it["message"]) and lines[it["line"] - 1] not in text.splitlines()]
+    new = [it for it in found[1] if without_excerpts(it["message"]) not in known and not OF_SOURCE.search(it["message"])]
+    new = [it for it in new if lines[it["line"] - 1] not in text.splitlines()]
     return [(Setting(by="lint"), {f"error in {lines[it['line'] - 1]}: {it['message']}": ("", "")}) for it in new]
 
 
@@ -774,8 +817,9 @@ SETTINGS = {
     "seeds": [Setting(("CFLAGS=",), seed=it) for it in range(1, 5)],
     "host": Setting((f"--host={HOST}",), programs="cross"),
     "cross": Setting((f"--host={HOST}",), programs="cross", is_cross=True),
-    "given": Setting(("MKDIR_P=mymkdir -p", "RANLIB=myranlib", "MYNM=mynm"),
-                     (("INSTALL", "myinstall"), ("INSTALL_DATA", "myinstall -m 600"), ("INSTALL_PROGRAM", "myinstall -s"), ("INSTALL_SCRIPT", "myinstall -x"))),
+    "given": Setting(("MKDIR_P=mymkdir -p", "RANLIB=myranlib", "MYNM=mynm", "GREP=mygrep", "SED=mysed"),
+                     (("INSTALL", "myinstall"), ("INSTALL_DATA", "myinstall -m 600"), ("INSTALL_PROGRAM", "myinstall -s"),
+                      ("INSTALL_SCRIPT", "myinstall -x"))),
     "ansi": Setting(("CFLAGS=-ansi",)),
     "foo": Setting(("--enable-foo",)),
     "bar": Setting(("--disable-foo", "--with-bar=/opt", "--prefix=/opt/p")),

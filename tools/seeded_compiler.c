@@ -1,8 +1,9 @@
 /* A compiler's stand-in for configure scripts of Autoconf and for acrun: whether it takes a program is a function of what the
    program asks, of the flags -l, and of a seed, the number in SEEDED_COMPILER.
-   What a program asks: a header, if it only includes; a function, if it declares `char NAME (void);` or `char NAME ();` and calls it; a type, if it
-   takes the size of one; a declaration, if it casts a name to void unless that is a macro; otherwise its text. Its definitions,
-   its default includes, its comments and its blanks do not count, so that two programs that ask the same get the same answer.
+   What a program asks: a header, if it only includes; a function, if it declares `char NAME (void);` or `char NAME ();` and calls
+   it; a type, if it takes the size of one; a declaration, if it casts a name to void unless that is a macro; otherwise its text.
+   Its definitions, its default includes, its comments and its blanks do not count, so that two programs that ask the same get the
+   same answer.
    What AC_PROG_CC and AC_PROG_CPP try is answered as by GCC. A program that it links ends with 0 or 1, by another bit, and with
    1 if the environment has SEEDED_CROSS.
    Build: cc -O1 -static -o gcc seeded_compiler.c */
@@ -85,7 +86,8 @@ static int asked(char *text, int is_ansi) {
   for (char *at = text; (at = strstr(at, "#include <")); at++) last = at;
   if (last && !strstr(text, "main") && between(last, "#include <", ">", name) && !strchr(last + 1, '#')) {
     add("header");
-  } else if ((between(text, "char ", " (void);", name) || between(text, "char ", " ();", name)) && snprintf(call, sizeof call, "return %s ();", name) > 0 && strstr(text, call)) {
+  } else if ((between(text, "char ", " (void);", name) || between(text, "char ", " ();", name)) &&
+             snprintf(call, sizeof call, "return %s ();", name) > 0 && strstr(text, call)) {
     add("function");
   } else if (between(text, "if (sizeof (", ")) return 0;", name)) {
     add("type");
