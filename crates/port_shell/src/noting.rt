@@ -35,19 +35,36 @@ fn noted(alloc: Global, indent: &[u8]) -> Result<Vec<u8>, AllocError>
     Ok(out)
 }
 
+/// Returns the comment with these spaces after it.
+#[tactic(auto, using(crate::proofs::Notes::commented))]
+fn note_after(alloc: Global, indent: &[u8]) -> Result<Option<Vec<u8>>, AllocError>
+    requires { list_all is_space indent.now ≡ true }
+    ensures { IfOk result (λ o. IfSome o (λ v. specs.IsNote Idioms.All v.items)) }
+{
+    let note = noted(alloc, indent)?;
+    Ok(Some(note))
+}
+
 /// Returns the comment with this indent after it, or `None` if it is more than spaces.
+fn note_if_blank(alloc: Global, indent: &[u8]) -> Result<Option<Vec<u8>>, AllocError>
+    ensures { IfOk result (λ o. IfSome o (λ v. specs.IsNote Idioms.All v.items)) }
+{
+    if are_spaces(indent) {
+        note_after(alloc, indent)
+    } else {
+        Ok(None)
+    }
+}
+
+/// Returns the comment with this indent after it, or `None` if that is more than spaces or the
+/// comment isn't wanted.
+#[tactic(auto, using(crate::proofs::Notes::for_all))]
 fn note_with(alloc: Global, idioms: Idioms, indent: &[u8]) -> Result<Option<Vec<u8>>, AllocError>
     ensures { IfOk result (λ o. IfSome o (λ v. specs.IsNote idioms v.items)) }
 {
     match idioms {
         Idioms::Exact => Ok(None),
-        Idioms::All => {
-            if !are_spaces(indent) {
-                return Ok(None);
-            }
-            let note = noted(alloc, indent)?;
-            Ok(Some(note))
-        }
+        Idioms::All => note_if_blank(alloc, indent),
     }
 }
 
