@@ -31,7 +31,7 @@ trial() {
     echo 'echo @PACKAGE_NAME@' | tee run.sh.in > own.sh.in
     echo '#undef HAVE_A_H' > config.h.in
     for name in run.sh config.h config.status config.cache; do
-        echo old > "$name"
+        echo "# old" > "$name"
         chmod 777 "$name"
         chown nobody "$name"
     done
