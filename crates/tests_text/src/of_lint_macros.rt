@@ -10,7 +10,7 @@ use test_rows::{Page, RowCall, cut, number_of, try_rows};
 /// entry, and whether it takes a list.
 const ENTRIES: &[u8] = b"
 said AC_CHECK_HEADERS_ONCE => idiom AC_CHECK_HEADERS_ONCE [AC_CHECK_HEADERS([$1{HEADERS}])]
-said AC_FUNC_VPRINTF => idiom AC_FUNC_VPRINTF [AC_CHECK_FUNCS([vprintf])]
+said AC_PROG_SED => idiom AC_PROG_SED [AC_PATH_PROG([SED], [sed])]
 said AM_SILENT_RULES => drop AM_SILENT_RULES [there is no Automake: write a plain Makefile.in]
 said AC_SUBST_FILE => none AC_SUBST_FILE [put the text of the file into the template]
 said AC_FUNC_NEW => family AC_FUNC_ [check the function by AC_CHECK_FUNCS]
