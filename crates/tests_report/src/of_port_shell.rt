@@ -142,17 +142,6 @@ if :; then AC_CHECK_HEADERS([a.h]); fi => the same
 if :; then AC_CHECK_FUNC([a]); fi => the same
 AC_PROG_CC^Jif :; then AC_CHECK_FUNC([a]); fi => AC_PROG_CC^JAS_IF([:], [AC_CHECK_FUNC([a])])
 AC_PROG_CC^Jif :; then AC_CHECK_TYPES([a]); fi => the same
-AC_PROG_CC^Jif :; then AC_CHECK_TYPES([a], [], [], [#include <b.h>]); fi => AC_PROG_CC^JAS_IF([:], [AC_CHECK_TYPES([a], [], [], [#include <b.h>])])
-AC_PROG_CC^Jif :; then AC_CHECK_DECLS([a], [], [], [#include <b.h>]); fi => the same
-AC_PROG_CC^Jif :; then AC_CHECK_HEADER([a.h], [], [], [-]); fi => the same
-AC_PROG_CC^Jif :; then AC_PREPROC_IFELSE([AC_LANG_SOURCE([[a]])], [x=1]); fi => the same
-AC_PROG_CC^Jif :; then AC_COMPILE_IFELSE([AC_LANG_PROGRAM([AC_INCLUDES_DEFAULT], [])], [x=1]); fi => the same
-AC_CHECK_HEADER([b.h])^Jif :; then AC_CHECK_HEADERS([a.h]); fi => AC_CHECK_HEADER([b.h])^JAS_IF([:], [AC_CHECK_HEADERS([a.h])])
-AC_CHECK_HEADER([b.h], [if :; then AC_CHECK_TYPE([a]); fi]) => AC_CHECK_HEADER([b.h], [AS_IF([:], [AC_CHECK_TYPE([a])])])
-AC_ARG_WITH([x], [a help], [if :; then AC_CHECK_HEADERS([a.h]); fi]) => AC_ARG_WITH([x], [a help], [AS_IF([:], [AC_CHECK_HEADERS([a.h])])])
-case $a in b) AC_CHECK_HEADERS([a.h]) ;; esac => the same
-test a && AC_CHECK_HEADERS([a.h]) => the same
-if :; then AC_CHECK_HEADERS([a.h]); fi^Jif :; then AC_CHECK_HEADERS([b.h]); fi => if :; then AC_CHECK_HEADERS([a.h]); fi^JAS_IF([:], [AC_CHECK_HEADERS([b.h])])
 // where it isn't done
 [if :; then x=1; fi] => the same
 [if] :; then x=1; fi => the same
@@ -198,12 +187,9 @@ const DRAWING: &[u8] = br##"
 if :; then x=1; fi => AS_IF([:], [x=1])
   if :; then AC_CHECK_HEADERS([a.h]); fi =>   dnl acrun: in place of a statement: Autoconf makes the checks that its macros require in any case^J  AS_IF([:], [AC_CHECK_HEADERS([a.h])])
 case $a in b) AC_CHECK_HEADERS([a.h]) ;; esac => dnl acrun: in place of a statement: Autoconf makes the checks that its macros require in any case^JAS_CASE([$a], [b], [AC_CHECK_HEADERS([a.h])])
-test a && AC_CHECK_HEADERS([a.h]) => dnl acrun: in place of a statement: Autoconf makes the checks that its macros require in any case^JAS_IF([test a], [AC_CHECK_HEADERS([a.h])])
-x=1; if :; then AC_CHECK_HEADERS([a.h]); fi => the same
-if :; then AC_CHECK_HEADERS([a.h]); fi^Jif :; then AC_CHECK_HEADERS([b.h]); fi => dnl acrun: in place of a statement: Autoconf makes the checks that its macros require in any case^JAS_IF([:], [AC_CHECK_HEADERS([a.h])])^JAS_IF([:], [AC_CHECK_HEADERS([b.h])])
 "##;
 
 #[test]
-fn noted(rt: HostRuntime) -> Result<(), Fail> {
+fn drawing(rt: HostRuntime) -> Result<(), Fail> {
     try_rows(rt.alloc(), &Noted, DRAWING)
 }
