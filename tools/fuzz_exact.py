@@ -201,7 +201,7 @@ def left(room, body, setting, names, assigned, defined, creates=True):
         put_templates(folder, names, defined)
         made = run(room, ["/bin/sh", "./configure", *([] if creates else ["--no-create"])], folder, setting)
         log = (folder / "config.log").read_text(errors="replace") if (folder / "config.log").exists() else ""
-        printed = re.sub(r"(\.\.\. )(?=checking |configure: |config\.status: )", r"\1\n", made.stdout)
+        printed = re.sub(r"(\.\.\. |^\(cached\) )(?=checking |configure: |config\.status: )", r"\1\n", made.stdout, flags=re.M)
         found = {"status": made.returncode, "standard output": printed.splitlines()}
         found["standard error"] = [re.sub(r"^\./configure: (line )?\d+: ", "", it) for it in made.stderr.splitlines()]
         cached, values = values_in(section(log, "Cache variables.")), values_in(section(log, "Output variables."))
@@ -872,7 +872,8 @@ def shown(differs):
 
 
 def minimized(program, room, number, names):
-    """Returns the smallest part of a source that still differs, what port makes of it, and the differences: blocks and lines go in turn."""
+    """Returns the smallest part of a source in which a name of its first difference still differs, what port makes of it, and the differences:
+    blocks, arguments and variables of the environment go in turn."""
     maker = Maker(number, names)
     first, blocks, last = maker.source()
     settings = maker.settings(2)
@@ -881,11 +882,15 @@ def minimized(program, room, number, names):
         text = joined(first, blocks, last)
         ported, is_read = port(program, text)
         found = held(program, room, text, ported, is_read, settings)
-        return (found, text, ported) if found and not isinstance(found, str) else None
+        if isinstance(found, str) or (wanted and not any(wanted & {*names} for _, names in found)):
+            return None
+        return (found, text, ported) if found else None
 
+    wanted = set()
     best = tried(blocks, settings)
     if not best:
         return [], joined(first, blocks, last), ""
+    wanted = {*best[0][0][1]}
     settings = [dataclasses.replace(best[0][0][0], by="port")]
     changed = True
     while changed:

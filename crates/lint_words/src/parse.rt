@@ -164,6 +164,22 @@ fn has_blank_after_equals(text: &[u8]) -> bool {
     text.starts_with(b"= ") || text.starts_with(b"=\t")
 }
 
+/// Returns what a word begins with before a bracket that closes none of the word, which ends the
+/// argument that the word is in.
+fn within_argument(word: &[u8]) -> &[u8] {
+    let (mut depth, mut len) = (0_usize, 0_usize);
+    for byte in word {
+        match *byte {
+            b']' | b')' if depth == 0 => return before(word, len),
+            b'[' | b'(' => depth = depth.saturating_add(1),
+            b']' | b')' => depth = depth.saturating_sub(1),
+            _ => {}
+        }
+        len = len.saturating_add(1);
+    }
+    word
+}
+
 /// Writes what is wrong with text that is no statement, and that has no construct by which to say
 /// it.
 fn put_plain_text(alloc: Global, page: &mut Page, around: Around<'_>) -> Result<(), AllocError> {
@@ -180,7 +196,8 @@ fn put_plain_text(alloc: Global, page: &mut Page, around: Around<'_>) -> Result<
     if has_blank_after_equals(from(rest, name.len())) {
         page.put(keys::BLANK_AFTER_EQUALS, &[]);
     } else {
-        page.put(keys::NO_STATEMENT, &[WordPart::Quoted(first_word(rest))]);
+        let word = within_argument(first_word(rest));
+        page.put(keys::NO_STATEMENT, &[WordPart::Quoted(word)]);
     }
     Ok(())
 }

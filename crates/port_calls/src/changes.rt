@@ -209,7 +209,7 @@ fn to_nothing(
 
 /// Macros that Autoconf draws out of the argument of another call, as a whole or in part, and so
 /// does them in any case. Their idioms are done only if the action is.
-const DRAWN: [&[u8]; 7] = [
+const DRAWN: [&[u8]; 8] = [
     b"AC_PROG_INSTALL",
     b"AC_PROG_MKDIR_P",
     b"AC_PROG_CPP",
@@ -217,6 +217,7 @@ const DRAWN: [&[u8]; 7] = [
     b"AC_VPRINTF",
     b"AC_FUNC_STRERROR_R",
     b"AC_HEADER_MAJOR",
+    b"AC_OBJEXT",
 ];
 
 /// Returns whether Autoconf draws a macro of this name out of an argument.
