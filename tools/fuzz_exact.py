@@ -465,6 +465,8 @@ LAST = (
     "AC_OUTPUT(values \\\n src/values)",
     "AC_CONFIG_FILES([values])\nAC_OUTPUT()",
 )
+# Variables that acrun does not set, as docs/language.md states.
+UNSET = ("OBJEXT", "EXEEXT", "SHELL")
 READ = ("prefix", "exec_prefix", "bindir", "LIBS", "CFLAGS", "CPPFLAGS", "CC", "enable_foo", "with_bar", "PACKAGE_NAME")
 GIVEN = {
     "INSTALL": ("myinstall", "myinstall -c"), "INSTALL_DATA": ("myinstall -m 600",), "INSTALL_PROGRAM": ("myinstall -s",),
@@ -668,7 +670,7 @@ class Maker:
         for entry in {id(it[1]): it[1] for it in self.exact if it[0] in self.called}.values():
             names += re.findall(r"AC_(?:SUBST|CHECK_PROGS|PATH_PROG|ARG_VAR)\(\[(\w+)\]", entry.text()) * 3
         names += [name for name in self.cached if not OF_DEFAULT_INCLUDES.match(name)]
-        differing = [it.partition("=")[0] for it in stated(" ".join(self.called))]
+        differing = [*UNSET, *(it.partition("=")[0] for it in stated(" ".join(self.called)))]
         names = [name for name in names if not any(fnmatch.fnmatchcase(name, it) for it in differing)]
         return f"\"${self.one(names)}\""
 

@@ -5,7 +5,8 @@ ghost use Rattle.lint_findings.specs.declared.finding.Severity.TheVariants.{Erro
 
 use crate::arguments::put_bad_argument;
 use crate::calls::{arguments_at, before_close, call_around, last_name, unquoted};
-use crate::{near_name, shell_help, test_help, word_help};
+use crate::shell::argument_help;
+use crate::{near_name, shell_help, test_help};
 use ac_calls::{CallAt, Extent};
 use ac_macros::Row;
 use ac_macros::table::{row_named, rows};
@@ -78,6 +79,26 @@ impl<'a> Around<'a> {
         match self.found() {
             Some((number, _)) => number == 0 && self.call().ends_with(b"_IFELSE"),
             None => false,
+        }
+    }
+
+    /// Returns whether the second argument of AC_CHECK_TYPE begins at the place, which was a default
+    /// once.
+    fn is_default(&self) -> bool {
+        match self.found() {
+            Some((number, _)) => number == 1 && self.call() == b"AC_CHECK_TYPE".as_slice(),
+            None => false,
+        }
+    }
+
+    /// Returns the first argument of the call that the place is in, without the quotes around it.
+    fn first(&self) -> &'a [u8] {
+        let Some(call) = call_around(self.calls, self.at) else {
+            return b"";
+        };
+        match call.args.first() {
+            Some(arg) => unquoted(without_end_blanks(part(self.text, arg.start, arg.end))),
+            None => b"",
         }
     }
 }
@@ -209,6 +230,15 @@ fn is_argument_macro(name: &[u8]) -> bool {
         || name == b"AC_LANG_SOURCE".as_slice()
 }
 
+/// Writes what to do about a default of AC_CHECK_TYPE, which begins at the place.
+fn put_default(page: &mut Page, around: Around<'_>) {
+    let name = WordPart::AsItIs(around.first());
+    page.put(
+        keys::DEFAULT_OF_TYPE,
+        &[name, WordPart::AsItIs(around.argument())],
+    );
+}
+
 /// Writes what is wrong with an argument that is to hold statements, help or a program.
 fn put_no_statements(page: &mut Page, around: Around<'_>) {
     let argument = WordPart::Quoted(around.argument());
@@ -218,6 +248,10 @@ fn put_no_statements(page: &mut Page, around: Around<'_>) {
     );
     if around.is_program() {
         page.put(keys::PROGRAM_ARGUMENT, &[]);
+    } else if around.argument() == b"break".as_slice() {
+        page.put(keys::BREAK_ACTION, &[]);
+    } else if around.is_default() {
+        put_default(page, around);
     } else if !around.written().contains(&b'[') {
         page.put(keys::BARE_ARGUMENT, &[]);
     } else {
@@ -334,9 +368,13 @@ fn put_count(alloc: Global, page: &mut Page, around: Around<'_>) -> Result<(), A
     Ok(())
 }
 
-/// Writes what is wrong with a word that is an argument.
-fn put_argument_word(page: &mut Page, argument: &[u8]) {
-    match word_help(argument) {
+/// Writes what is wrong with a word that is an argument of this call.
+fn put_argument_word(page: &mut Page, call: &[u8], argument: &[u8]) {
+    if call.starts_with(b"AC_MSG_") && argument.contains(&b'`') {
+        page.put(keys::MESSAGE_BACKQUOTE, &[]);
+        return;
+    }
+    match argument_help(argument) {
         Some(found) => found.put(page),
         None => page.put(keys::NO_WORD, &[WordPart::Quoted(argument)]),
     }
@@ -353,7 +391,7 @@ fn put_value(page: &mut Page, rest: &[u8]) {
 /// Writes what is wrong with a word, or with text that has variables.
 fn put_word(page: &mut Page, around: Around<'_>) {
     if around.is_argument() {
-        put_argument_word(page, around.argument());
+        put_argument_word(page, around.call(), around.argument());
     } else {
         put_value(page, around.rest());
     }
@@ -436,6 +474,16 @@ fn put_rest(page: &mut Page, around: Around<'_>, fault: ParseFault) {
     }
 }
 
+/// Writes what is wrong with an argument.
+fn put_bad_name(page: &mut Page, around: Around<'_>) {
+    let (argument, call) = (around.argument(), around.call());
+    if argument.is_empty() && call.starts_with(b"AC_CONFIG_") {
+        page.put(keys::NAMES_NOTHING, &[WordPart::AsItIs(call)]);
+    } else {
+        put_bad_argument(page, first_line(argument), call);
+    }
+}
+
 /// Writes the words of a fault.
 fn put_fault(
     alloc: Global,
@@ -448,9 +496,7 @@ fn put_fault(
         ParseFault::UnknownMacro(_) => return put_unknown(alloc, page, around.name()),
         ParseFault::UnknownStatement(_) => return put_statement(alloc, page, around),
         ParseFault::ArgCount(_) => return put_count(alloc, page, around),
-        ParseFault::BadName(_) => {
-            put_bad_argument(page, first_line(around.argument()), around.call())
-        }
+        ParseFault::BadName(_) => put_bad_name(page, around),
         ParseFault::Shell(fault, _) => put_shell(page, around, fault),
         other => put_rest(page, around, other),
     }

@@ -17,9 +17,7 @@ AC_FUNC_CHECK 1 1
 AC_FUNC_GETMNTENT 0 0
 AC_FUNC_MBRTOWC 0 0
 AC_FUNC_SETVBUF_REVERSED 0 0
-AC_FUNC_STRERROR_R 0 0
 AC_FUNC_STRFTIME 0 0
-AC_FUNC_VPRINTF 0 0
 AC_HAVE_FUNCS 1 1
 AC_HAVE_HEADERS 1 1
 AC_HEADER_CHECK 1 1
@@ -67,7 +65,6 @@ AC_TYPE_SIGNAL 0 0
 AC_TYPE_SIZE_T 0 0
 AC_TYPE_SSIZE_T 0 0
 AC_VERBOSE 1 1
-AC_VPRINTF 0 0
 AC_WARN 1 1
 AS_MESSAGE 1 1
 AS_VAR_COPY 2 2
@@ -142,10 +139,12 @@ AC_FUNC_SELECT_ARGTYPES 0 0 the types are those of POSIX, without a check
 AC_FUNC_SETPGRP 0 0 SETPGRP_VOID is defined without a check
 AC_FUNC_STAT 0 0 the function is taken to work, and nothing is defined
 AC_FUNC_STRCOLL 0 0 no program is run, so a function that is there counts as one that works
+AC_FUNC_STRERROR_R 0 0 each call makes the checks, and not the first one alone
 AC_FUNC_STRNLEN 0 0 no program is run, and the object is in EXTRA_OBJS and not in LIBOBJS
 AC_FUNC_STRTOD 0 0 the function is taken to work, and nothing is defined
 AC_FUNC_UTIME_NULL 0 0 HAVE_UTIME_NULL is defined without a check
 AC_FUNC_VFORK 0 0 no program is run, so a function that is there counts as one that works
+AC_FUNC_VPRINTF 0 0 each call makes the check, and not the first one alone
 AC_GETGROUPS_T 0 0 GETGROUPS_T is gid_t without a check
 AC_GNU_SOURCE 0 0 only _GNU_SOURCE and __EXTENSIONS__ are defined, and config.h.in needs a line for each
 AC_HEADER_DIRENT 0 0 no other header and no library of directories is looked for
@@ -208,6 +207,7 @@ AC_UID_T 0 0 gid_t is taken to be there
 AC_USE_SYSTEM_EXTENSIONS 0 0 only _GNU_SOURCE and __EXTENSIONS__ are defined, and config.h.in needs a line for each
 AC_UTIME_NULL 0 0 HAVE_UTIME_NULL is defined without a check
 AC_VFORK 0 0 no program is run, so a function that is there counts as one that works
+AC_VPRINTF 0 0 each call makes the check, and not the first one alone
 AC_WORDS_BIGENDIAN 0 0 the macros of the compiler for the order of bytes decide, and no program is run
 AH_BOTTOM 1 1 the template of the header has to have its text
 AH_TEMPLATE 2 2 the template of the header has to have its line
