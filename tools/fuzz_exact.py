@@ -336,8 +336,9 @@ def of_language():
 
 
 def is_missing(value):
-    """Returns whether a run has not defined a name, or left a variable of a template as it is."""
-    return value is None or re.fullmatch(r"@\w+@", value)
+    """Returns whether a run has not defined a name, left a variable of a template as it is, or given it no value, as it does if a
+    statement that is not reached declares it."""
+    return not value or re.fullmatch(r"@\w+@", value)
 
 
 def beside_acrun(room, program, text, setting, names, defined, before):

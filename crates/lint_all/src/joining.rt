@@ -39,11 +39,13 @@ fn has_patterns(line: &[u8]) -> bool {
     }
 }
 
-/// Returns whether text goes on with a construct of the shell or ends it, or begins with the
-/// patterns of a `case`.
+/// Returns whether text goes on with a construct of the shell or ends it, begins with the patterns
+/// of a `case`, or is the value of a variable whose name is read as that of a macro.
 fn continues(rest: &[u8]) -> bool {
     let name = first_name(rest);
-    has_patterns(first_line(rest)) || CONTINUING.iter().any(|other| *other == name)
+    rest.starts_with(b"=")
+        || has_patterns(first_line(rest))
+        || CONTINUING.iter().any(|other| *other == name)
 }
 
 /// Returns whether an error is of the quotes of a copy, in which something was taken out. Those of

@@ -201,6 +201,13 @@ fn within_argument(word: &[u8]) -> &[u8] {
     word
 }
 
+/// Returns the word by which a statement is named that this text begins with.
+fn statement_word(text: &[u8]) -> &[u8] {
+    let word = first_word(text);
+    let inner = within_argument(word);
+    if inner.is_empty() { word } else { inner }
+}
+
 /// Writes what is wrong with text that is no statement, and that has no construct by which to say
 /// it.
 fn put_plain_text(alloc: Global, page: &mut Page, around: Around<'_>) -> Result<(), AllocError> {
@@ -217,8 +224,10 @@ fn put_plain_text(alloc: Global, page: &mut Page, around: Around<'_>) -> Result<
     if has_blank_after_equals(from(rest, name.len())) {
         page.put(keys::BLANK_AFTER_EQUALS, &[]);
     } else {
-        let word = within_argument(first_word(rest));
-        page.put(keys::NO_STATEMENT, &[WordPart::Quoted(word)]);
+        page.put(
+            keys::NO_STATEMENT,
+            &[WordPart::Quoted(statement_word(rest))],
+        );
     }
     Ok(())
 }
