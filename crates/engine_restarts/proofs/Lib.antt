@@ -7,5 +7,4 @@ mod Judging
 mod Tellings
 mod Starting
 mod Reports
-mod Counter
 mod Example

@@ -33,6 +33,7 @@
 mod declared;
 mod fault;
 mod help;
+pub mod mark_laws;
 mod opening;
 mod precious;
 mod reader;
@@ -44,5 +45,5 @@ pub use fault::PreciousFault;
 pub use help::help_text_of;
 pub use opening::mark_name;
 pub use options_line::{Directory, OptionFault, directories, srcdir_of};
-pub use precious::check_precious_of;
+pub use precious::{check_precious_of, value_before};
 pub use settings::{Settings, read_args_of};
