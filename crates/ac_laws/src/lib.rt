@@ -3,7 +3,8 @@
 //!
 //! There is no code here. Each function does nothing, and its contract is a theorem on the
 //! definitions of the crates that read a source. Read `specs/Signs.antt` (a text as signs) and
-//! `specs/Position.antt` (which calls are statements), then `specs/OutputList.antt` (lists of
+//! `specs/Position.antt` (which calls are statements), then `specs/Idle.antt` (text without an
+//! effect), `specs/Holding.antt` (arguments that hold a call), `specs/OutputList.antt` (lists of
 //! outputs) and `specs/Room.antt` (the variables of AC_PROG_CC).
 //!
 //! For example, say that the last line of a source is `x=1; AC_OUTPUT`. A space is before the call,

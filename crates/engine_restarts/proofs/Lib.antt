@@ -7,4 +7,5 @@ mod Judging
 mod Tellings
 mod Starting
 mod Reports
+mod Uncached
 mod Example

@@ -313,7 +313,12 @@ fn check(
 /// If only blanks have changed, the variable gets its old value, with a note about it. All
 /// variables are compared before any is changed.
 ///
-/// This takes time and memory in proportion to the cache and the variables.
+/// A precious variable may have the name of a mark of another one. It is compared by the value that
+/// it has before any mark, and is never changed.
+///
+/// This takes time and memory in proportion to the cache and the variables. For each name that
+/// begins with `ac_cv_env_`, and of which only blanks have changed, it also takes time in
+/// proportion to the precious variables.
 ///
 /// # Errors
 ///
