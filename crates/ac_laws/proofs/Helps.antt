@@ -1,9 +1,9 @@
 -- The help that an argument gives, and the program that one gives.
-use Rattle.std.proofs.Common.{◌≡◌, ◌↔◌, ◌⊎◌, inl, inr, ◌==◌, ◌&&◌, ◌||◌, Bool, true, false, cond, ℕ, suc, List, [], ◌∷◌, ◌++◌, length, codes, nat_eq, Option, Some, None, Result, Ok, Err, refl, sym, ap, subst, ◌∙◌, drop}
+use Rattle.std.proofs.Common.{◌≡◌, ◌↔◌, ◌⊎◌, inl, inr, ◌==◌, ◌&&◌, ◌||◌, Bool, true, false, cond, ℕ, suc, List, [], ◌∷◌, ◌++◌, length, codes, nat_eq, Option, Some, None, Result, Ok, Err, refl, sym, ap, subst, ◌∙◌, drop, arith}
 use Rattle.std.specs.List.{AllByRecursion, starts_with}
 use Rattle.std.specs.Str.{bytes_eq}
 use Rattle.std.proofs.lemmas.Bool.{and_parts}
-use Rattle.std.proofs.lemmas.Bool.Decides.{eqb_tells, Decides-eqb}
+use Rattle.std.proofs.lemmas.Bool.Decides.{Decides-eqb}
 use Rattle.std.proofs.lemmas.Slice.Eq.{bytes_eq-Decides, starts_is}
 use Rattle.m4quote.specs.declared.fault.QuoteFault.{QuoteFault}
 use Rattle.m4quote.specs.ItemValue.{Span, ItemValue, call, bare}
@@ -112,7 +112,7 @@ two : (args : List Span) → (length args == 2) ≡ true → (left : Span) × (r
 two [] e = absurd cc
 two (a ∷ []) e = absurd cc
 two (a ∷ b ∷ []) e = (a, b, refl)
-two (a ∷ b ∷ c ∷ more) e = absurd (let n : suc (suc (suc (length more))) ≡ 2 = eqb_tells (suc (suc (suc (length more)))) 2 e in omega n)
+two (a ∷ b ∷ c ∷ more) e = absurd (let n : suc (suc (suc (length more))) ≡ 2 = (Decides-eqb (suc (suc (suc (length more)))) 2).0 e in omega (arith, n))
 
 module _ (arg : Span) where
   entry : (items : List ItemValue) (c : Called) (given : Help) → HoldsItems arg items → IsCallAlone help_string items c → columns_of c.args c.at ≡ Ok given → IsHelp arg given
@@ -189,6 +189,7 @@ first_name (call name args at ∷ items) = name
 first_name (bare t at ∷ items) = first_name items
 
 named : (name : List ℕ) (c : Called) (before after : List ItemValue) → are_blank before ≡ true → first_name (before ++ call name c.args c.at ∷ after) ≡ name
+unfolding first_name
 named name c [] after e = refl
 named name c (call other args at ∷ before) after e = absurd cc
 named name c (bare t at ∷ before) after e = named name c before after (and_parts _ (are_blank before) e).1

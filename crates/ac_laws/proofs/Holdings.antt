@@ -1,7 +1,7 @@
 -- Which items an argument holds, and which call is alone among them.
 use Rattle.std.proofs.Common.{◌≡◌, ◌↔◌, ◌⊎◌, inl, inr, ◌&&◌, Bool, true, false, cond, ℕ, List, [], ◌∷◌, ◌++◌, Option, Some, None, Result, Ok, Err, refl, sym, ap, subst, ◌∙◌}
 use Rattle.std.specs.Str.{bytes_eq}
-use Rattle.std.proofs.lemmas.Bool.{and_parts, and_from}
+use Rattle.std.proofs.lemmas.Bool.{and_parts}
 use Rattle.std.proofs.lemmas.List.Folds.{list_all-append}
 use Rattle.std.proofs.lemmas.Slice.Eq.{bytes_eq-Decides}
 use Rattle.text_cut.specs.Cuts.{is_blank}
@@ -25,6 +25,9 @@ use Rattle.ac_laws.specs.Holding.{IsQuotedRun, HoldsItems, in_run, its_own, IsCa
 
 -- ---- the one bare text that is not blank
 
+both : {a c : Bool} → a ≡ true → c ≡ true → (a && c) ≡ true
+both {a} {c} e h = ap (λ x. x && c) e ∙ h
+
 only_all_but : (items : List ItemValue) (s : Span) → only_text items ≡ Some s → IsAllBut items s
 only_all_but [] s e = absurd cc
 only_all_but (call name args at ∷ items) s e = absurd cc
@@ -37,7 +40,7 @@ only_all_but (bare t at ∷ items) s e = by (is_all_blank t) refl (are_blank ite
         before = bare t at ∷ rest.before;
         after = rest.after;
         parts = ap (λ (l : List ItemValue). bare t at ∷ l) rest.parts;
-        blank_before = and_from blank rest.blank_before;
+        blank_before = both blank rest.blank_before;
         blank_after = rest.blank_after;
       }
   by false other true more h rec =
@@ -189,12 +192,12 @@ call_found name (bare t at ∷ items) c e = by (is_all_blank t) refl e (call_fou
         before = bare t at ∷ rest.before;
         after = rest.after;
         parts = ap (λ (l : List ItemValue). bare t at ∷ l) rest.parts;
-        blank_before = and_from blank rest.blank_before;
+        blank_before = both blank rest.blank_before;
         blank_after = rest.blank_after;
       }
 
 finds_call : (name : List ℕ) (before after : List ItemValue) (c : Called) → are_blank before ≡ true → are_blank after ≡ true → sole_call name (before ++ call name c.args c.at ∷ after) ≡ Some c
-finds_call name [] after c h k = ap (λ b. cond b (Some c) None) (and_from ((bytes_eq-Decides name name).1 refl) k)
+finds_call name [] after c h k = ap (λ b. cond b (Some c) None) (both ((bytes_eq-Decides name name).1 refl) k)
 finds_call name (call other args at ∷ before) after c h k = absurd cc
 finds_call name (bare t at ∷ before) after c h k =
     let parts = and_parts (is_all_blank t) (are_blank before) h in

@@ -1,8 +1,8 @@
 -- Bare text has no effect exactly if its value is blanks and comments alone.
 use Rattle.std.proofs.Common.{◌≡◌, ◌↔◌, ◌⊎◌, inl, inr, ◌==◌, ◌&&◌, ◌||◌, Bool, true, false, cond, not, ℕ, List, [], ◌∷◌, ◌++◌, Option, Some, None, Result, Ok, Err, refl, sym, ap, subst, ◌∙◌}
 use Rattle.std.specs.List.{list_all}
-use Rattle.std.proofs.lemmas.Bool.{and_parts, and_from}
-use Rattle.std.proofs.lemmas.Bool.Decides.{eqb_tells}
+use Rattle.std.proofs.lemmas.Bool.{and_parts}
+use Rattle.std.proofs.lemmas.Bool.Decides.{Decides-eqb}
 use Rattle.text_cut.specs.Cuts.{is_blank}
 use Rattle.m4quote.specs.declared.fault.QuoteFault.{QuoteFault}
 use Rattle.m4quote.specs.Scan.{bare_value_of}
@@ -20,14 +20,17 @@ data InComment : List ℕ → Type 0 where
   to_end : {line : List ℕ} → IsOneLine line → InComment line
   to_newline : (line rest : List ℕ) → IsOneLine line → IsIdle rest → InComment (line ++ newline ∷ rest)
 
+both : {a c : Bool} → a ≡ true → c ≡ true → (a && c) ≡ true
+both {a} {c} e h = ap (λ x. x && c) e ∙ h
+
 blank_first : (b : ℕ) {bs : List ℕ} → is_blank b ≡ true → IsIdle bs → IsIdle (b ∷ bs)
-blank_first b is (blanks h) = blanks (and_from is h)
-blank_first b is (last_comment before line h k) = last_comment (b ∷ before) line (and_from is h) k
-blank_first b is (comment before line rest h k later) = comment (b ∷ before) line rest (and_from is h) k later
+blank_first b is (blanks h) = blanks (both is h)
+blank_first b is (last_comment before line h k) = last_comment (b ∷ before) line (both is h) k
+blank_first b is (comment before line rest h k later) = comment (b ∷ before) line rest (both is h) k later
 
 line_first : (b : ℕ) {bs : List ℕ} → not (b == newline) ≡ true → InComment bs → InComment (b ∷ bs)
-line_first b is (to_end h) = to_end (and_from is h)
-line_first b is (to_newline line rest h later) = to_newline (b ∷ line) rest (and_from is h) later
+line_first b is (to_end h) = to_end (both is h)
+line_first b is (to_newline line rest h later) = to_newline (b ∷ line) rest (both is h) later
 
 comment_first : {bs : List ℕ} → InComment bs → IsIdle (number_sign ∷ bs)
 comment_first (to_end {line = line} h) = last_comment [] line refl h
@@ -44,13 +47,13 @@ says true [] e = to_end refl
 says false [] e = blanks refl
 says true (b ∷ bs) e = at (b == newline) refl e (says false bs) (says true bs) where
   at : (t : Bool) → (b == newline) ≡ t → is_idle_from (not t) bs ≡ true → (is_idle_from false bs ≡ true → IsIdle bs) → (is_idle_from true bs ≡ true → InComment bs) → InComment (b ∷ bs)
-  at true is h idle more = subst (λ n. InComment (n ∷ bs)) (sym (eqb_tells b newline is)) (to_newline [] bs refl (idle h))
+  at true is h idle more = subst (λ n. InComment (n ∷ bs)) (sym ((Decides-eqb b newline).0 is)) (to_newline [] bs refl (idle h))
   at false is h idle more = line_first b (ap not is) (more h)
 says false (b ∷ bs) e = at (b == number_sign) refl (is_blank b) refl e (says false bs) (says true bs) where
   at : (t : Bool) → (b == number_sign) ≡ t → (u : Bool) → is_blank b ≡ u
-      → (elim (cond t (Some true) (cond u (Some false) None)) as (λ o. Bool) [ Some comment ↦ is_idle_from comment bs | None ↦ false ]) ≡ true
+      → (elim (cond t (Some true) (cond u (Some false) None)) as (λ o. Bool) [ Some next ↦ is_idle_from next bs | None ↦ false ]) ≡ true
       → (is_idle_from false bs ≡ true → IsIdle bs) → (is_idle_from true bs ≡ true → InComment bs) → IsIdle (b ∷ bs)
-  at true is u blank h idle more = subst (λ n. IsIdle (n ∷ bs)) (sym (eqb_tells b number_sign is)) (comment_first (more h))
+  at true is u blank h idle more = subst (λ n. IsIdle (n ∷ bs)) (sym ((Decides-eqb b number_sign).0 is)) (comment_first (more h))
   at false is true blank h idle more = blank_first b blank (idle h)
   at false is false blank h idle more = absurd (cc)
 
@@ -59,7 +62,7 @@ says false (b ∷ bs) e = at (b == number_sign) refl (is_blank b) refl e (says f
 no_sign : (b : ℕ) → is_blank b ≡ true → (b == number_sign) ≡ false
 no_sign b h = at (b == number_sign) refl where
   at : (t : Bool) → (b == number_sign) ≡ t → t ≡ false
-  at true is = absurd (let blank : false ≡ true = ap is_blank (sym (eqb_tells b number_sign is)) ∙ h in cc)
+  at true is = absurd (let blank : false ≡ true = ap is_blank (sym ((Decides-eqb b number_sign).0 is)) ∙ h in cc)
   at false is = refl
 
 after_blanks : (before rest : List ℕ) → AreBlanks before → is_idle_from false (before ++ rest) ≡ is_idle_from false rest
@@ -67,8 +70,8 @@ unfolding is_idle_from
 after_blanks [] rest h = refl
 after_blanks (b ∷ before) rest h =
     let parts = and_parts (is_blank b) (list_all is_blank before) h in
-    ap (λ t. elim (cond t (Some true) (cond (is_blank b) (Some false) None)) as (λ o. Bool) [ Some comment ↦ is_idle_from comment (before ++ rest) | None ↦ false ]) (no_sign b parts.0)
-    ∙ ap (λ u. elim (cond u (Some false) None) as (λ o. Bool) [ Some comment ↦ is_idle_from comment (before ++ rest) | None ↦ false ]) parts.0
+    ap (λ t. elim (cond t (Some true) (cond (is_blank b) (Some false) None)) as (λ o. Bool) [ Some next ↦ is_idle_from next (before ++ rest) | None ↦ false ]) (no_sign b parts.0)
+    ∙ ap (λ u. elim (cond u (Some false) None) as (λ o. Bool) [ Some next ↦ is_idle_from next (before ++ rest) | None ↦ false ]) parts.0
     ∙ after_blanks before rest parts.1
 
 after_line : (line rest : List ℕ) → IsOneLine line → is_idle_from true (line ++ rest) ≡ is_idle_from true rest
@@ -83,8 +86,8 @@ unfolding is_idle_from
 all_blanks [] h = refl
 all_blanks (b ∷ bs) h =
     let parts = and_parts (is_blank b) (list_all is_blank bs) h in
-    ap (λ t. elim (cond t (Some true) (cond (is_blank b) (Some false) None)) as (λ o. Bool) [ Some comment ↦ is_idle_from comment bs | None ↦ false ]) (no_sign b parts.0)
-    ∙ ap (λ u. elim (cond u (Some false) None) as (λ o. Bool) [ Some comment ↦ is_idle_from comment bs | None ↦ false ]) parts.0
+    ap (λ t. elim (cond t (Some true) (cond (is_blank b) (Some false) None)) as (λ o. Bool) [ Some next ↦ is_idle_from next bs | None ↦ false ]) (no_sign b parts.0)
+    ∙ ap (λ u. elim (cond u (Some false) None) as (λ o. Bool) [ Some next ↦ is_idle_from next bs | None ↦ false ]) parts.0
     ∙ all_blanks bs parts.1
 
 one_line : (line : List ℕ) → IsOneLine line → is_idle_from true line ≡ true
@@ -103,7 +106,7 @@ idle_passes (comment before line rest h k later) =
 
 pub idle_has_no_effect : IdleHasNoEffect
 unfolding is_idle
-idle_has_no_effect text = (λ e. to (bare_value_of text) refl e, λ h. ap is_idle_value ((bare_value_is_value text h.0).1 h.1.0) ∙ idle_passes h.1.1) where
+idle_has_no_effect text = (λ e. to (bare_value_of text) refl e, λ h. ap is_idle_value ((bare_value_is_value text h.0).1 h.1) ∙ idle_passes h.2) where
   to : (r : Result (List ℕ) QuoteFault) → bare_value_of text ≡ r → is_idle_value r ≡ true → (value : List ℕ) × IsBareValue text value × IsIdle value
   to (Ok value) read e = (value, (bare_value_is_value text value).0 read, says false value e)
   to (Err f) read e = absurd (cc)

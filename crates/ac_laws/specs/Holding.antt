@@ -1,5 +1,5 @@
 -- Where an argument holds a call: AS_HELP_STRING in a help argument, and the program of a check.
-use Rattle.std.specs.Prelude.{◌≡◌, ◌↔◌, ℕ, List, [], ◌∷◌, ◌++◌, codes, Ok, Err, Some}
+use Rattle.std.specs.Prelude.{◌≡◌, ◌↔◌, ℕ, true, List, [], ◌∷◌, ◌++◌, codes, Ok, Err, Some}
 use Rattle.std.specs.List.{AllByRecursion}
 use Rattle.m4quote.specs.declared.fault.QuoteFault.{QuoteFault}
 use Rattle.m4quote.specs.Faults.{IsFirstFault}
