@@ -127,7 +127,7 @@ module _ (given : Given) (script : Script) (settings : Settings) where
 settles_other : (given : Given) (script : Script) → HasOther (source_settings given.arguments given.environment script)
 unfolding source_settings
 settles_other given script =
-    along (wants (nat_le (weight script) heaviest) (Plan TooLong)) (λ _. settled script given) (wants_other (nat_le (weight script) heaviest)) (λ _ _. by_name of_option option_other _)
+    along (wants (nat_le (weight script) heaviest) (Plan TooLong)) (λ _. settled script given) (wants_other (nat_le (weight script) heaviest)) (λ _ _. by_name of_option option_other (opening (lists_of script).features (lists_of script).packages (lists_of script).precious given.arguments given.environment))
 
 settles_finished : (given : Given) (script : Script) (settings : Settings) → source_settings given.arguments given.environment script ≡ Ok settings → AreFinished (lists_of script).precious settings.vars
 unfolding source_settings
