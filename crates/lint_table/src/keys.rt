@@ -938,6 +938,18 @@ pub const IS_UNSET: Key = Key(b"is-unset", b", and is now not set", b"");
 #[rattlefmt::skip]
 pub const WRONG_NO: Key = Key(b"wrong-no", b"\x01 may hold a wrong \"no\", as a program found no room: remove it", b"");
 
+/// CACHE may hold a wrong "no" of CHECK, REASON: remove it, and run again
+#[rattlefmt::skip]
+pub const WRONG_NO_IN_CACHE: Key = Key(b"wrong-no-in-cache", b"\x01 may hold a wrong \"no\" of \x02, \x03: remove it, and run again", b"");
+
+/// this run may have taken a wrong "no" of CHECK, REASON: run it again
+#[rattlefmt::skip]
+pub const WRONG_NO_IN_OUTPUTS: Key = Key(b"wrong-no-in-outputs", b"this run may have taken a wrong \"no\" of \x01, \x02: run it again", b"");
+
+/// CACHE has more than 4,194,304 bytes, so no run can read it again: remove it
+#[rattlefmt::skip]
+pub const LONG_CACHE: Key = Key(b"long-cache", b"\x01 has more than 4,194,304 bytes, so no run can read it again: remove it", b"");
+
 /// the file is no record of a run: it begins with LINE
 #[rattlefmt::skip]
 pub const NO_RECORD: Key = Key(b"no-record", b"the file is no record of a run: it begins with \x01", b"run acrun configure first; the config.status of GNU Autoconf is a script, and is not read");
