@@ -72,19 +72,19 @@ fn warnings_of<D: Disk>(
 }
 
 /// Writes warnings, and returns the exit status: that which is given, unless they can't be written.
-fn put_warnings<E: Write>(warnings: &[u8], status: u8, errors: &mut E) -> u8
-    requires { status ≤ 1 }
+fn put_warnings<E: Write>(warnings: &[u8], answer: u8, errors: &mut E) -> u8
+    requires { answer ≤ 1 }
     ensures bound { result ≤ 2 }
-    ensures status { result ≢ 2 → result ≡ status }
+    ensures status { result ≢ 2 → result ≡ answer }
     ensures warned { result ≢ 2
         → (errors.new ≡ errors.old)
         ⊎ ((page : List ℕ) × Appends (E.contents errors.old) (E.contents errors.new) page) }
 {
     if warnings.is_empty() {
-        return status;
+        return answer;
     }
     match errors.write_all(warnings) {
-        Ok(()) => status,
+        Ok(()) => answer,
         Err(_) => FAULT,
     }
 }

@@ -377,9 +377,18 @@ fn put_count(alloc: Global, page: &mut Page, around: Around<'_>) -> Result<(), A
     Ok(())
 }
 
+/// The macros whose first argument is a message.
+const MESSAGES: [&[u8]; 5] = [
+    b"AC_MSG_CHECKING",
+    b"AC_MSG_RESULT",
+    b"AC_MSG_NOTICE",
+    b"AC_MSG_WARN",
+    b"AC_MSG_ERROR",
+];
+
 /// Writes what is wrong with a word that is an argument of this call.
 fn put_argument_word(page: &mut Page, call: &[u8], argument: &[u8]) {
-    if call.starts_with(b"AC_MSG_") && argument.contains(&b'`') {
+    if MESSAGES.iter().any(|name| *name == call) && argument.contains(&b'`') {
         page.put(keys::MESSAGE_BACKQUOTE, &[]);
         return;
     }
@@ -483,10 +492,15 @@ fn put_rest(page: &mut Page, around: Around<'_>, fault: ParseFault) {
     }
 }
 
+/// Returns whether the first argument of a call of this name is a list of outputs.
+fn lists_outputs(name: &[u8]) -> bool {
+    name == b"AC_CONFIG_FILES".as_slice() || name == b"AC_CONFIG_HEADERS".as_slice()
+}
+
 /// Writes what is wrong with an argument.
 fn put_bad_name(page: &mut Page, around: Around<'_>) {
     let (argument, call) = (around.argument(), around.call());
-    if argument.is_empty() && call.starts_with(b"AC_CONFIG_") {
+    if argument.is_empty() && lists_outputs(call) {
         page.put(keys::NAMES_NOTHING, &[WordPart::AsItIs(call)]);
     } else {
         put_bad_argument(page, first_line(argument), call);

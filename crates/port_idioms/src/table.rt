@@ -52,6 +52,7 @@ AC_REVISION 0 1
 AC_SETVBUF_REVERSED 0 0
 AC_SIZE_T 0 0
 AC_STRUCT_TM 0 0
+AC_SYS_POSIX_TERMIOS 0 0
 AC_TEST_PROGRAM 1 4
 AC_TRY_COMPILE 2 4
 AC_TRY_CPP 1 3
@@ -96,13 +97,13 @@ AC_CHECK_FUNCS_ONCE 1 1 each is checked here, and not all of them together at th
 AC_CHECK_HEADERS_ONCE 1 1 each is checked here, and not all of them together at the first such call
 AC_CHECK_HEADER_STDBOOL 0 0 HAVE_STDBOOL_H is defined if the header is there
 AC_CHECK_MEMBER 1 3 the headers that Autoconf includes are taken to be there
-AC_CHECK_MEMBER(includes) 4 4 a bit-field counts as missing
+AC_CHECK_MEMBER(includes) 4 4 if the fourth argument is empty, no header is included
 AC_CHECK_MEMBERS 1 1 the headers that Autoconf includes are taken to be there
 AC_CHECK_MEMBERS(actions) 2 3 the headers that Autoconf includes are taken to be there
-AC_CHECK_MEMBERS(includes) 4 4 a bit-field counts as missing
+AC_CHECK_MEMBERS(includes) 4 4 if the fourth argument is empty, no header is included
 AC_CHECK_SIZEOF 1 2 the headers that Autoconf includes are taken to be there, and a size other than 1, 2, 4, 8, 12 and 16 is an error
-AC_CHECK_TARGET_TOOL 2 3 no program whose name begins with that of the host is looked for
-AC_CHECK_TARGET_TOOLS 2 3 no program whose name begins with that of the host is looked for
+AC_CHECK_TARGET_TOOL 2 3 no program whose name begins with that of the target is looked for, and no system is detected
+AC_CHECK_TARGET_TOOLS 2 3 no program whose name begins with that of the target is looked for, and no system is detected
 AC_CHECK_TOOL 2 3 no program whose name begins with that of the host is looked for
 AC_CHECK_TOOLS 2 3 no program whose name begins with that of the host is looked for
 AC_COMPILE_CHECK 3 5 what is checked is not printed
@@ -145,14 +146,14 @@ AC_FUNC_STRTOD 0 0 the function is taken to work, and nothing is defined
 AC_FUNC_UTIME_NULL 0 0 HAVE_UTIME_NULL is defined without a check
 AC_FUNC_VFORK 0 0 no program is run, so a function that is there counts as one that works
 AC_FUNC_VPRINTF 0 0 each call makes the check, and not the first one alone
-AC_GETGROUPS_T 0 0 GETGROUPS_T is gid_t without a check
+AC_GETGROUPS_T 0 0 GETGROUPS_T is gid_t without a check, and uid_t is not looked for
 AC_GNU_SOURCE 0 0 only _GNU_SOURCE and __EXTENSIONS__ are defined, and config.h.in needs a line for each
 AC_HEADER_DIRENT 0 0 no other header and no library of directories is looked for
 AC_HEADER_RESOLV 0 0 resolv.h counts as missing if one of the other headers is missing
 AC_HEADER_STDBOOL 0 0 HAVE_STDBOOL_H is defined if the header is there
 AC_HEADER_STDC 0 0 STDC_HEADERS is defined without a check
 AC_HEADER_SYS_WAIT 0 0 the header counts as that of POSIX if it is there
-AC_HEADER_TIME 0 0 TIME_WITH_SYS_TIME is defined without a check
+AC_HEADER_TIME 0 0 TIME_WITH_SYS_TIME is defined without a check, and sys/time.h is looked for here alone
 AC_HEADER_TIOCGWINSZ 0 0 a program is compiled, and no text is searched for
 AC_INLINE 0 0 inline is not defined, also where a flag such as -ansi takes it away
 AC_LANG_C 0 0 C is the only language
@@ -182,10 +183,9 @@ AC_STRCOLL 0 0 no program is run, so a function that is there counts as one that
 AC_STRUCT_TIMEZONE 0 0 the programs are others, and struct tm is taken to be in time.h
 AC_SYS_LARGEFILE 0 0 _FILE_OFFSET_BITS is defined on each system, and --disable-largefile is not read
 AC_SYS_LONG_FILE_NAMES 0 0 HAVE_LONG_FILE_NAMES is defined without a check
-AC_SYS_POSIX_TERMIOS 0 0 the program includes termios.h alone
 AC_TIMEZONE 0 0 the programs are others, and struct tm is taken to be in time.h
-AC_TIME_WITH_SYS_TIME 0 0 TIME_WITH_SYS_TIME is defined without a check
-AC_TYPE_GETGROUPS 0 0 GETGROUPS_T is gid_t without a check
+AC_TIME_WITH_SYS_TIME 0 0 TIME_WITH_SYS_TIME is defined without a check, and sys/time.h is looked for here alone
+AC_TYPE_GETGROUPS 0 0 GETGROUPS_T is gid_t without a check, and uid_t is not looked for
 AC_TYPE_INT16_T 0 0 nothing is defined, and the sources take the type from stdint.h
 AC_TYPE_INT32_T 0 0 nothing is defined, and the sources take the type from stdint.h
 AC_TYPE_INT64_T 0 0 nothing is defined, and the sources take the type from stdint.h
@@ -195,7 +195,7 @@ AC_TYPE_INTPTR_T 0 0 nothing is defined, and the sources take the type from stdi
 AC_TYPE_LONG_DOUBLE 0 0 nothing is defined, and the compiler is taken to have it
 AC_TYPE_LONG_LONG_INT 0 0 nothing is defined, and the compiler is taken to have it
 AC_TYPE_MBSTATE_T 0 0 nothing is defined, and the compiler is taken to have it
-AC_TYPE_UID_T 0 0 gid_t is taken to be there
+AC_TYPE_UID_T 0 0 a program is compiled, and the text of sys/types.h is not searched
 AC_TYPE_UINT16_T 0 0 nothing is defined, and the sources take the type from stdint.h
 AC_TYPE_UINT32_T 0 0 nothing is defined, and the sources take the type from stdint.h
 AC_TYPE_UINT64_T 0 0 nothing is defined, and the sources take the type from stdint.h
@@ -203,7 +203,7 @@ AC_TYPE_UINT8_T 0 0 nothing is defined, and the sources take the type from stdin
 AC_TYPE_UINTMAX_T 0 0 nothing is defined, and the sources take the type from stdint.h
 AC_TYPE_UINTPTR_T 0 0 nothing is defined, and the sources take the type from stdint.h
 AC_TYPE_UNSIGNED_LONG_LONG_INT 0 0 nothing is defined, and the compiler is taken to have it
-AC_UID_T 0 0 gid_t is taken to be there
+AC_UID_T 0 0 a program is compiled, and the text of sys/types.h is not searched
 AC_USE_SYSTEM_EXTENSIONS 0 0 only _GNU_SOURCE and __EXTENSIONS__ are defined, and config.h.in needs a line for each
 AC_UTIME_NULL 0 0 HAVE_UTIME_NULL is defined without a check
 AC_VFORK 0 0 no program is run, so a function that is there counts as one that works
