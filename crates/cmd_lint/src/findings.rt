@@ -149,20 +149,16 @@ pub(crate) fn warnings_in<D: Disk>(
     linted: &Linted,
 ) -> Result<Warnings, AllocError> {
     let text = linted.text.as_slice();
-    let mut findings = Vec::new(alloc);
+    let mut found = Vec::new(alloc);
     let source = parsed(alloc, text)?;
-    let sheets = sheets_for(alloc, disk, linted, &source, &mut findings)?;
+    let sheets = sheets_for(alloc, disk, linted, &source, &mut found)?;
     let calls = calls_of(alloc, text)?;
-    add_all_warnings(
-        alloc,
-        text,
-        calls.as_slice(),
-        &source,
-        &sheets,
-        &mut findings,
-    )?;
-    put_in_order(&mut findings)?;
-    Ok(Warnings { findings, sheets })
+    add_all_warnings(alloc, text, calls.as_slice(), &source, &sheets, &mut found)?;
+    put_in_order(&mut found)?;
+    Ok(Warnings {
+        findings: found,
+        sheets,
+    })
 }
 
 /// Returns what is found in a source, in order of place: its errors, the templates that are not

@@ -13,7 +13,7 @@
 //! Read `command`, then `reading`, which reads a source, `findings`, which finds, and `showing`.
 //! `words` reads the words of the command, `templates` the templates of a source, and `reasons` says
 //! of a statement of a shell why no call can be put in its place, and `differing` has the warnings
-//! that `port` prints too.
+//! of what means another thing to Autoconf.
 #![tactic(auto)]
 
 mod command;
