@@ -14,8 +14,8 @@ wrote may be an error for `acrun lint` that the source does not have.
 tools/seeded_compiler.c answers the programs, by what they ask.
 A difference is allowed if a line `~ ` of macros.txt states it for a macro of the source, or one of the sentences below of docs/language.md.
 
-With --idioms a source has also calls of the macros that have a line `& `, if Autoconf itself has them, and port is given that switch. Then
-what is printed and the order of definitions are not compared, and of the cache variables only those that are named in what port writes: a
+With --idioms a source has also calls of the macros that have a line `& `, if Autoconf itself has them, and port is given that switch. If
+there is such a call, what is printed and the order of definitions are not compared, and of the cache variables only those that are named in what port writes: a
 sentence of docs/running.md says so. A line `? ` of a macro with a line `& ` states differences too.
 Prints the differences of each source that has some, and last a count. The exit status is 1 if one differs. It needs Autoconf 2.71, m4 and a
 C compiler.
@@ -347,6 +347,9 @@ OF_JOINTS = (
     "If an unquoted variable is empty or has a blank, the whole `test` is an error for a shell, and after `port` only its part of it.",
 )
 
+# What docs/running.md states of an unquoted variable in a test, so that no source with idioms that differ has one.
+OF_WORDS = ("running", "a shell makes no word of it if it is empty, and several if it has blanks")
+
 # What docs/running.md states of a source without AC_PROG_CC, so that acrun is given none.
 OF_COMPILER = ("running", "linked and CC has no word, the run prints `configure: error: no acceptable C compiler found in $PATH`")
 
@@ -408,6 +411,7 @@ def compared(room, text, ported, settings, switches, program=""):
     names = template_names(bodies[0])
     assigned = sorted({*re.findall(r"\b([A-Za-z_]\w*)=", text + ported), *(["INSTALL"] if "AC_PROG_INSTALL" in text else [])})
     patterns, found, defined = stated(text, switches == IDIOMS), [], candidates(bodies, ported)
+    has_other_idiom = switches == IDIOMS and any(is_word(name, text) for name, *_ in others())
     for setting in settings:
         by_acrun = program and is_for_acrun(setting)
         creates = bool(by_acrun) or setting.seed % 4 == 0
@@ -416,7 +420,7 @@ def compared(room, text, ported, settings, switches, program=""):
         runs = [left(room, it, setting, names, assigned, defined, creates) for it in dict.fromkeys(bodies)]
         runs = [runs[0], runs[-1]]
         differs = differences(*runs)
-        differs = of_idioms(differs, bodies[1]) if switches == IDIOMS else differs
+        differs = of_idioms(differs, bodies[1]) if has_other_idiom else differs
         differs = {name: it for name, it in differs.items() if not is_stated(name, patterns, it[0])}
         if any("yntax error" in it for it in runs[0]["standard error"]):
             return "refused"
@@ -510,7 +514,7 @@ ARGUMENTS_OF_OTHERS = {
     "AH_TEMPLATE": [("FOO", "BAR"), TEXTS],
     "AH_TOP": [TEXTS],
     "AH_VERBATIM": [("FOO", "BAR"), ("[#undef FOO]",)],
-    "AS_EXIT": [("0", "3")],
+    "AS_EXIT": [("1", "3")],
     "AS_UNSET": [("v1", "level")],
     "AS_VAR_SET_IF": [("fz_none", "PACKAGE_NAME"), "action", "action"],
     "m4_pattern_forbid": [("^FZ_NEVER",)],
@@ -657,6 +661,9 @@ class Maker:
         return f"AC_COMPILE_IFELSE([AC_LANG_PROGRAM([[{self.one(INCLUDES)}]], [[{self.one(BODIES)}]])], {self.action(depth)}, {self.action(depth)})"
 
     def word(self):
+        if self.all_idioms:
+            said(*OF_WORDS)
+            return self.one_word()
         return self.one([*ONE_WORD, "$enable_foo", "x$enable_foo", "x$v2", "$with_bar"])
 
     def one_word(self):
@@ -923,7 +930,7 @@ def unescaped(text):
 FILES = (
     ("exact/sources.txt", ("",), ()),
     ("port/sources.txt", ("shell-", "defines-", "arguments-", "lists-"), ()),
-    ("port/idioms.txt", ("idioms-echo",), ("--idioms",)),
+    ("port/idioms.txt", ("idioms-echo", "idioms-readers", "idioms-words", "idioms-empty", "idioms-before"), IDIOMS),
 )
 
 

@@ -98,6 +98,7 @@ AC_CHECK_HEADERS([resolv.h], [], [], [#include <sys/types.h>
 AC_CHECK_HEADERS([$1{HEADERS}])~idiom AC_CHECK_FUNCS_ONCE
 AC_CHECK_FUNCS([$1{FUNCTIONS}])~idiom AC_CHECK_DECLS_ONCE
 AC_CHECK_DECLS([$1{SYMBOLS}])~idiom AC_HAVE_LIBRARY
+dnl FUNCTION is one that the library has
 AC_CHECK_LIB([$1!{LIBRARY}], [FUNCTION])~idiom AC_FUNC_ALLOCA AC_ALLOCA
 AC_CHECK_HEADERS([alloca.h])
 AC_DEFINE([HAVE_ALLOCA], [1], [Define to 1 if you have alloca, as a function or macro.])
@@ -213,6 +214,7 @@ AC_SUBST([SHELL], [/bin/sh])~idiom AC_OBJEXT
 AC_SUBST([OBJEXT], [o])~idiom AC_EXEEXT
 AC_SUBST([EXEEXT])~idiom AC_ARG_PROGRAM
 AC_SUBST([program_transform_name], ['s,x,x,'])~idiom PKG_CHECK_MODULES PKG_CHECK_MODULES_STATIC PKG_HAVE_DEFINE_WITH_MODULES PKG_HAVE_WITH_MODULES
+dnl LIBRARY is what -l names
 AC_ARG_VAR([$1!{NAME}_CFLAGS], [flags that compile with $1!{NAME}])
 AC_ARG_VAR([$1!{NAME}_LIBS], [flags that link with $1!{NAME}])
 AS_IF([test -z \"$$1!{NAME}_LIBS\"], [$1!{NAME}_LIBS=-lLIBRARY])
@@ -239,6 +241,7 @@ AC_LINK_IFELSE([AC_LANG_PROGRAM([[$2{INCLUDES}]], [[$3{BODY}]])],
   [$4{FOUND}], [$5{NOT-FOUND}])~idiom AC_CACHE_VAL
 AC_CACHE_CHECK([for $1!{NAME_cv_NAME}], [$1!{NAME_cv_NAME}],
   [$2{COMMANDS}])~idiom AC_EGREP_CPP
+dnl SYMBOL is what the text tests
 AC_PREPROC_IFELSE([AC_LANG_SOURCE([[#include <stdio.h>
 #ifndef SYMBOL
 #error none
@@ -411,6 +414,7 @@ AC_SUBST([EXTRA_OBJS])~idiom AC_LIBOBJ
 EXTRA_OBJS=\"$EXTRA_OBJS $1!{NAME}.o\"
 AC_SUBST([EXTRA_OBJS])~drop AC_CONFIG_LIBOBJ_DIR AC_LIBSOURCE AC_LIBSOURCES
 the Makefile says where the sources of the objects are~idiom AC_PATH_PROGS
+dnl one line for each program of the list, in its order
 AC_PATH_PROG([$1!{VARIABLE}], [PROGRAM])
 AS_IF([test -z \"$$1!{VARIABLE}\"], [AC_PATH_PROG([$1!{VARIABLE}], [NEXT])])~none AC_PATH_PROGS_FEATURE_CHECK
 no program that is found is run: let the user give its name by AC_ARG_VAR~none AC_CONFIG_COMMANDS AC_CONFIG_COMMANDS_PRE AC_CONFIG_COMMANDS_POST AC_CONFIG_LINKS AC_CONFIG_SUBDIRS AC_LINK_FILES AC_OUTPUT_COMMANDS AC_CONFIG_TESTDIR AC_CONFIG_ITEMS

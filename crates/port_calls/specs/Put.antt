@@ -1,7 +1,7 @@
 -- What is put in the place of a call.
-use Rattle.std.specs.Prelude.{◌≡◌, ◌⊎◌, ℕ, ◌==◌, ◌||◌, Bool, true, false, List, [], ◌∷◌, ◌++◌, length, map, slice_get, Option, Some, codes, if◌then◌else◌}
+use Rattle.std.specs.Prelude.{◌≡◌, ◌⊎◌, ℕ, suc, ◌==◌, ◌||◌, Bool, true, false, List, [], ◌∷◌, ◌++◌, length, map, slice_get, Option, Some, bytes_eq, codes, if◌then◌else◌}
 use Rattle.std.specs.List.{flat_map, list_all}
-use Rattle.text_cut.specs.Cuts.{parts}
+use Rattle.text_cut.specs.Cuts.{fields, parts, trimmed}
 use Rattle.lint_macros.specs.Entries.{entry_of}
 use Rattle.lint_macros.specs.Members.{entry_name, takes_list}
 use Rattle.lint_macros.specs.declared.text.TheConstants.{TABLE}
@@ -22,6 +22,12 @@ arg_text text arg = part text arg.start arg.end
 abbrev pub row_name : List ℕ → MacroCall → List ℕ
 row_name text c = if c.is_of_profile then codes "AC_OUTPUT(files)" else entry_name (part text c.start c.name_end) (length c.args)
 
+-- The number of arguments that are given: none, if the only one has nothing but blanks. To m4 that is the same. (own)
+abbrev pub count_of : List ℕ → List Extent → ℕ
+count_of text [] = 0
+count_of text (arg ∷ []) = if length (trimmed (arg_text text arg)) == 0 then 0 else 1
+count_of text (arg ∷ next ∷ more) = suc (suc (length more))
+
 -- What the table of macros puts in the place of a call: the text of an idiom, or nothing if the call has no meaning. (own)
 unfoldable pub put_for : List ℕ → MacroCall → Option (List ℕ)
 put_for text c = put_by (entry_of (row_name text c) TABLE.now)
@@ -34,15 +40,34 @@ is_space b = b == 32 || b == 9 || b == 13
 abbrev pub DoesNothing : List ℕ → Type 0
 DoesNothing put = (put ≡ []) ⊎ (put ≡ codes ":")
 
+-- A line of a text as a comment, with a newline and the indent after it. (own)
+abbrev pub comment_line : List ℕ → List ℕ → List ℕ
+comment_line indent line = codes "dnl " ++ (line ++ 10 ∷ indent)
+
+-- The lines of a text as comments. (own)
+unfoldable pub comment_of : List ℕ → List ℕ → List ℕ
+comment_of indent text = flat_map (comment_line indent) (parts 10 text)
+
+-- The call says something to readers alone: this text, its first argument. (own)
+pub record Says (text : List ℕ) (c : MacroCall) (said : List ℕ) : Type 0 where
+  pub macro : (bytes_eq (row_name text c) (codes "AC_COPYRIGHT") || bytes_eq (row_name text c) (codes "AC_REVISION")) ≡ true
+  pub arg : Extent
+  pub more : List Extent
+  pub first : c.args ≡ arg ∷ more
+  pub is : said ≡ text_of (Some (arg_text text arg))
+
 -- What may be put in the place of a call: the idiom that the table has for it, with the call's own arguments and some blanks as the
--- indent; or nothing, or `:`, if the table puts nothing there. (own)
+-- indent; or, if the table puts nothing there, nothing, or `:`, or what the call says to readers, as a comment. A newline and blanks may
+-- follow. (own)
 pub data IsPut (text : List ℕ) (c : MacroCall) : List ℕ → Type 0 where
   idiom : (it indent : List ℕ) → put_for text c ≡ Some it → list_all is_space indent ≡ true → IsPut text c (filled (map (arg_text text) c.args) indent it)
   dropped : (put : List ℕ) → put_for text c ≡ Some [] → DoesNothing put → IsPut text c put
+  kept : (said indent : List ℕ) → put_for text c ≡ Some [] → Says text c said → list_all is_space indent ≡ true → IsPut text c (comment_of indent said)
+  lined : (put indent : List ℕ) → IsPut text c put → list_all is_space indent ≡ true → IsPut text c (put ++ 10 ∷ indent)
 
 -- The idiom of the call, or that it has no meaning, is exact for so many arguments as it has. (own)
 abbrev pub IsExactFor : List ℕ → MacroCall → Type 0
-IsExactFor text c = IsExact (row_name text c) (length c.args)
+IsExactFor text c = IsExact (row_name text c) (count_of text c.args)
 
 -- ---- idioms that differ
 
@@ -51,10 +76,24 @@ abbrev pub each_of : List (List ℕ) → List (List (List ℕ))
 each_of [] = []
 each_of (list ∷ more) = map (λ name. name ∷ more) (parts 44 (text_of (Some list)))
 
+-- The same for a list of words. (own)
+abbrev pub each_word : List (List ℕ) → List (List (List ℕ))
+each_word [] = []
+each_word (list ∷ more) = map (λ name. name ∷ more) (fields (text_of (Some list)))
+
+-- The first argument of the macro is a list of words, and its idiom is written once with each. (own)
+abbrev pub writes_each_word : List ℕ → Bool
+writes_each_word name = bytes_eq name (codes "AC_REPLACE_FUNCS")
+
 -- The arguments that the idiom is written with, once with each of these. (own)
 abbrev pub written_with : Bool → List (List ℕ) → List (List (List ℕ))
 written_with true args = each_of args
 written_with false args = args ∷ []
+
+-- The same for a macro of which the first argument may be a list of words. (own)
+abbrev pub written_as : Bool → Bool → List (List ℕ) → List (List (List ℕ))
+written_as true is_list args = each_word args
+written_as false is_list args = written_with is_list args
 
 -- The line of comment above an idiom in the place of this macro: its name, and in what the idiom differs. (own)
 unfoldable pub difference : List ℕ → List ℕ → List ℕ
@@ -70,10 +109,12 @@ noted comment indent it calls = comment ++ flat_map (below indent it) calls
 
 -- What may be put in the place of a call below a comment: the idiom that the table has for it, though it differs from the macro, with
 -- the call's own arguments and some blanks as the indent; it is empty if the table puts nothing there. The comment says in what it
--- differs. (own)
+-- differs. What the call says to readers may follow, as a comment, and so may a newline and blanks. (own)
 pub data IsNoted (text : List ℕ) (c : MacroCall) : List ℕ → Type 0 where
-  idiom : (it indent said : List ℕ) → put_for text c ≡ Some it → list_all is_space indent ≡ true → Differs (row_name text c) (length c.args) said
-      → IsNoted text c (noted (difference (row_name text c) said) indent it (written_with (takes_list (row_name text c)) (map (arg_text text) c.args)))
+  idiom : (it indent said : List ℕ) → put_for text c ≡ Some it → list_all is_space indent ≡ true → Differs (row_name text c) (count_of text c.args) said
+      → IsNoted text c (noted (difference (row_name text c) said) indent it (written_as (writes_each_word (row_name text c)) (takes_list (row_name text c)) (map (arg_text text) c.args)))
+  kept : (put said indent : List ℕ) → IsNoted text c put → put_for text c ≡ Some [] → Says text c said → list_all is_space indent ≡ true → IsNoted text c (put ++ comment_of indent said)
+  lined : (put indent : List ℕ) → IsNoted text c put → list_all is_space indent ≡ true → IsNoted text c (put ++ 10 ∷ indent)
 
 -- What may be put in the place of a call: what is exact, and if all idioms are wanted, also an idiom that differs, below its comment.
 -- (own)

@@ -1,6 +1,6 @@
 //! What the calls of a text become.
 
-ghost use Rattle.std.specs.Prelude.{◌≡◌, Some, [], true, length, map, IfOk, IfSome};
+ghost use Rattle.std.specs.Prelude.{◌≡◌, ◌∷◌, ◌++◌, Some, [], true, length, map, IfOk, IfSome, OnOk};
 ghost use Rattle.std.specs.List.{list_all};
 ghost use Rattle.ac_calls.specs.Calls.{macro_call_of};
 ghost use Rattle.port_idioms.specs.Exact.{text_of};
@@ -11,6 +11,7 @@ use crate::around::{
     before_idle, begins_statement, ends_statement, indent_of, line_indent, space_len,
 };
 use crate::bare::bare_in;
+use crate::keeping::{comment_of, put_comment, said_by};
 use crate::noting::noted_text;
 use crate::spots::Spot;
 use ac_calls::{CallAt, Extent};
@@ -18,6 +19,7 @@ use lint_macros::{Index, entry_name};
 use lint_text::{from, part};
 use port_idioms::{Exact, Idioms, Other, exact_of, filled, other_of};
 use std::alloc::{AllocError, Global};
+use text_cut::trim;
 
 /// What a part of the text is replaced by.
 #[derive(Drop)]
@@ -99,6 +101,25 @@ pub(crate) fn name_of<'a>(text: &'a [u8], call: &CallAt) -> &'a [u8]
     }
 }
 
+/// Returns the number of arguments that are given: none, if the only one has nothing but blanks.
+fn count_of(text: &[u8], args: &[Extent]) -> usize
+    ensures { result ≡ specs.count_of text.now args.now }
+{
+    match args.split_first() {
+        None => 0,
+        Some((arg, more)) => match more.split_first() {
+            None => {
+                if trim(part(text, arg.start, arg.end)).is_empty() {
+                    0
+                } else {
+                    1
+                }
+            }
+            Some(_) => args.len(),
+        },
+    }
+}
+
 /// Returns the change of a call to a text.
 fn change_to(call: &CallAt, put: Vec<u8>) -> Change
     ensures { result.put.items ≡ put.items }
@@ -107,6 +128,82 @@ fn change_to(call: &CallAt, put: Vec<u8>) -> Change
         start: call.start,
         end: call.end,
         put,
+    }
+}
+
+/// Returns whether m4 drops the rest of the line after a call, and so joins what is put in its
+/// place to the next line.
+fn joins_next_line(text: &[u8], call: &CallAt) -> bool {
+    let after = call.end.saturating_add(space_len(from(text, call.end)));
+    from(text, after).starts_with(b"dnl")
+}
+
+/// Returns whether the last line of an idiom that begins at its margin is one of AS_IF. Autoconf ends
+/// no line after that.
+fn ends_in_choice(idiom: &[u8]) -> bool {
+    let mut found = false;
+    for line in idiom.split(|byte| *byte == b'\n') {
+        if line.first().is_some_and(|byte| byte.is_ascii_uppercase()) {
+            found = line.starts_with(b"AS_IF(");
+        }
+    }
+    found
+}
+
+/// Returns whether an idiom in the place of a call would be joined to the next line.
+fn is_joined(text: &[u8], call: &CallAt, idiom: &[u8]) -> bool {
+    joins_next_line(text, call) && ends_in_choice(idiom)
+}
+
+/// Appends a newline and the indent.
+fn end_line(out: &mut Vec<u8>, indent: &[u8]) -> Result<(), AllocError>
+    ensures { OnOk result (out.new.items ≡ out.old.items ++ (10 ∷ indent.now)) }
+{
+    out.push(b'\n')?;
+    out.extend_from_slice(indent)
+}
+
+/// Returns what is put in the place of a call, with a newline after an idiom that would be joined to
+/// the next line.
+fn put_apart(
+    text: &[u8],
+    indent: &[u8],
+    call: &CallAt,
+    idiom: &[u8],
+    put: Vec<u8>,
+) -> Result<Vec<u8>, AllocError>
+    requires indent { list_all specs.is_space indent.now ≡ true }
+    requires put { specs.IsPut text.now (macro_call_of call.now) put.items }
+    ensures { IfOk result (λ v. specs.IsPut text.now (macro_call_of call.now) v.items) }
+{
+    if is_joined(text, call, idiom) {
+        let mut out = put;
+        end_line(&mut out, indent)?;
+        Ok(out)
+    } else {
+        Ok(put)
+    }
+}
+
+/// Returns what is put in the place of a call below a comment, with a newline after an idiom that
+/// would be joined to the next line.
+fn noted_apart(
+    text: &[u8],
+    indent: &[u8],
+    call: &CallAt,
+    idiom: &[u8],
+    put: Vec<u8>,
+) -> Result<Vec<u8>, AllocError>
+    requires indent { list_all specs.is_space indent.now ≡ true }
+    requires put { specs.IsNoted text.now (macro_call_of call.now) put.items }
+    ensures { IfOk result (λ v. specs.IsNoted text.now (macro_call_of call.now) v.items) }
+{
+    if is_joined(text, call, idiom) {
+        let mut out = put;
+        end_line(&mut out, indent)?;
+        Ok(out)
+    } else {
+        Ok(put)
     }
 }
 
@@ -163,7 +260,10 @@ fn to_idiom(
         return Ok(None);
     }
     match idiom_text(alloc, text, spot, call, idiom)? {
-        Some(put) => Ok(Some(change_to(call, put))),
+        Some(text_put) => {
+            let put = put_apart(text, line_indent(text, spot), call, idiom, text_put)?;
+            Ok(Some(change_to(call, put)))
+        }
         None => Ok(None),
     }
 }
@@ -232,12 +332,13 @@ fn to_nothing(
 
 /// Macros that Autoconf draws out of the argument of another call, as a whole or in part, and so
 /// does them in any case. Their idioms are done only if the action is.
-const DRAWN: [&[u8]; 5] = [
+const DRAWN: [&[u8]; 6] = [
     b"AC_PROG_INSTALL",
     b"AC_PROG_MKDIR_P",
     b"AC_PROG_CPP",
     b"AC_HEADER_MAJOR",
     b"AC_OBJEXT",
+    b"AC_ARG_PROGRAM",
 ];
 
 /// Returns whether Autoconf draws a macro of this name out of an argument.
@@ -272,6 +373,99 @@ fn left_out(
     Ok(Some(change))
 }
 
+/// Returns the offset of the next line, if nothing follows a call on its line.
+fn next_line(text: &[u8], call: &CallAt) -> Option<usize> {
+    let after = call.end.saturating_add(space_len(from(text, call.end)));
+    if text.get(after) == Some(&b'\n') {
+        Some(after.saturating_add(1))
+    } else {
+        None
+    }
+}
+
+/// Returns the change of a call, and of what is after it up to an offset, to what it says to
+/// readers, as a comment.
+fn kept_until(
+    alloc: Global,
+    text: &[u8],
+    indent: &[u8],
+    call: &CallAt,
+    said: &[u8],
+    end: usize,
+) -> Result<Change, AllocError>
+    requires dropped { specs.put_for text.now (macro_call_of call.now) ≡ Some [] }
+    requires said { specs.Says text.now (macro_call_of call.now) said.now }
+    requires indent { list_all specs.is_space indent.now ≡ true }
+    ensures { IfOk result (λ change.
+        specs.IsPut text.now (macro_call_of call.now) change.put.items) }
+{
+    let put = comment_of(alloc, said, indent)?;
+    Ok(Change {
+        start: call.start,
+        end,
+        put,
+    })
+}
+
+/// Returns the change of a call to what it says to readers, as a comment.
+fn kept(
+    alloc: Global,
+    text: &[u8],
+    spot: Spot,
+    call: &CallAt,
+    said: &[u8],
+) -> Result<Change, AllocError>
+    requires dropped { specs.put_for text.now (macro_call_of call.now) ≡ Some [] }
+    requires said { specs.Says text.now (macro_call_of call.now) said.now }
+    ensures { IfOk result (λ change.
+        specs.IsPut text.now (macro_call_of call.now) change.put.items) }
+{
+    match next_line(text, call) {
+        Some(end) => kept_until(alloc, text, b"", call, said, end),
+        None => kept_until(alloc, text, line_indent(text, spot), call, said, call.end),
+    }
+}
+
+/// Returns the change of a call to what it says to readers, as a comment, or to nothing if a comment
+/// can't be at its place.
+fn kept_or_left_out(
+    alloc: Global,
+    known: &Known,
+    text: &[u8],
+    spot: Spot,
+    call: &CallAt,
+    said: &[u8],
+) -> Result<Option<Change>, AllocError>
+    requires dropped { specs.put_for text.now (macro_call_of call.now) ≡ Some [] }
+    requires said { specs.Says text.now (macro_call_of call.now) said.now }
+    ensures { IfOk result (λ o.
+        IfSome o (λ change. specs.IsPut text.now (macro_call_of call.now) change.put.items)) }
+{
+    if said.is_empty() || !known.has_compiler || !can_be_left_out(known, text, spot) {
+        return left_out(alloc, known, text, spot, call);
+    }
+    let change = kept(alloc, text, spot, call, said)?;
+    Ok(Some(change))
+}
+
+/// Returns the change of a call to nothing, or to what it says to readers as a comment.
+fn without_meaning(
+    alloc: Global,
+    known: &Known,
+    text: &[u8],
+    spot: Spot,
+    call: &CallAt,
+) -> Result<Option<Change>, AllocError>
+    requires dropped { specs.put_for text.now (macro_call_of call.now) ≡ Some [] }
+    ensures { IfOk result (λ o.
+        IfSome o (λ change. specs.IsPut text.now (macro_call_of call.now) change.put.items)) }
+{
+    match said_by(text, call) {
+        Some(said) => kept_or_left_out(alloc, known, text, spot, call, said),
+        None => left_out(alloc, known, text, spot, call),
+    }
+}
+
 /// Returns what a call is replaced by, if there is something exact.
 #[tactic(auto, unfolding(crate::specs::Put::put_for))]
 fn exact_for(
@@ -285,7 +479,8 @@ fn exact_for(
     ensures exact { IfOk result (λ o.
         IfSome o (λ e. specs.IsExactFor text.now (macro_call_of call.now))) }
 {
-    exact_of(alloc, &known.index, name_of(text, call), call.args.len())
+    let count = count_of(text, call.args.as_slice());
+    exact_of(alloc, &known.index, name_of(text, call), count)
 }
 
 /// Returns the change of a call that has to go to this text or nothing.
@@ -302,7 +497,7 @@ fn to_exact(
         IfSome o (λ change. specs.IsPut text.now (macro_call_of call.now) change.put.items)) }
 {
     match exact {
-        Exact::Nothing => left_out(alloc, known, text, spot, call),
+        Exact::Nothing => without_meaning(alloc, known, text, spot, call),
         Exact::Idiom(idiom) => to_idiom(alloc, text, spot, call, idiom),
     }
 }
@@ -340,15 +535,61 @@ fn other_for(
     ensures said { IfOk result (λ o.
         IfSome o (λ e.
         Differs (specs.row_name text.now (macro_call_of call.now))
-        (length (macro_call_of call.now).args) e.said.now)) }
+        (specs.count_of text.now (macro_call_of call.now).args) e.said.now)) }
 {
-    other_of(alloc, &known.index, name_of(text, call), call.args.len())
+    let count = count_of(text, call.args.as_slice());
+    other_of(alloc, &known.index, name_of(text, call), count)
 }
 
 /// Returns whether a comment can be right before a call that begins a statement: the call is in no
 /// argument without brackets, of which the comment would be a part.
 fn can_be_noted(known: &Known, call: &CallAt) -> bool {
     known.bare.get(call.start) == Some(&false)
+}
+
+/// Returns what is put in the place of a call below a comment, with what the call says to readers
+/// after it, as a comment.
+fn with_comment(
+    alloc: Global,
+    text: &[u8],
+    indent: &[u8],
+    call: &CallAt,
+    said: &[u8],
+    put: Vec<u8>,
+) -> Result<Vec<u8>, AllocError>
+    requires dropped { specs.put_for text.now (macro_call_of call.now) ≡ Some [] }
+    requires said { specs.Says text.now (macro_call_of call.now) said.now }
+    requires indent { list_all specs.is_space indent.now ≡ true }
+    requires put { specs.IsNoted text.now (macro_call_of call.now) put.items }
+    ensures { IfOk result (λ v. specs.IsNoted text.now (macro_call_of call.now) v.items) }
+{
+    let mut out = put;
+    put_comment(alloc, &mut out, said, indent)?;
+    Ok(out)
+}
+
+/// Returns what is put in the place of a call below a comment, with what the call says to readers
+/// after it, as a comment, or with a newline after an idiom that would be joined to the next line.
+fn with_said(
+    alloc: Global,
+    text: &[u8],
+    indent: &[u8],
+    call: &CallAt,
+    other: &Other,
+    put: Vec<u8>,
+) -> Result<Vec<u8>, AllocError>
+    requires idiom { specs.put_for text.now (macro_call_of call.now) ≡ Some other.now.idiom.now }
+    requires indent { list_all specs.is_space indent.now ≡ true }
+    requires put { specs.IsNoted text.now (macro_call_of call.now) put.items }
+    ensures { IfOk result (λ v. specs.IsNoted text.now (macro_call_of call.now) v.items) }
+{
+    if !other.idiom.is_empty() {
+        return noted_apart(text, indent, call, other.idiom, put);
+    }
+    match said_by(text, call) {
+        Some(said) => with_comment(alloc, text, indent, call, said, put),
+        None => Ok(put),
+    }
 }
 
 /// Returns the change of a call, and of what is after it up to an offset, to an idiom below a
@@ -363,27 +604,29 @@ fn noted_until(
 ) -> Result<Option<Change>, AllocError>
     requires idiom { specs.put_for text.now (macro_call_of call.now) ≡ Some other.now.idiom.now }
     requires said { Differs (specs.row_name text.now (macro_call_of call.now))
-        (length (macro_call_of call.now).args) other.now.said.now }
+        (specs.count_of text.now (macro_call_of call.now).args) other.now.said.now }
     requires indent { list_all specs.is_space indent.now ≡ true }
     ensures { IfOk result (λ o.
         IfSome o (λ change. specs.IsNoted text.now (macro_call_of call.now) change.put.items)) }
 {
     match noted_text(alloc, text, indent, call, other)? {
-        Some(put) => Ok(Some(Change {
-            start: call.start,
-            end,
-            put,
-        })),
+        Some(noted) => {
+            let put = with_said(alloc, text, indent, call, other, noted)?;
+            Ok(Some(Change {
+                start: call.start,
+                end,
+                put,
+            }))
+        }
         None => Ok(None),
     }
 }
 
 /// Returns the offset of the next line, if nothing is written in place of the call and nothing
 /// follows it on its line.
-fn next_line(text: &[u8], call: &CallAt, other: &Other) -> Option<usize> {
-    let after = call.end.saturating_add(space_len(from(text, call.end)));
-    if other.idiom.is_empty() && text.get(after) == Some(&b'\n') {
-        Some(after.saturating_add(1))
+fn line_after(text: &[u8], call: &CallAt, other: &Other) -> Option<usize> {
+    if other.idiom.is_empty() {
+        next_line(text, call)
     } else {
         None
     }
@@ -400,11 +643,11 @@ fn to_noted(
 ) -> Result<Option<Change>, AllocError>
     requires idiom { specs.put_for text.now (macro_call_of call.now) ≡ Some other.now.idiom.now }
     requires said { Differs (specs.row_name text.now (macro_call_of call.now))
-        (length (macro_call_of call.now).args) other.now.said.now }
+        (specs.count_of text.now (macro_call_of call.now).args) other.now.said.now }
     ensures { IfOk result (λ o.
         IfSome o (λ change. specs.IsNoted text.now (macro_call_of call.now) change.put.items)) }
 {
-    match next_line(text, call, other) {
+    match line_after(text, call, other) {
         Some(end) => noted_until(alloc, text, b"", call, other, end),
         None => noted_until(alloc, text, line_indent(text, spot), call, other, call.end),
     }

@@ -2,7 +2,7 @@
 //!
 //! A call is replaced if its idiom is exact, which means that it leaves the same definitions and
 //! output variables. If all idioms are wanted, it is also replaced by one that differs, below a
-//! comment that says in what. The old name of AS_HELP_STRING is replaced too, a backslash that joins
+//! comment that says in what. What a call says to readers alone becomes a comment. The old name of AS_HELP_STRING is replaced too, a backslash that joins
 //! two lines of a list of words goes, a statement after AC_DEFINE gets a line of its own, and an
 //! argument with a compound statement of a shell gets brackets. All else is copied to the byte.
 //!
@@ -15,7 +15,7 @@
 //!
 //! Read `specs/Put` (what is put) and `specs/Rewritten` (what is copied). `port_idioms` says which
 //! idioms are exact. In `src`, read `spots`, `around` and `bare` (where a call is, and what is
-//! before and after it), `changes` and `noting` (what a call becomes), `passing` (one pass over the
+//! before and after it), `changes`, `keeping` and `noting` (what a call becomes), `passing` (one pass over the
 //! calls) with `joints`, `lines` and `brackets`, and then `passes`. The time of a pass is in
 //! proportion to the length of the text. A call fails only if memory runs out. "own" marks a rule
 //! that no manual gives.
@@ -26,6 +26,7 @@ mod bare;
 mod brackets;
 mod changes;
 mod joints;
+mod keeping;
 mod lines;
 mod noting;
 mod passes;

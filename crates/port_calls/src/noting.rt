@@ -11,7 +11,7 @@ use ac_calls::CallAt;
 use lint_macros::takes_list;
 use port_idioms::{Other, filled, text_of};
 use std::alloc::{AllocError, Global};
-use text_cut::parts;
+use text_cut::{fields, parts};
 
 /// What the comment above an idiom begins with.
 const FRONT: &[u8] = b"dnl acrun: in place of ";
@@ -144,10 +144,59 @@ fn put_list(
     put_each(alloc, out, idiom, names.as_slice(), more, indent)
 }
 
+/// Appends an idiom with each word of a list, after a newline and the indent. Returns whether there
+/// is a word, and each argument could be put there.
+fn put_words(
+    alloc: Global,
+    out: &mut Vec<u8>,
+    idiom: &[u8],
+    list: &[u8],
+    more: &[&[u8]],
+    indent: &[u8],
+) -> Result<bool, AllocError>
+    ensures { IfOk result (λ b.
+        IsTrue b
+        → out.new.items
+        ≡ out.old.items
+        ++ flat_map (specs.below indent.now idiom.now)
+        (specs.each_word (list.now ∷ map (λ a. a.now) more.now))) }
+{
+    let Some(list) = text_of(list) else {
+        return Ok(false);
+    };
+    let names = fields(alloc, list)?;
+    if names.is_empty() {
+        return Ok(false);
+    }
+    put_each(alloc, out, idiom, names.as_slice(), more, indent)
+}
+
+/// Appends an idiom with each word of the first argument, after a newline and the indent. Returns
+/// whether there is a word, and each argument could be put there.
+fn put_worded(
+    alloc: Global,
+    out: &mut Vec<u8>,
+    idiom: &[u8],
+    args: &[&[u8]],
+    indent: &[u8],
+) -> Result<bool, AllocError>
+    ensures { IfOk result (λ b.
+        IsTrue b
+        → out.new.items
+        ≡ out.old.items
+        ++ flat_map (specs.below indent.now idiom.now)
+        (specs.each_word (map (λ a. a.now) args.now))) }
+{
+    match args.split_first() {
+        Some((list, more)) => put_words(alloc, out, idiom, list, more, indent),
+        None => Ok(false),
+    }
+}
+
 /// Appends an idiom, once or with each name of a list, each time after a newline and the indent.
 /// Returns whether each argument could be put there.
 #[tactic(auto, using(crate::proofs::Differing::once))]
-fn put_all(
+fn put_once(
     alloc: Global,
     out: &mut Vec<u8>,
     idiom: &[u8],
@@ -171,6 +220,38 @@ fn put_all(
     }
 }
 
+/// Appends an idiom, once or with each name or word of a list, each time after a newline and the
+/// indent. Returns whether each argument could be put there.
+fn put_all(
+    alloc: Global,
+    out: &mut Vec<u8>,
+    idiom: &[u8],
+    has_words: bool,
+    is_list: bool,
+    args: &[&[u8]],
+    indent: &[u8],
+) -> Result<bool, AllocError>
+    ensures { IfOk result (λ b.
+        IsTrue b
+        → out.new.items
+        ≡ out.old.items
+        ++ flat_map (specs.below indent.now idiom.now)
+        (specs.written_as has_words is_list (map (λ a. a.now) args.now))) }
+{
+    if has_words {
+        put_worded(alloc, out, idiom, args, indent)
+    } else {
+        put_once(alloc, out, idiom, is_list, args, indent)
+    }
+}
+
+/// Returns whether the idiom of a macro is written once with each word of its first argument.
+fn writes_each_word(name: &[u8]) -> bool
+    ensures { result ≡ specs.writes_each_word name.now }
+{
+    name == b"AC_REPLACE_FUNCS".as_slice()
+}
+
 /// Returns an idiom with the arguments of a call, below the comment that says in what it differs
 /// from the macro, unless an argument can't be put into it.
 pub(crate) fn noted_text(
@@ -182,19 +263,21 @@ pub(crate) fn noted_text(
 ) -> Result<Option<Vec<u8>>, AllocError>
     requires idiom { specs.put_for text.now (macro_call_of call.now) ≡ Some other.now.idiom.now }
     requires said { Differs (specs.row_name text.now (macro_call_of call.now))
-        (length (macro_call_of call.now).args) other.now.said.now }
+        (specs.count_of text.now (macro_call_of call.now).args) other.now.said.now }
     requires indent { list_all specs.is_space indent.now ≡ true }
     ensures { IfOk result (λ o.
         IfSome o (λ v. specs.IsNoted text.now (macro_call_of call.now) v.items)) }
 {
     let args = texts(alloc, text, call.args.as_slice())?;
     let name = name_of(text, call);
+    let has_words = writes_each_word(name);
     let is_list = takes_list(name);
     let mut out = difference(alloc, name, other.said)?;
     if put_all(
         alloc,
         &mut out,
         other.idiom,
+        has_words,
         is_list,
         args.as_slice(),
         indent,

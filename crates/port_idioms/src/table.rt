@@ -228,7 +228,7 @@ AM_PROG_CC_C_O 0 0 the compiler is taken to allow -c with -o
 AM_PROG_CC_STDC 0 0 no flag is added
 AM_PROG_LEX 0 0 no scanner is made, so yytext is taken to be a pointer
 AM_XGETTEXT_OPTION 1 1 a rule of the Makefile makes the catalogues
-AS_EXIT 1 1 a message is printed
+AS_EXIT 1 1 a message is printed, and acrun refuses 0 as the status
 AS_UNSET 1 1 the variable is empty and not unset
 AS_VAR_SET_IF 1 3 a variable that is set to nothing counts as one that is not set
 AX_PTHREAD 0 0 the library is added to LIBS, and PTHREAD_CFLAGS is -pthread without a check
