@@ -3,26 +3,12 @@
 ghost use Rattle.std.specs.Prelude.{◌≡◌, false};
 
 use crate::lines::put_words;
-use bstr::ByteSlice;
+use crate::shortages::names_shortage;
 use crew_refusals::Causes;
 use crew_trait::{Entry, Reply};
 use lint_table::{Page, WordPart, keys};
 use std::alloc::{AllocError, Global};
 use std::io::Write;
-
-/// What a program says that finds no room for a process, for a file or for its memory.
-const SHORTAGES: [&[u8]; 3] = [
-    b"Resource temporarily unavailable",
-    b"No space left on device",
-    b"Cannot allocate memory",
-];
-
-/// Returns whether the diagnostics say that there was no room.
-fn names_shortage(diagnostics: &[u8]) -> bool {
-    SHORTAGES
-        .iter()
-        .any(|shortage| diagnostics.contains_str(shortage))
-}
 
 /// Returns whether an entry of a log is a child whose diagnostics say that there was no room.
 fn has_shortage(entry: &Entry) -> bool {

@@ -21,26 +21,29 @@
 //! memory runs out, it writes less, and that a line can't be written is not reported. "own" marks a
 //! rule that no manual gives.
 //!
-//! Read `specs/Asking`, then `asking`, `lines`, `files` and `children`, which say why. Then read
-//! `page`, which writes words, and `source`, which shows a fault of the source; then `runs`,
-//! `precious`, `remakes`, `usage` and `compilers`.
+//! Read `specs/Asking`, then `asking`, `lines`, `files`, `shortages` and `children`, which say why.
+//! Then read `page`, which writes words, and `source`, which shows a fault of the source; then
+//! `runs`, `precious`, `remakes`, `usage`, `compilers` and `doubts`.
 #![tactic(auto)]
 
 mod asking;
 mod children;
 mod compilers;
+mod doubts;
 mod files;
 mod lines;
 mod page;
 mod precious;
 mod remakes;
 mod runs;
+mod shortages;
 mod source;
 mod usage;
 
 pub use asking::{Why, asks_why};
 pub use children::explain_cut;
 pub use compilers::explain_compilers;
+pub use doubts::{explain_doubts, explain_long_cache};
 pub use files::{explain_error, explain_file, explain_template};
 pub use lines::explain_words;
 pub use precious::Given;

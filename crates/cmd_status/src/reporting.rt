@@ -14,7 +14,9 @@ ghost use Rattle.cmd_call.specs.Logged.{HasLogged, IsHeld};
 use crate::fault_lines::{tell_run, tell_written};
 use crate::remaking::OUTPUT;
 use cmd_call::{FAULT, LOG, Terminal, print_all, tell_put, write_log};
-use cmd_explain::{Given, Why, explain_compilers, explain_cut, explain_words};
+use cmd_explain::{
+    Given, Why, explain_compilers, explain_cut, explain_doubts, explain_long_cache, explain_words,
+};
 use crew_refusals::Causes;
 use engine_frame::{Fault, Outcome, Report, status_of};
 use file_disk::Disk;
@@ -55,8 +57,23 @@ fn explain_short<C: Causes, E: Write>(
     }
 }
 
-/// Prints the messages of a run and the lines of its outputs, and says why it was cut, if it is
-/// asked. Returns whether standard output took them.
+/// Says what may be wrong with the answers of a run, if it completed, and if it is asked.
+fn explain_completed<E: Write>(
+    alloc: Global,
+    is_asked: bool,
+    report: &Report,
+    cache: &[u8],
+    errors: &mut E,
+)
+    ensures silent { is_asked ≡ false → errors.new ≡ errors.old }
+{
+    if let Outcome::Completed = report.outcome {
+        explain_doubts(alloc, is_asked, report.log.as_slice(), cache, errors);
+    }
+}
+
+/// Prints the messages of a run and the lines of its outputs, and says why it was cut, or what may
+/// be wrong with it, if it is asked. Returns whether standard output took them.
 fn print_report<D: Disk, C: Causes, R: Read, W: Write, E: Write>(
     terminal: &mut Terminal<'_, D, R, W, E>,
     settings: &Settings,
@@ -83,6 +100,8 @@ fn print_report<D: Disk, C: Causes, R: Read, W: Write, E: Write>(
     let done = print_all(alloc, messages, lines, quiet, output, errors);
     explain_short(alloc, is_asked, report, cache_name(settings), crew, errors);
     explain_compilers(alloc, is_asked, report.log.as_slice(), errors);
+    explain_long_cache(alloc, is_asked, terminal.outputs.handed(), errors);
+    explain_completed(alloc, is_asked, report, cache_name(settings), errors);
     tell_written(alloc, is_asked, OUTPUT, done, errors)
 }
 

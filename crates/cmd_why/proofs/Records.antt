@@ -4,8 +4,8 @@ use Rattle.status_record.specs.declared.fault.RecordFault.{RecordFault}
 use Rattle.status_record.specs.declared.fault.RecordFault.TheVariants.{OutOfMemory}
 use Rattle.status_record.specs.declared.record.Record.{Record}
 use Rattle.status_record.specs.Reading.{Gives}
-use Rattle.cmd_why.specs.Quoting.{arguments_in}
+use Rattle.cmd_why.specs.Quoting.{kept_in}
 
-pub no_arguments : (fault : RecordFault) (read : Result Record RecordFault) → (fault ≡ OutOfMemory → ⊥) → Gives (λ r. r) (Err fault) read → None ≡ arguments_in read
-no_arguments OutOfMemory read not_memory gives = absurd (not_memory refl)
-no_arguments fault read not_memory gives = rw gives refl
+pub nothing_kept : (fault : RecordFault) (read : Result Record RecordFault) → (fault ≡ OutOfMemory → ⊥) → Gives (λ r. r) (Err fault) read → None ≡ kept_in read
+nothing_kept OutOfMemory read not_memory gives = absurd (not_memory refl)
+nothing_kept fault read not_memory gives = rw gives refl

@@ -1,3 +1,4 @@
+pub mod Doubts
 pub mod Lines
 pub mod Subjects
 pub mod Names

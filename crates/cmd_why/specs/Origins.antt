@@ -154,7 +154,7 @@ source_text names Unlooked =
     codes "It may be from an argument, a cache, the environment or the source: config.status is read only for config.log.\n"
 source_text names Unrecorded =
     codes "It may be from an argument, a cache, the environment or the source: there is no config.status with arguments.\n"
-source_text names (Recorded arguments cache) = or_nothing (setter_text (setter_of names arguments) ++ cache_text names cache)
+source_text names (Recorded arguments cache defs) = or_nothing (setter_text (setter_of names arguments) ++ cache_text names cache)
 
 -- The front of what is said of an answer that was there before its check. (own)
 unfoldable pub cached_front : List ℕ

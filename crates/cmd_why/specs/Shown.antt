@@ -1,9 +1,10 @@
 -- What is printed of the checks of a log.
-use Rattle.std.specs.Prelude.{ℕ, ◌+◌, nat_eq, Bool, true, false, List, [], ◌∷◌, ◌++◌, ◌==◌, ◌&&◌, length, map, filter, flat_map, fold, Option, Some, None, codes, decimal, if◌then◌else◌}
+use Rattle.std.specs.Prelude.{ℕ, ◌+◌, nat_eq, nat_le, Bool, true, false, List, [], ◌∷◌, ◌++◌, ◌==◌, ◌&&◌, length, map, filter, flat_map, fold, Option, Some, None, codes, decimal, if◌then◌else◌}
 use Rattle.std.specs.List.{starts_with}
 use Rattle.cfglog.specs.declared.forms.LineKind.{LineKind}
 use Rattle.cfglog.specs.declared.forms.LineKind.TheVariants.{Message, Command, Diagnostics, Status, Refused, Heading, Program}
 use Rattle.cmd_why.specs.Lines.{Line, Check, answer_of, is_answer, lines_of}
+use Rattle.cmd_why.specs.Doubts.{defined_text, doubt_text}
 use Rattle.cmd_why.specs.Names.{is_about}
 use Rattle.cmd_why.specs.Nearest.{none_text}
 use Rattle.cmd_why.specs.Origins.{cached_text}
@@ -51,10 +52,37 @@ answer_text seen message (Some answer) = answer ++ (if is_cached answer then cac
 abbrev pub first_line : Seen → Check → List ℕ
 first_line seen check = codes "checking " ++ (check.message ++ (codes "... " ++ answer_text seen check.message (answer_of check)))
 
--- What is printed of a check: its message and answer, the command, the diagnostics and the status of each of its children, and the
--- program that failed last. (own)
+-- How many bytes of diagnostics a child has in a log, if it had so many before a line of this kind and this text. From 65,536 on they
+-- are not counted. (own)
+abbrev pub bytes_after : ℕ → LineKind → List ℕ → ℕ
+bytes_after bytes Command text = 0
+bytes_after bytes Diagnostics text = if nat_le 65536 bytes then bytes else bytes + length text
+bytes_after bytes part text = bytes
+
+-- A line of this kind says that a compiler failed which had so many bytes of diagnostics that more may have been dropped: the heading
+-- of its program. (own)
+abbrev pub is_cut_at : ℕ → LineKind → Bool
+is_cut_at bytes Heading = nat_le 65536 bytes
+is_cut_at bytes part = false
+
+-- By these lines a compiler failed whose diagnostics may have been cut, if the child before them had so many bytes. (own)
+abbrev pub has_cut : ℕ → List Line → Bool
+has_cut bytes [] = false
+has_cut bytes (line ∷ rest) = if is_cut_at bytes line.part then true else has_cut (bytes_after bytes line.part line.text) rest
+
+-- What is said of diagnostics that were cut. (own)
+unfoldable pub cut_words : List ℕ
+cut_words = codes "A compiler failed here that wrote 65,536 bytes of diagnostics or more. The rest was dropped, and the answer may come from that.\n"
+
+-- What is said if diagnostics of a check with these lines were cut. (own)
+unfoldable pub cut_text : List Line → List ℕ
+cut_text lines = if has_cut 0 lines then cut_words else []
+
+-- What is printed of a check: its message and answer, the command, the diagnostics and the status of each of its children, whether
+-- diagnostics were cut, and the program that failed last. (own)
 unfoldable pub check_text : Seen → Check → List ℕ
-check_text seen check = first_line seen check ++ (flat_map line_text (lines_of check) ++ last_program (lines_of check))
+check_text seen check =
+    first_line seen check ++ (flat_map line_text (lines_of check) ++ (cut_text (lines_of check) ++ last_program (lines_of check)))
 
 -- The checks that the word is about. (own)
 abbrev pub chosen : List ℕ → List Check → List Check
@@ -101,9 +129,11 @@ text_for seen log word messages taken = if length taken == 0 then none_text word
 abbrev pub status_for : List Check → ℕ
 status_for taken = if length taken == 0 then 1 else 0
 
--- What is printed for a word of a log with these checks, by what is seen of where answers may be from. (own)
+-- What is printed for a word of a log with these checks, by what is seen of where answers may be from: what is chosen, what the record
+-- has of a definition of this name, and that the log can be read in two ways, if that is so. (own)
 unfoldable pub printed : Seen → List Line → List ℕ → List Check → List ℕ
-printed seen log word all = text_for seen log word (map (λ check. check.message) all) (chosen word all)
+printed seen log word all =
+    text_for seen log word (map (λ check. check.message) all) (chosen word all) ++ (defined_text seen word ++ doubt_text log)
 
 -- The exit status for a word and these checks. (own)
 unfoldable pub status_of : List ℕ → List Check → ℕ

@@ -4,7 +4,7 @@ use Rattle.file_disk.specs.Known.{Known}
 use Rattle.cmd_call.specs.Supplies.{ReadsWhole}
 use Rattle.status_record.specs.Reading.{record_in}
 use Rattle.cmd_why.specs.Origins.{cache_of}
-use Rattle.cmd_why.specs.Quoting.{arguments_in}
+use Rattle.cmd_why.specs.Quoting.{kept_in}
 use Rattle.cmd_why.specs.declared.seen.Seen.{Seen}
 use Rattle.cmd_why.specs.declared.seen.Seen.TheVariants.{Unlooked, Unrecorded, Recorded}
 
@@ -18,20 +18,24 @@ abbrev pub IsCacheNamed : Option Known → Option (List ℕ) → Option (List �
 IsCacheNamed files None cache = cache ≡ None
 IsCacheNamed files (Some name) cache = IsCacheAt files name cache
 
--- This is seen by these arguments: they and the cache that they name. (own)
-abbrev pub IsSeenOf : Option Known → List (List ℕ) → Seen → Type 0
-IsSeenOf files arguments (Recorded kept cache) = (kept ≡ arguments) × IsCacheNamed files (cache_of arguments) cache
-IsSeenOf files arguments Unrecorded = ⊥
-IsSeenOf files arguments Unlooked = ⊥
+-- What a record keeps that is looked at: its arguments and its definitions. (own)
+abbrev pub Kept : Type 0
+Kept = List (List ℕ) × List (List ℕ × List ℕ)
 
--- This is seen by the arguments of a record, if it has some. (own)
-abbrev pub IsSeenBy : Option Known → Option (List (List ℕ)) → Seen → Type 0
+-- This is seen by these arguments and these definitions: they, and the cache that the arguments name. (own)
+abbrev pub IsSeenOf : Option Known → Kept → Seen → Type 0
+IsSeenOf files kept (Recorded arguments cache defs) = (arguments ≡ kept.0) × (defs ≡ kept.1) × IsCacheNamed files (cache_of kept.0) cache
+IsSeenOf files kept Unrecorded = ⊥
+IsSeenOf files kept Unlooked = ⊥
+
+-- This is seen by a record with arguments, if there is one. (own)
+abbrev pub IsSeenBy : Option Known → Option Kept → Seen → Type 0
 IsSeenBy files None seen = seen ≡ Unrecorded
-IsSeenBy files (Some arguments) seen = IsSeenOf files arguments seen
+IsSeenBy files (Some kept) seen = IsSeenOf files kept seen
 
 -- This is seen by the record in a text. (own)
 abbrev pub IsSeenIn : Option Known → List ℕ → Seen → Type 0
-IsSeenIn files text seen = IsSeenBy files (arguments_in (record_in text)) seen
+IsSeenIn files text seen = IsSeenBy files (kept_in (record_in text)) seen
 
 -- This is seen by what was read under the record's name. (own)
 abbrev pub IsSeenRead : Option Known → Option (List ℕ) → Seen → Type 0

@@ -13,10 +13,11 @@ use crate::record::line_in;
 use crate::seen::{RECORD, Seen, seen_for};
 use crate::showing::{FOUND, put_printed};
 use cfglog::read_log;
-use cmd_call::{LOG, tell_file, tell_memory, tell_named, tell_usage};
+use cmd_call::{FAULT, LOG, tell_file, tell_memory, tell_named, tell_usage};
 use deftable::Bytes;
 use file_disk::Disk;
 use file_texts::read_text;
+use status_record::RecordFault;
 use std::alloc::{AllocError, Global};
 use std::io::Write;
 
@@ -217,8 +218,21 @@ fn write_for_word<D: Disk, W: Write, E: Write>(
     }
 }
 
-/// Shows the run that the record in this text is of, and returns the exit status. If the text is no
-/// record with arguments, a word is missing.
+/// Reports that the record is refused, and returns the exit status.
+fn tell_record<E: Write>(errors: &mut E, fault: RecordFault) -> u8
+    ensures { result ≡ 2 }
+{
+    match fault {
+        RecordFault::OutOfMemory => tell_memory(errors),
+        _ => {
+            let _ = write!(errors, "acrun: record {fault}\n");
+            FAULT
+        }
+    }
+}
+
+/// Shows the run that the record in this text is of, and returns the exit status. If the record has
+/// no arguments, a word is missing. If the text is no record, says so.
 #[tactic(auto, using(crate::proofs::Explained::line_written))]
 fn show_record<W: Write, E: Write>(alloc: Global, text: &[u8], output: &mut W, errors: &mut E) -> u8
     ensures status { result ≤ 2 }
@@ -230,7 +244,7 @@ fn show_record<W: Write, E: Write>(alloc: Global, text: &[u8], output: &mut W, e
     match line_in(alloc, text) {
         Ok(Some(line)) => put_text(line.as_slice(), FOUND, output, errors),
         Ok(None) => tell_usage(errors),
-        Err(_) => tell_memory(errors),
+        Err(fault) => tell_record(errors, fault),
     }
 }
 
@@ -266,6 +280,10 @@ fn show_run<D: Disk, W: Write, E: Write>(
 /// Without words, it prints the call of the run that `config.status` is of, with its arguments as
 /// words of a shell. A run that is stopped or cut writes no `config.status`, so this may be an
 /// earlier run than that of the log.
+///
+/// If a compiler failed whose diagnostics were cut, that is said of its check. If WORD is a name that
+/// `config.status` defines, or begins with `HAVE_`, what `config.status` has of it is printed too,
+/// since no compiler can write that. If the log can be read in two ways, the last line says so.
 ///
 /// The status is 0 if a check or such a call is shown, and 1 if no check is about WORD: then the
 /// checks that are nearest to WORD are printed. It is 2 if the words aren't these, if there are

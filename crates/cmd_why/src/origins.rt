@@ -429,7 +429,7 @@ fn put_source(
         Seen::Unrecorded => out.extend_from_slice(
             b"It may be from an argument, a cache, the environment or the source: there is no config.status with arguments.\n",
         ),
-        Seen::Recorded(args, cache) => put_found(alloc, out, names, args.as_slice(), cache),
+        Seen::Recorded(args, cache, _defs) => put_found(alloc, out, names, args.as_slice(), cache),
     }
 }
 

@@ -1,12 +1,12 @@
 //! The run that the record is of.
 
-ghost use Rattle.std.specs.Prelude.{◌≡◌, ◌++◌, IfOk, IfSome, OnOk, flat_map};
+ghost use Rattle.std.specs.Prelude.{◌≡◌, ◌++◌, IfOk, IfSome, OnOk, flat_map, option_map};
 ghost use Rattle.status_record.specs.Reading.{record_in};
 ghost use Rattle.cmd_why.specs.Quoting as specs;
 ghost use Rattle.cmd_why.specs.Why.{IsLineIn};
 
 use cachefile::word_text;
-use deftable::{Bytes, Texts};
+use deftable::{Bytes, Defs, Texts};
 use status_record::{Record, RecordFault, read_record};
 use std::alloc::{AllocError, Global};
 
@@ -67,22 +67,42 @@ fn args_of(made: Record) -> Option<Texts>
     args
 }
 
-/// Returns the arguments of the record in a text, or `None` if the text is no record, or the record
-/// has no arguments.
-#[tactic(auto, using(crate::proofs::Records::no_arguments))]
-pub(crate) fn args_in(alloc: Global, text: &[u8]) -> Result<Option<Texts>, AllocError>
-    ensures { IfOk result (λ args. args ≡ specs.arguments_in (record_in text.now)) }
+/// Returns the arguments of a record and its definitions, if it has arguments.
+fn kept_of(made: Record) -> Option<(Texts, Defs)>
+    ensures { result ≡ option_map (λ arguments. (arguments, made.defs)) made.args }
+{
+    let Record { args, defs, .. } = made;
+    match args {
+        Some(args) => Some((args, defs)),
+        None => None,
+    }
+}
+
+/// Returns the arguments of the record in a text and its definitions, or `None` if the text is no
+/// record, or the record has no arguments.
+#[tactic(auto, using(crate::proofs::Records::nothing_kept))]
+pub(crate) fn kept_in(alloc: Global, text: &[u8]) -> Result<Option<(Texts, Defs)>, AllocError>
+    ensures { IfOk result (λ kept. kept ≡ specs.kept_in (record_in text.now)) }
 {
     match read_record(alloc, text) {
-        Ok(record) => Ok(args_of(record)),
+        Ok(record) => Ok(kept_of(record)),
         Err(RecordFault::OutOfMemory) => Err(AllocError),
         Err(_) => Ok(None),
     }
 }
 
+/// Returns the arguments of the record in a text, or `None` if the record has no arguments. Fails if
+/// the text is no record.
+fn args_in(alloc: Global, text: &[u8]) -> Result<Option<Texts>, RecordFault>
+    ensures { IfOk result (λ args. args ≡ specs.arguments_in (record_in text.now)) }
+{
+    let record = read_record(alloc, text)?;
+    Ok(args_of(record))
+}
+
 /// Returns the line of the run that the record in a text is of, with the arguments as words of a
-/// shell, or `None` if the text is no record, or the record has no arguments.
-pub(crate) fn line_in(alloc: Global, text: &[u8]) -> Result<Option<Vec<u8>>, AllocError>
+/// shell, or `None` if the record has no arguments. Fails if the text is no record.
+pub(crate) fn line_in(alloc: Global, text: &[u8]) -> Result<Option<Vec<u8>>, RecordFault>
     ensures { IfOk result (λ o. IfSome o (λ line. IsLineIn text.now line.items)) }
 {
     match &args_in(alloc, text)? {

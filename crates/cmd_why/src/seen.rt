@@ -5,9 +5,9 @@ ghost use Rattle.cmd_why.specs.Origins.{cache_of as cache_of_args};
 ghost use Rattle.cmd_why.specs.Sources as specs;
 
 use crate::origins::cache_of;
-use crate::record::args_in;
+use crate::record::kept_in;
 use cmd_call::LOG;
-use deftable::{Bytes, Texts};
+use deftable::{Bytes, Defs, Texts};
 use file_disk::Disk;
 use file_texts::read_text;
 use std::alloc::{AllocError, Global};
@@ -22,9 +22,9 @@ pub(crate) enum Seen {
     Unlooked,
     /// No record with arguments can be read.
     Unrecorded,
-    /// The arguments of the record, and the name and the text of the cache that they name, if it
-    /// can be read.
-    Recorded(Texts, Option<(Bytes, Bytes)>),
+    /// The arguments of the record, the name and the text of the cache that they name, if it can be
+    /// read, and the definitions of the record.
+    Recorded(Texts, Option<(Bytes, Bytes)>, Defs),
 }
 
 /// Returns the cache of this name, with its text, if it can be read.
@@ -56,20 +56,20 @@ fn cache_named<D: Disk>(
     }
 }
 
-/// Returns what is seen by these arguments.
-fn seen_of<D: Disk>(alloc: Global, disk: &D, args: Texts) -> Result<Seen, AllocError>
-    ensures { IfOk result (specs.IsSeenOf (D.known disk.now) args) }
+/// Returns what is seen by these arguments and these definitions.
+fn seen_of<D: Disk>(alloc: Global, disk: &D, args: Texts, defs: Defs) -> Result<Seen, AllocError>
+    ensures { IfOk result (specs.IsSeenOf (D.known disk.now) (args, defs)) }
 {
     let cache = cache_named(alloc, disk, args.as_slice())?;
-    Ok(Seen::Recorded(args, cache))
+    Ok(Seen::Recorded(args, cache, defs))
 }
 
 /// Returns what is seen by the record in this text.
 fn seen_in<D: Disk>(alloc: Global, disk: &D, text: &[u8]) -> Result<Seen, AllocError>
     ensures { IfOk result (specs.IsSeenIn (D.known disk.now) text.now) }
 {
-    match args_in(alloc, text)? {
-        Some(args) => seen_of(alloc, disk, args),
+    match kept_in(alloc, text)? {
+        Some((args, defs)) => seen_of(alloc, disk, args, defs),
         None => Ok(Seen::Unrecorded),
     }
 }

@@ -5,6 +5,7 @@ ghost use Rattle.cmd_why.specs.Shown as specs;
 ghost use Rattle.cmd_why.specs.Lines as lines_specs;
 ghost use Rattle.cmd_why.specs.Views.{check_seen, line_seen};
 
+use crate::doubts::{put_defined, put_doubt};
 use crate::lines::{Check, LogLine, answer_in, is_answer, own};
 use crate::names::is_about;
 use crate::nearest::put_nearest;
@@ -18,6 +19,9 @@ pub(crate) const FOUND: u8 = 0;
 
 /// The exit status if the word is about no check.
 const NONE: u8 = 1;
+
+/// How many bytes of a child's diagnostics a run keeps.
+const MOST_KEPT: usize = 65_536;
 
 /// Appends the line before the command of a child.
 fn put_number(alloc: Global, out: &mut Vec<u8>, number: usize) -> Result<(), AllocError>
@@ -155,8 +159,72 @@ fn put_first_line(
     put_answer(alloc, out, seen, check.message, answer_in(check.rest))
 }
 
+/// Returns how many bytes of diagnostics a child has after a line, up to a number from which they
+/// are not counted.
+fn bytes_after(bytes: usize, part: LineKind, text: &[u8]) -> usize
+    ensures { result ≡ specs.bytes_after bytes part text.now }
+{
+    match part {
+        LineKind::Command => 0,
+        LineKind::Diagnostics => {
+            if bytes >= MOST_KEPT {
+                bytes
+            } else {
+                bytes + text.len()
+            }
+        }
+        _ => bytes,
+    }
+}
+
+/// Returns whether a line says that a compiler failed whose diagnostics may have been cut.
+fn is_cut_at(bytes: usize, part: LineKind) -> bool
+    ensures { result ≡ specs.is_cut_at bytes part }
+{
+    match part {
+        LineKind::Heading => bytes >= MOST_KEPT,
+        _ => false,
+    }
+}
+
+/// Returns whether a compiler failed by these lines whose diagnostics may have been cut.
+fn has_cut(lines: &[LogLine<'_>]) -> bool
+    ensures { result ≡ specs.has_cut 0 (map line_seen lines.now) }
+{
+    let mut bytes = 0usize;
+    for line in lines {
+        if is_cut_at(bytes, line.part) {
+            return true;
+        }
+        bytes = bytes_after(bytes, line.part, line.text);
+    }
+    false
+}
+
+/// Appends what is said of diagnostics that were cut.
+#[tactic(auto, unfolding(crate::specs::Shown::cut_words))]
+fn put_cut_words(out: &mut Vec<u8>) -> Result<(), AllocError>
+    ensures { OnOk result (out.new.items ≡ out.old.items ++ specs.cut_words) }
+{
+    out.extend_from_slice(
+        b"A compiler failed here that wrote 65,536 bytes of diagnostics or more. The rest was dropped, and the answer may come from that.\n",
+    )
+}
+
+/// Appends that diagnostics of a check with these lines were cut, if that may be so.
+#[tactic(auto, unfolding(crate::specs::Shown::cut_text))]
+fn put_cut(out: &mut Vec<u8>, lines: &[LogLine<'_>]) -> Result<(), AllocError>
+    ensures { OnOk result (
+        out.new.items ≡ out.old.items ++ specs.cut_text (map line_seen lines.now)) }
+{
+    if has_cut(lines) {
+        return put_cut_words(out);
+    }
+    Ok(())
+}
+
 /// Appends what is printed of a check: its message and answer, the command, the diagnostics and the
-/// status of each of its children, and the program that failed last.
+/// status of each of its children, whether diagnostics were cut, and the program that failed last.
 #[tactic(auto, unfolding(crate::specs::Shown::check_text))]
 fn put_check(
     alloc: Global,
@@ -170,6 +238,7 @@ fn put_check(
     put_first_line(alloc, out, seen, check)?;
     let lines = own(alloc, check.rest)?;
     put_lines(alloc, out, lines.as_slice())?;
+    put_cut(out, lines.as_slice())?;
     let program = last_program(alloc, lines.as_slice())?;
     out.extend_from_slice(program.as_slice())
 }
@@ -361,5 +430,8 @@ pub(crate) fn put_printed(
     ensures bound { IfOk result (λ status. status ≤ 1) }
 {
     let chosen = chosen(alloc, word, checks)?;
-    put_chosen(alloc, out, seen, log, word, checks, chosen.as_slice())
+    let status = put_chosen(alloc, out, seen, log, word, checks, chosen.as_slice())?;
+    put_defined(out, seen, word)?;
+    put_doubt(out, log)?;
+    Ok(status)
 }

@@ -58,6 +58,15 @@ impl Draft {
         }
     }
 
+    /// Writes `\uNNNN` for a character below U+10000.
+    pub(crate) fn put_code(&mut self, c: char) {
+        let code = c as u32;
+        self.put(b"\\u");
+        for shift in [12, 8, 4, 0] {
+            self.put(&[DIGITS[((code >> shift) & 15) as usize]]);
+        }
+    }
+
     pub(crate) fn put_number(&mut self, number: usize) {
         self.put_right(number, 0);
     }

@@ -2,6 +2,8 @@
 
 use crate::draft::Draft;
 use crate::excerpt::word_of;
+use crate::marked::is_mark;
+use bstr::ByteSlice;
 use deftable::Bytes;
 use lint_findings::Finding;
 use lint_text::position_of;
@@ -14,13 +16,24 @@ fn quoted(alloc: Global, text: &[u8]) -> Result<String, AllocError> {
     Value::String(text).to_string(alloc)
 }
 
+/// Writes a text that JSON has quoted, with characters that turn or hide text by their numbers.
+fn put_quoted(draft: &mut Draft, quoted: &[u8]) {
+    for (start, end, c) in quoted.char_indices() {
+        if is_mark(c) {
+            draft.put_code(c);
+        } else {
+            draft.put(&quoted[start.min(end)..end.min(quoted.len())]);
+        }
+    }
+}
+
 /// Writes a member whose value is a text, with a comma after it.
 fn put_text(alloc: Global, draft: &mut Draft, key: &[u8], text: &[u8], end: &[u8]) {
     draft.put(b"\"");
     draft.put(key);
     draft.put(b"\":");
     match quoted(alloc, text) {
-        Ok(text) => draft.put(text.as_bytes()),
+        Ok(text) => put_quoted(draft, text.as_bytes()),
         Err(_) => draft.cut(),
     }
     draft.put(end);
@@ -38,7 +51,8 @@ fn put_number(draft: &mut Draft, key: &[u8], number: usize) {
 /// Returns a finding as one line with an object: `file`, `line`, `column`, `end_line`,
 /// `end_column`, `severity`, `code`, `message` and `help`. Lines and columns count from 1, columns
 /// count bytes, and the end is after the last byte. The text is that of the file, and `name` is
-/// what the file is called.
+/// what the file is called. Control characters, and characters that turn or hide text, are written
+/// as `\uNNNN`.
 ///
 /// # Errors
 ///

@@ -103,15 +103,23 @@ impl<'a> Marked<'a> {
     }
 }
 
+/// Returns whether a character turns or hides the text around it.
+pub(crate) fn is_mark(c: char) -> bool {
+    ('\u{200b}'..='\u{200f}').contains(&c)
+        || ('\u{202a}'..='\u{202e}').contains(&c)
+        || ('\u{2066}'..='\u{2069}').contains(&c)
+}
+
 /// Returns the columns that a character of UTF-8 takes, or `None` if it is not shown as it is.
 fn columns_of(c: char, bytes: &[u8]) -> Option<usize> {
-    if c == '\u{fffd}' && bytes != b"\xef\xbf\xbd".as_slice() {
+    if is_mark(c) || c == '\u{fffd}' && bytes != b"\xef\xbf\xbd".as_slice() {
         return None;
     }
     c.width()
 }
 
-/// Writes a text, with control bytes and bytes that are no UTF-8 as `\xNN`. Tabs stay.
+/// Writes a text, with control bytes, bytes that are no UTF-8, and characters that turn or hide text
+/// as `\xNN`. Tabs stay.
 pub(crate) fn put_shown(draft: &mut Draft, text: &[u8]) {
     for (start, end, c) in text.char_indices() {
         let bytes = from(before(text, end), start);

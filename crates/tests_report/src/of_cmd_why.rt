@@ -42,6 +42,10 @@ getlien|checking for getline... ^Jyes^Jchecking for a.h... ^Jno^J => 1[No check 
 HAVE_SYS_STATS_H|checking for sys/stat.h... ^J$ cc -c conftest1.c^Ja.c:6:10: none^Jstatus 1^Jfailed program was:^J| #include <sys/stat.h>^Jno^Jchecking for sys/stat.h... ^J$ cc -c conftest1.c^Ja.c:6:10: none^Jstatus 1^Jfailed program was:^J| #include <sys/stat.h>^Jno^J => 1[No check in the log is about HAVE_SYS_STATS_H.^JThe nearest are:^J  checking for sys/stat.h^J][]
 gf9|checking for f10... ^Jno^Jchecking for f1... ^Jno^Jchecking for f2... ^Jno^Jchecking for f3... ^Jno^Jchecking for f4... ^Jno^Jchecking for f5... ^Jno^J => 1[No check in the log is about gf9.^JThe nearest are:^J  checking for f1^J  checking for f2^J  checking for f3^J  checking for f4^J  checking for f5^J][]
 qqqq|checking for a.h... ^Jno^J => 1[No check in the log is about qqqq.^J][]
+// a log that can be read in two ways: a message has the form of a line that only a child has
+a.h|checking for a.h... ^J$ cc^Jstatus 0^Jyes^Jstatus 1^J => 0[checking for a.h... yes^Jchild 1:^J$ cc^Jstatus 0^JThis log can be read in two ways: among its messages is a line as only a child has it. If a compiler wrote lines as acrun does, a check may be none of the run, and an answer may be another one. For a definition see config.status.^J][]
+b|checking for a.h... ^Jyes^Jstart refused^J => 1[No check in the log is about b.^JThis log can be read in two ways: among its messages is a line as only a child has it. If a compiler wrote lines as acrun does, a check may be none of the run, and an answer may be another one. For a definition see config.status.^J][]
+a.h|checking for a.h... ^Jyes^J| int^J => 0[checking for a.h... yes^JThis log can be read in two ways: among its messages is a line as only a child has it. If a compiler wrote lines as acrun does, a check may be none of the run, and an answer may be another one. For a definition see config.status.^J][]
 // no log, and no file
 a|configure: error: no C compiler^J => 1[No check in the log is about a.^J][]
 a|hello => 2[][acrun: log config.log^J]
@@ -55,8 +59,9 @@ a,.| => 2[][acrun: file .^J]
 |acrun-record 2^Jsrcdir .^Jarg -C^Jarg CFLAGS=-O2 -g^Jarg ^Jarg it's^Jend^J => 0[The run that config.status is of: acrun configure -C 'CFLAGS=-O2 -g' '' 'it'\\''s'^J][]
 // a record without arguments, and a text that is no record
 |acrun-record 1^Jsrcdir .^Jend^J => 2[][acrun: usage^J]
-|acrun-record 2^Jsrcdir .^Jarg a^J => 2[][acrun: usage^J]
-| => 2[][acrun: usage^J]
+|acrun-record 2^Jsrcdir .^Jarg a^J => 2[][acrun: record 3^J]
+|acrun-record 2^Jsrcdir .^Jarg a^Jnone^Jend^J => 2[][acrun: record 2 at 4^J]
+| => 2[][acrun: record 1^J]
 // words that mean nothing
 a,config.log,b| => 2[][acrun: usage^J]
 stat,config.log|checking for sys/stat.h... ^J$ cc -c conftest1.c^Ja.c:6:10: none^Jstatus 1^Jfailed program was:^J| #include <sys/stat.h>^Jno^J => 0[checking for sys/stat.h... no^Jchild 1:^J$ cc -c conftest1.c^Ja.c:6:10: none^Jstatus 1^Jfailed program was:^J| #include <sys/stat.h>^J][]
@@ -66,6 +71,12 @@ stat,config.log|checking for sys/stat.h... ^J$ cc -c conftest1.c^Ja.c:6:10: none
 /// log, with semicolons between them: the exit status, standard output and standard error. The log
 /// is `other.log` too.
 const CACHED: &[u8] = b"
+// what the record has of a definition
+HAVE_A_H;acrun-record 2^Jsrcdir .^Jdef HAVE_A_H 1^Jend^J;;checking for a.h... ^J$ cc^Jstatus 0^Jyes^J => 0[checking for a.h... yes^Jchild 1:^J$ cc^Jstatus 0^Jconfig.status has this definition: HAVE_A_H 1^J][]
+HAVE_A_H;acrun-record 2^Jsrcdir .^Jdef HAVE_A_HX 1^Jend^J;;checking for a.h... ^J$ cc^Jstatus 0^Jyes^J => 0[checking for a.h... yes^Jchild 1:^J$ cc^Jstatus 0^Jconfig.status has no definition of HAVE_A_H.^J][]
+OTHER;acrun-record 2^Jsrcdir .^Jdef OTHER a b^Jend^J;;checking for a.h... ^Jyes^J => 1[No check in the log is about OTHER.^Jconfig.status has this definition: OTHER a b^J][]
+a.h;acrun-record 2^Jsrcdir .^Jdef HAVE_A_H 1^Jend^J;;checking for a.h... ^J$ cc^Jstatus 0^Jyes^J => 0[checking for a.h... yes^Jchild 1:^J$ cc^Jstatus 0^J][]
+HAVE_A_H;acrun-record 1^Jsrcdir .^Jdef HAVE_A_H 1^Jend^J;;checking for a.h... ^Jyes^J => 0[checking for a.h... yes^J][]
 // a cache that the arguments name
 a.h;acrun-record 2^Jsrcdir .^Jarg -C^Jend^J;ac_cv_header_a_h=${ac_cv_header_a_h=no}^J;checking for a.h... ^J(cached) no^J => 0[checking for a.h... (cached) no^JThis answer was there before the check was made, as the value of ac_cv_header_a_h.^JThe cache config.cache has it now. To ask again, remove there:^J  ac_cv_header_a_h=${ac_cv_header_a_h=no}^JAnswers in the log that were there before: 1 of 1.^J][]
 a.h;acrun-record 2^Jsrcdir .^Jarg --cache-file=config.cache^Jend^J;# a^Jac_cv_header_a_h=${ac_cv_header_a_h=no}^J;checking for a.h... ^J(cached) no^J => 0[checking for a.h... (cached) no^JThis answer was there before the check was made, as the value of ac_cv_header_a_h.^JThe cache config.cache has it now. To ask again, remove there:^J  ac_cv_header_a_h=${ac_cv_header_a_h=no}^JAnswers in the log that were there before: 1 of 1.^J][]

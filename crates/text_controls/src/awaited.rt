@@ -4,12 +4,14 @@ ghost use Rattle.std.specs.Prelude.{◌≡◌, ℕ, ◌<◌, ◌≤◌, false, l
 ghost use Rattle.text_controls.specs.Form as form;
 
 /// What is lacking of a character: its next byte is one from `low` to `high`, and then come `more`
-/// bytes from 0x80 to 0xbf.
+/// bytes from 0x80 to 0xbf. `front` is its last byte so far, if a character that turns or hides text
+/// may begin so, and otherwise 0: 0xe2, or after that 0x80 or 0x81.
 #[derive(Clone, Copy)]
 pub(crate) struct Awaited {
     low: u8,
     high: u8,
     more: u8,
+    front: u8,
 }
 
 /// Returns that no character has begun.
@@ -20,6 +22,7 @@ pub(crate) fn nothing() -> Awaited
         low: 1,
         high: 0,
         more: 0,
+        front: 0,
     }
 }
 
@@ -40,17 +43,29 @@ fn after_first(byte: u8) -> Awaited
             low,
             high: 0xbf,
             more: 0,
+            front: 0,
         };
     }
     if byte >= 0xe0 && byte <= 0xef {
         let low = either(byte == 0xe0, 0xa0, 0x80);
         let high = either(byte == 0xed, 0x9f, 0xbf);
-        return Awaited { low, high, more: 1 };
+        let front = either(byte == 0xe2, 0xe2, 0);
+        return Awaited {
+            low,
+            high,
+            more: 1,
+            front,
+        };
     }
     if byte >= 0xf0 && byte <= 0xf4 {
         let low = either(byte == 0xf0, 0x90, 0x80);
         let high = either(byte == 0xf4, 0x8f, 0xbf);
-        return Awaited { low, high, more: 2 };
+        return Awaited {
+            low,
+            high,
+            more: 2,
+            front: 0,
+        };
     }
     nothing()
 }
@@ -59,6 +74,25 @@ fn continues(awaited: Awaited, byte: u8) -> bool
     ensures { result ≡ form.continues awaited byte }
 {
     awaited.low <= byte && byte <= awaited.high
+}
+
+/// Returns the second byte of a character that may turn or hide text, or 0.
+fn front_after(awaited: Awaited, byte: u8) -> u8
+    ensures { result ≡ form.front_after awaited byte }
+{
+    either(
+        awaited.front == 0xe2 && (byte == 0x80 || byte == 0x81),
+        byte,
+        0,
+    )
+}
+
+/// Returns whether the byte is the last one of a character that turns or hides text.
+fn ends_mark(awaited: Awaited, byte: u8) -> bool
+    ensures { result ≡ form.ends_mark awaited byte }
+{
+    awaited.front == 0x80 && (byte >= 0x8b && byte <= 0x8f || byte >= 0xaa && byte <= 0xae)
+        || awaited.front == 0x81 && byte >= 0xa6 && byte <= 0xa9
 }
 
 /// Returns what is lacking after one more byte.
@@ -76,6 +110,7 @@ fn after(awaited: Awaited, byte: u8) -> Awaited
         low: 0x80,
         high: 0xbf,
         more: awaited.more - 1,
+        front: front_after(awaited, byte),
     }
 }
 
@@ -94,12 +129,13 @@ fn is_control(byte: u8) -> bool
     byte < b' ' && byte != b'\t' && byte != b'\n' || byte >= 0x7f && byte <= 0x9f
 }
 
-/// Returns whether the byte is a control byte, and continues no character.
+/// Returns whether the byte is a control byte, and continues no character, or is the last one of a
+/// character that turns or hides text.
 #[tactic(auto, unfolding(crate::specs::Form::is_escaped))]
 pub(crate) fn is_escaped(awaited: Awaited, byte: u8) -> bool
     ensures { result ≡ form.is_escaped awaited byte }
 {
-    !continues(awaited, byte) && is_control(byte)
+    ends_mark(awaited, byte) || !continues(awaited, byte) && is_control(byte)
 }
 
 /// Returns the number of bytes at the front of a text that are shown as they are.

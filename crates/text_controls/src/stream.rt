@@ -11,7 +11,8 @@ use crate::escaping::escape;
 use std::io::{self, Write};
 use std::marker::Model;
 
-/// A writer that hands texts on to a stream, with control bytes as `\xNN` (own).
+/// A writer that hands texts on to a stream, with control bytes, and the last bytes of characters
+/// that turn or hide text, as `\xNN` (own).
 #[derive(Drop)]
 pub struct Shown<W: Write + Drop> {
     stream: W,

@@ -1,0 +1,159 @@
+//! A run that completed, and may have taken a failure for "no", or whose cache is too long.
+
+ghost use Rattle.std.specs.Prelude.{◌≡◌, false};
+
+use crate::lines::put_words;
+use crate::shortages::{names_shortage, names_signal};
+use crew_trait::{Entry, Reply};
+use lint_table::{Page, WordPart, keys};
+use output_put::{Artifact, Kind};
+use std::alloc::Global;
+use std::io::Write;
+
+/// The exit status of a child that a signal ended.
+const BY_SIGNAL: u32 = 256;
+
+/// The most bytes of a cache that can be read.
+const LARGEST_CACHE: usize = 4_194_304;
+
+/// Returns what may be wrong with an answer that isn't "yes". A compiler has a conftest, and the
+/// program that it made has none.
+fn doubt_of(is_compiler: bool, status: u32, diagnostics: &[u8]) -> Option<&'static [u8]> {
+    if names_shortage(diagnostics) {
+        return Some(b"in which a program found no room".as_slice());
+    }
+    if is_compiler && (status == BY_SIGNAL || names_signal(diagnostics)) {
+        return Some(b"in which a signal ended a compiler".as_slice());
+    }
+    None
+}
+
+/// Returns what may be wrong with an entry of a log, if it is a child that failed.
+fn doubt_in(entry: &Entry) -> Option<&'static [u8]> {
+    match entry {
+        Entry::Child {
+            job,
+            reply: Reply::Answer { status, text },
+        } if *status != 0 => doubt_of(job.file.is_some(), *status, text.as_slice()),
+        _ => None,
+    }
+}
+
+/// Returns the text of an entry of a log that is a message, or an empty text.
+fn message_of(entry: &Entry) -> &[u8] {
+    match entry {
+        Entry::Said(note) => note.text.as_slice(),
+        _ => b"",
+    }
+}
+
+/// Returns the message without the dots at its end, if it begins a check.
+fn checked_by(message: &[u8]) -> Option<&[u8]> {
+    if message.starts_with(b"checking ") {
+        message.strip_suffix(b"... ")
+    } else {
+        None
+    }
+}
+
+/// Returns the check that is open after these entries of a log, if one is. An error, a warning or a
+/// notice is no answer.
+fn open_check(log: &[Entry]) -> Option<&[u8]> {
+    let mut answered = 0usize;
+    for i in 0..log.len() {
+        let message = message_of(&log[log.len() - 1 - i]);
+        if let Some(check) = checked_by(message) {
+            if answered == 0 {
+                return Some(check);
+            }
+            answered -= 1;
+        } else if !message.is_empty() && !message.starts_with(b"configure: ") {
+            answered = answered.saturating_add(1);
+        }
+    }
+    None
+}
+
+/// Returns a check as it is named.
+fn named(check: Option<&[u8]>) -> WordPart<'_> {
+    match check {
+        Some(check) => WordPart::Quoted(check),
+        None => WordPart::AsItIs(b"a test without a message"),
+    }
+}
+
+/// Writes the words of a page as a line. If memory ran out, writes nothing.
+fn put_message<E: Write>(alloc: Global, page: Page, errors: &mut E) {
+    if let Ok(words) = page.message() {
+        put_words(alloc, words.as_slice(), errors);
+    }
+}
+
+/// Says of a check that its "no" may be wrong, and what to do.
+fn put_doubt<E: Write>(
+    alloc: Global,
+    cache: &[u8],
+    check: Option<&[u8]>,
+    reason: &[u8],
+    errors: &mut E,
+) {
+    let mut page = Page::new(alloc);
+    let reason = WordPart::AsItIs(reason);
+    if cache.is_empty() {
+        page.put(keys::WRONG_NO_IN_OUTPUTS, &[named(check), reason]);
+    } else {
+        let cache = WordPart::AsItIs(cache);
+        page.put(keys::WRONG_NO_IN_CACHE, &[cache, named(check), reason]);
+    }
+    put_message(alloc, page, errors);
+}
+
+/// Says of the completed run with this log, if it is asked, that a child failed because there was
+/// no room for a process, a file, what it opened or its memory, or that a compiler failed because a
+/// signal ended it, if there is such a child: then the "no" of its check may be wrong. The first is
+/// named. If the run has a cache, its name is `cache`, and otherwise that is empty (own).
+pub fn explain_doubts<E: Write>(
+    alloc: Global,
+    is_asked: bool,
+    log: &[Entry],
+    cache: &[u8],
+    errors: &mut E,
+)
+    ensures silent { is_asked ≡ false → errors.new ≡ errors.old }
+{
+    if is_asked {
+        for i in 0..log.len() {
+            if let Some(reason) = doubt_in(&log[i]) {
+                put_doubt(alloc, cache, open_check(&log[..i]), reason, errors);
+                return;
+            }
+        }
+    }
+}
+
+/// Says that no run can read the cache of this name again.
+fn put_long_cache<E: Write>(alloc: Global, name: &[u8], errors: &mut E) {
+    let mut page = Page::new(alloc);
+    page.put(keys::LONG_CACHE, &[WordPart::AsItIs(name)]);
+    put_message(alloc, page, errors);
+}
+
+/// Says of a cache that was handed over, if it is asked, that no run can read it again, if it is
+/// longer than a cache that is read may be (own).
+pub fn explain_long_cache<E: Write>(
+    alloc: Global,
+    is_asked: bool,
+    handed: &[Artifact],
+    errors: &mut E,
+)
+    ensures silent { is_asked ≡ false → errors.new ≡ errors.old }
+{
+    if !is_asked {
+        return;
+    }
+    for artifact in handed {
+        if artifact.kind == Kind::Cache && artifact.text.len() > LARGEST_CACHE {
+            put_long_cache(alloc, artifact.name.as_slice(), errors);
+        }
+    }
+}
