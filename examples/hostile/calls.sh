@@ -172,7 +172,6 @@ opens config.status > asked
 traced build asked why
 { opens configure.ac; opens ./Makefile.in ./sub/new/x.in ./config.h.in; } > reads
 traced source reads lint configure.ac
-opens configure.ac > reads
 traced source reads port configure.ac
 : > nothing
 traced source nothing help configure
