@@ -1,16 +1,16 @@
 # make try      configures examples/tally before any proof, in three minutes
 # make          proves the crates that the program stands on, then builds it as out/acrun
 # make demo     the same, and runs it on the examples
-# make ports    configures, builds and tests packages of Debian, which it fetches; it says which it skips, and why
+# make ports    configures, builds and tests packages of Debian, which it fetches, some by debhelper, and one by rpmbuild; it says what it skips
 # make compile  tries sample conftests with a real compiler, the one that CC names
 # make check    the gate: every proof, every test, every must-fail edit, each allocation refused, and the checks of tools/repository.py
 # make edits    tries the wrong bodies of every crate, or of those that NAMES names: make edits NAMES="crew plan"
 # make edits-test  tries the script that does it
 # make plants   tries the wrong bodies that tests alone refuse, of every crate, or of those that NAMES names
-# make install  puts the program, acrun-compare, the manual pages, completions and share/configure below $(DESTDIR)$(prefix)
+# make install  puts the program, acrun-compare, the manual pages, completions, share/configure and macros of rpm below $(DESTDIR)$(prefix)
 # make uninstall  removes them
 # make dist     makes an archive of the program for machines without the toolchain, out/acrun-VERSION-x86_64-linux.tar.gz
-# make deb      makes a Debian package of the same files
+# make deb      makes a Debian package of the same files, with a build system and an add-on of debhelper
 
 prefix = /usr/local
 bindir = $(prefix)/bin
@@ -19,6 +19,10 @@ mandir = $(datadir)/man
 bashdir = $(datadir)/bash-completion/completions
 zshdir = $(datadir)/zsh/site-functions
 fishdir = $(datadir)/fish/vendor_completions.d
+# rpm looks in /usr/lib/rpm/macros.d.
+rpmmacrodir = $(prefix)/lib/rpm/macros.d
+# The program that is installed.
+program = out/acrun
 
 .PHONY: all try demo ports compile check edits edits-test plants install install-files uninstall dist deb
 
@@ -45,10 +49,13 @@ demo: all
 	@sh examples/wrapper/run.sh
 	@sh examples/hostile/run.sh out/acrun
 	@sh examples/compare/run.sh
+	@sh examples/editors/run.sh out/acrun || [ $$? -eq 77 ]
 
 # The status 77 says that packages were skipped, and that none failed.
 ports: all
 	@sh examples/ports/run.sh out/acrun || [ $$? -eq 77 ]
+	@sh examples/debian/run.sh out/acrun || [ $$? -eq 77 ]
+	@sh examples/rpm/run.sh out/acrun || [ $$? -eq 77 ]
 
 compile:
 	@sh tools/build.sh tests_compiler
@@ -70,7 +77,8 @@ install: all install-files
 
 install-files:
 	mkdir -p "$(DESTDIR)$(bindir)" "$(DESTDIR)$(mandir)/man1" "$(DESTDIR)$(datadir)/acrun" "$(DESTDIR)$(bashdir)" "$(DESTDIR)$(zshdir)" "$(DESTDIR)$(fishdir)"
-	install -m 755 out/acrun "$(DESTDIR)$(bindir)/acrun"
+	mkdir -p "$(DESTDIR)$(rpmmacrodir)"
+	install -m 755 "$(program)" "$(DESTDIR)$(bindir)/acrun"
 	install -m 755 share/acrun-compare "$(DESTDIR)$(bindir)/acrun-compare"
 	install -m 755 share/configure "$(DESTDIR)$(datadir)/acrun/configure"
 	install -m 644 share/acrun.1 "$(DESTDIR)$(mandir)/man1/acrun.1"
@@ -78,11 +86,13 @@ install-files:
 	install -m 644 share/completions/acrun.bash "$(DESTDIR)$(bashdir)/acrun"
 	install -m 644 share/completions/_acrun "$(DESTDIR)$(zshdir)/_acrun"
 	install -m 644 share/completions/acrun.fish "$(DESTDIR)$(fishdir)/acrun.fish"
+	install -m 644 share/macros.acrun "$(DESTDIR)$(rpmmacrodir)/macros.acrun"
 
 uninstall:
 	rm -f "$(DESTDIR)$(bindir)/acrun" "$(DESTDIR)$(datadir)/acrun/configure" "$(DESTDIR)$(mandir)/man1/acrun.1"
 	rm -f "$(DESTDIR)$(bindir)/acrun-compare" "$(DESTDIR)$(mandir)/man1/acrun-compare.1"
 	rm -f "$(DESTDIR)$(bashdir)/acrun" "$(DESTDIR)$(zshdir)/_acrun" "$(DESTDIR)$(fishdir)/acrun.fish"
+	rm -f "$(DESTDIR)$(rpmmacrodir)/macros.acrun"
 	-rmdir "$(DESTDIR)$(datadir)/acrun"
 
 dist: all

@@ -1,7 +1,7 @@
 #!/usr/bin/env python3
 """Holds what `acrun port` calls exact against Autoconf 2.71, with sources that are made by number.
 
-    tools/fuzz_exact.py PROGRAM [--from N] [--count N] [--seconds N] [--runs N] [--jobs N] [--only MACRO]..
+    tools/fuzz_exact.py PROGRAM [--idioms] [--from N] [--count N] [--seconds N] [--runs N] [--jobs N] [--only MACRO]..
     tools/fuzz_exact.py PROGRAM --stored [NAME..]    the stored sources whose names begin so
     tools/fuzz_exact.py PROGRAM --replay N           shows source N, what port makes of it, and what differs
     tools/fuzz_exact.py PROGRAM --minimize N         the same of the smallest part of it that differs
@@ -13,6 +13,10 @@ and to print the same. If acrun reads what port wrote, it is run too, and its ou
 wrote may be an error for `acrun lint` that the source does not have.
 tools/seeded_compiler.c answers the programs, by what they ask.
 A difference is allowed if a line `~ ` of macros.txt states it for a macro of the source, or one of the sentences below of docs/language.md.
+
+With --idioms a source has also calls of the macros that have a line `& `, if Autoconf itself has them, and port is given that switch. Then
+what is printed and the order of definitions are not compared, and of the cache variables only those that are named in what port writes: a
+sentence of docs/running.md says so. A line `? ` of a macro with a line `& ` states differences too.
 Prints the differences of each source that has some, and last a count. The exit status is 1 if one differs. It needs Autoconf 2.71, m4 and a
 C compiler.
 """
@@ -42,6 +46,7 @@ END = re.compile(r"(?m)^AC_OUTPUT\b")
 SAVE = "set > variables.out\n"
 # Words that Autoconf refuses in a script if no macro has taken them.
 LEFT = re.compile(r"(?m)^[^#\n]*?\b(_?m4_[a-z]\w*|_?A[CHMSU]_[A-Z]\w*|dnl)\b")
+IDIOMS = ("--idioms",)
 QUADRIGRAPHS = (("@<:@", "["), ("@:>@", "]"), ("@{:@", "("), ("@:}@", ")"), ("@S|@", "$"), ("@%:@", "#"), ("@&t@", ""))
 HOST = "x86_64-foo-linux"
 
@@ -198,10 +203,12 @@ def left(room, body, setting, names, assigned, defined, creates=True):
         (folder / "configure.ac").write_text("")
         (folder / "install-sh").write_text("#!/bin/sh\n")
         (folder / "install-sh").chmod(0o755)
+        (folder / "config.guess").write_text("#!/bin/sh\necho x86_64-pc-linux-gnu\n")
+        (folder / "config.sub").write_text('#!/bin/sh\necho "$1"\n')
         put_templates(folder, names, defined)
         made = run(room, ["/bin/sh", "./configure", *([] if creates else ["--no-create"])], folder, setting)
         log = (folder / "config.log").read_text(errors="replace") if (folder / "config.log").exists() else ""
-        printed = re.sub(r"(\.\.\. )(?=checking |configure: |config\.status: )", r"\1\n", made.stdout)
+        printed = re.sub(r"(\.\.\. |^\(cached\) )(?=checking |configure: |config\.status: )", r"\1\n", made.stdout, flags=re.M)
         found = {"status": made.returncode, "standard output": printed.splitlines()}
         found["standard error"] = [re.sub(r"^\./configure: (line )?\d+: ", "", it) for it in made.stderr.splitlines()]
         cached, values = values_in(section(log, "Cache variables.")), values_in(section(log, "Output variables."))
@@ -225,19 +232,46 @@ def is_word(name, text):
 
 
 @functools.lru_cache
-def allowances():
-    """Returns what macros.txt states to differ: for each macro the patterns of names, and of lines that are printed."""
+def allowances(all_idioms=False):
+    """Returns what macros.txt states to differ: for each macro the patterns of names, and of lines that are printed. Those of macros whose
+    idiom is not exact are there if all idioms are written."""
     found = {}
     for entry in macro_table.entries():
-        for names, listed, _ in entry.allowed:
+        others = {name for name, *_ in entry.other}
+        lines = [(names, listed) for names, listed, _ in entry.allowed] + [(others, listed) for listed, _ in entry.differing]
+        for names, listed in lines:
             for name in names:
-                found.setdefault(name, []).extend(listed)
+                if all_idioms or name not in others:
+                    found.setdefault(name, []).extend(listed)
     return found
 
 
-def stated(text):
+def stated(text, all_idioms=False):
     """Returns the patterns of what is stated to differ for the macros of a source."""
-    return [pattern for name, listed in allowances().items() if is_word(name, text) for pattern in listed]
+    found = []
+    for name, listed in allowances(all_idioms).items():
+        if is_word(name, text):
+            firsts = {*re.findall(rf"\b{re.escape(name.partition('(')[0])}\(\[?(\w+)", text)}
+            found += [it.replace("$1", first) for it in listed for first in (firsts if "$1" in it else [""])]
+    return found
+
+
+# What docs/running.md states of all idioms that are not exact.
+OF_IDIOMS = (
+    "running",
+    "Its messages and the order of definitions may be others, and of the cache variables that the macro sets it sets those that it names. "
+    "CPP, GREP and EGREP, which a macro looks for on its way, may be no output variables after it",
+)
+ON_THE_WAY = re.compile(r"(output|values|src/values) (CPP|E?GREP)$")
+
+
+def of_idioms(found, ported):
+    """Returns the differences without those that are stated of all idioms that are not exact. `ported` is the script of what port writes."""
+    said(*OF_IDIOMS)
+    is_printed = re.compile(r"standard |order of definitions$")
+    unset = {name for name, (_, after) in found.items() if name.startswith("cache ") and after is None and not is_word(name[6:], ported)}
+    unset |= {name for name, (_, after) in found.items() if ON_THE_WAY.match(name) and is_missing(after)}
+    return {name: it for name, it in found.items() if not is_printed.match(name) and name not in unset}
 
 
 def differences(before, after):
@@ -336,8 +370,9 @@ def of_language():
 
 
 def is_missing(value):
-    """Returns whether a run has not defined a name, or left a variable of a template as it is."""
-    return value is None or re.fullmatch(r"@\w+@", value)
+    """Returns whether a run has not defined a name, left a variable of a template as it is, or given it no value, as it does if a
+    statement that is not reached declares it."""
+    return not value or re.fullmatch(r"@\w+@", value)
 
 
 def beside_acrun(room, program, text, setting, names, defined, before):
@@ -362,9 +397,9 @@ def candidates(bodies, text):
     return sorted({*re.findall(r"#define (\w+)", "".join(bodies)), *(f"HAVE_{re.sub(r'[^A-Za-z0-9]', '_', it).upper()}" for it in words)})
 
 
-def compared(room, text, ported, settings, program=""):
-    """Returns what differs between the scripts of a source and of what port makes of it: a setting, names and both values. With a program,
-    acrun is run on the latter too, and held against the script of the source."""
+def compared(room, text, ported, settings, switches, program=""):
+    """Returns what differs between the scripts of a source and of what port makes of it with these switches: a setting, names and both
+    values. With a program, acrun is run on the latter too, and held against the script of the source."""
     bodies = [script(END.sub(lambda found: SAVE + found[0], it, count=1)) for it in (text, ported)]
     if bodies[0] is None:
         return "refused"
@@ -372,7 +407,7 @@ def compared(room, text, ported, settings, program=""):
         return [(Setting(), {"Autoconf refuses the output": ("", "")})]
     names = template_names(bodies[0])
     assigned = sorted({*re.findall(r"\b([A-Za-z_]\w*)=", text + ported), *(["INSTALL"] if "AC_PROG_INSTALL" in text else [])})
-    patterns, found, defined = stated(text), [], candidates(bodies, ported)
+    patterns, found, defined = stated(text, switches == IDIOMS), [], candidates(bodies, ported)
     for setting in settings:
         by_acrun = program and is_for_acrun(setting)
         creates = bool(by_acrun) or setting.seed % 4 == 0
@@ -380,7 +415,9 @@ def compared(room, text, ported, settings, program=""):
             continue
         runs = [left(room, it, setting, names, assigned, defined, creates) for it in dict.fromkeys(bodies)]
         runs = [runs[0], runs[-1]]
-        differs = {name: it for name, it in differences(*runs).items() if not is_stated(name, patterns, it[0])}
+        differs = differences(*runs)
+        differs = of_idioms(differs, bodies[1]) if switches == IDIOMS else differs
+        differs = {name: it for name, it in differs.items() if not is_stated(name, patterns, it[0])}
         if any("yntax error" in it for it in runs[0]["standard error"]):
             return "refused"
         if differs:
@@ -392,11 +429,11 @@ def compared(room, text, ported, settings, program=""):
     return found
 
 
-def held(program, room, text, ported, is_read, settings):
-    """Returns what is wrong with what port made of a source."""
+def held(program, room, text, ported, is_read, settings, switches):
+    """Returns what is wrong with what port made of a source with these switches."""
     said(*OF_COMPILER)
     has_compiler = re.search(r"(?m)^AC_PROG_CC$", text)
-    found = compared(room, text, ported, settings, program if is_read and has_compiler else "")
+    found = compared(room, text, ported, settings, switches, program if is_read and has_compiler else "")
     return found if found == "refused" or is_read else written_errors(program, text, ported) + found
 
 
@@ -448,6 +485,36 @@ ARGUMENTS = {
     "AS_VAR_COPY": [("copy", "v1"), ("level", "enable_foo", "v2")],
     "m4_pattern_allow": [("^AC_FOO$", "^fz_")],
 }
+MEMBERS = ("struct stat.st_blksize", "struct tm.tm_zone", "struct foo.bar")
+SIZED = ("long", "[void *]", "size_t", "foo_t", "[unsigned int]", "struct foo", "[long long]")
+# The same of macros with an idiom that is not exact, by the name that the table has for them.
+ARGUMENTS_OF_OTHERS = {
+    "AC_CHECK_MEMBER": [MEMBERS, "action", "action"],
+    "AC_CHECK_MEMBER(includes)": [MEMBERS, "action", "action", ("[#include <sys/stat.h>]", "[[#include <time.h>\n#include <zlib.h>]]")],
+    "AC_CHECK_MEMBERS": [(*MEMBERS, "[struct stat.st_rdev, struct tm.tm_zone]")],
+    "AC_CHECK_MEMBERS(actions)": [(*MEMBERS, "[struct stat.st_rdev, struct tm.tm_zone]"), "action", "action"],
+    "AC_CHECK_MEMBERS(includes)": [(*MEMBERS, "[struct tm.tm_zone, struct foo.bar]"), "action", "action", ("[#include <sys/stat.h>]", "[[#include <time.h>]]")],
+    "AC_CHECK_SIZEOF": [SIZED, ("4", "")],
+    "AC_SIZEOF_TYPE": [SIZED],
+    "AC_CHECK_ALIGNOF": [SIZED],
+    "AC_CHECK_TOOLS": [("STRIP", "RANLIB", "MYNM"), ("strip nm", "none-such ranlib", "none-such"), (":", "strip", "")],
+    "AC_CHECK_TARGET_TOOL": [("STRIP", "MYNM"), ("strip", "nm", "none-such"), (":", "")],
+    "AC_CHECK_TARGET_TOOLS": [("STRIP", "MYNM"), ("strip nm", "none-such ranlib"), (":", "")],
+    "AC_CONFIG_LIBOBJ_DIR": [("lib", "src")],
+    "AC_COPYRIGHT": [("[(C) 2026 a firm, all of it]", "[Copyright]")],
+    "AC_LIBOBJ": [("getline", "foo")],
+    "AC_LIBSOURCE": [("getline.c",)],
+    "AC_LIBSOURCES": [("[getline.c, foo.c]",)],
+    "AC_REPLACE_FUNCS": [FUNCTIONS],
+    "AH_BOTTOM": [TEXTS],
+    "AH_TEMPLATE": [("FOO", "BAR"), TEXTS],
+    "AH_TOP": [TEXTS],
+    "AH_VERBATIM": [("FOO", "BAR"), ("[#undef FOO]",)],
+    "AS_EXIT": [("0", "3")],
+    "AS_UNSET": [("v1", "level")],
+    "AS_VAR_SET_IF": [("fz_none", "PACKAGE_NAME"), "action", "action"],
+    "m4_pattern_forbid": [("^FZ_NEVER",)],
+}
 VALUES = ("yes", "no", "xyes", "/opt", "NONE", '""')
 ONE_WORD = ('"$enable_foo"', '"x$enable_foo"', '"$v1"', "x$with_bar", '"$LIBS"', '"$prefix"', '"${v1}"', "yes", '"$a b"')
 CASED = ("$enable_foo", '"$with_bar"', "$prefix", '"$v1"', "x$v2")
@@ -465,6 +532,8 @@ LAST = (
     "AC_OUTPUT(values \\\n src/values)",
     "AC_CONFIG_FILES([values])\nAC_OUTPUT()",
 )
+# Variables that acrun does not set, as docs/language.md states.
+UNSET = ("OBJEXT", "EXEEXT", "SHELL")
 READ = ("prefix", "exec_prefix", "bindir", "LIBS", "CFLAGS", "CPPFLAGS", "CC", "enable_foo", "with_bar", "PACKAGE_NAME")
 GIVEN = {
     "INSTALL": ("myinstall", "myinstall -c"), "INSTALL_DATA": ("myinstall -m 600",), "INSTALL_PROGRAM": ("myinstall -s",),
@@ -482,12 +551,23 @@ def exact():
     return [(name, entry, least, most) for entry in macro_table.entries() for name, least, most in entry.exact]
 
 
+@functools.lru_cache
+def others():
+    """Returns the same of the macros that have another idiom, if Autoconf itself has them."""
+    rows = [(name, entry, least, most) for entry in macro_table.entries() for name, least, most, _ in entry.other]
+    asked = "".join(f"m4_ifdef([{name.partition('(')[0]}], [# is {name.partition('(')[0]}])\n" for name, *_ in rows)
+    known = {*re.findall(r"# is (\w+)", script(f"AC_INIT([fuzz], [1.0])\n{asked}AC_OUTPUT\n"))}
+    return [row for row in rows if row[0].partition("(")[0] in known]
+
+
 class Maker:
     """Makes a source of a number."""
 
-    def __init__(self, number, names=None):
+    def __init__(self, number, names=None, switches=()):
         self.at = random.Random(number)
-        self.exact = [it for it in exact() if it[0] not in ("AC_OUTPUT(files)", "AC_CONFIG_HEADER") and (not names or it[0] in names)]
+        self.all_idioms = switches == IDIOMS
+        rows = [*(others() * 3 if self.all_idioms else []), *exact()]
+        self.exact = [it for it in rows if it[0] not in ("AC_OUTPUT(files)", "AC_CONFIG_HEADER") and (not names or it[0] in names)]
         self.count = 0
         self.used = []
 
@@ -528,16 +608,17 @@ class Maker:
         return f"[{body}]"
 
     def call(self, depth):
-        """Returns a call of an exact macro."""
+        """Returns a call of a macro that has an idiom."""
         name, _, least, most = self.one(self.exact)
         count = self.at.randint(least, most)
-        kinds = ARGUMENTS.get(name)
+        kinds = ARGUMENTS.get(name) or ARGUMENTS_OF_OTHERS.get(name)
+        name = name.partition("(")[0]
         if count == 0:
             return name
         if kinds is None:
             sys.exit(f"{name} has no arguments in ARGUMENTS")
         made = f"{name}({', '.join(self.argument(it, depth) for it in kinds[:count])})"
-        if name in ("AC_MSG_FAILURE", "AC_ERROR"):
+        if name in ("AC_MSG_FAILURE", "AC_ERROR", "AS_EXIT"):
             return f"if test \"$enable_foo\" = stop; then {made}; fi" if self.has(0.8) else made
         if name == "AC_CACHE_VAL" and self.has(0.5):
             variable = re.match(r"AC_CACHE_VAL\(\[?(\w+)", made)[1]
@@ -665,10 +746,10 @@ class Maker:
 
     def read(self):
         names = [*READ]
-        for entry in {id(it[1]): it[1] for it in self.exact if it[0] in self.called}.values():
+        for entry in {id(it[1]): it[1] for it in self.exact if it[0].partition("(")[0] in self.called}.values():
             names += re.findall(r"AC_(?:SUBST|CHECK_PROGS|PATH_PROG|ARG_VAR)\(\[(\w+)\]", entry.text()) * 3
         names += [name for name in self.cached if not OF_DEFAULT_INCLUDES.match(name)]
-        differing = [it.partition("=")[0] for it in stated(" ".join(self.called))]
+        differing = [*UNSET, *(it.partition("=")[0] for it in stated(" ".join(self.called), self.all_idioms))]
         names = [name for name in names if not any(fnmatch.fnmatchcase(name, it) for it in differing)]
         return f"\"${self.one(names)}\""
 
@@ -676,9 +757,9 @@ class Maker:
         kind = self.at.random()
         if kind < 0.4:
             text = self.call(depth)
-            for name in sorted({*re.findall(r"\b(?:A[CS]|m4)_\w+", text)} & {it[0] for it in self.exact} - self.called):
+            for name in sorted({*re.findall(r"\b(?:A[CS]|m4)_\w+", text)} & {it[0].partition("(")[0] for it in self.exact} - self.called):
                 self.called.add(name)
-                self.cached += cache_names(name)
+                self.cached += [it for it in cache_names(name) if not self.all_idioms or is_kept(name, it)]
             return text
         if kind < 0.6 and depth < 3:
             return self.compound(depth)
@@ -721,7 +802,7 @@ class Maker:
                 f"AC_ARG_WITH([bar], AC_HELP_STRING([--with-bar], [use bar]), [v1=\"$withval\"], {self.action(1)})",
             ]),
         ]
-        if self.has(0.6):
+        if self.has(0.6) or self.all_idioms:
             # What checks look for on their way is looked for here, so that it is no news below.
             blocks += ["AC_CHECK_HEADERS([first.h])", "AC_CHECK_DECLS([EOF])", "AC_PREPROC_IFELSE([AC_LANG_SOURCE([[int first;]])], [v1=1], [v1=2])"]
         for _ in range(self.at.randint(2, 6)):
@@ -733,6 +814,8 @@ class Maker:
                 name = self.fresh("r")
                 blocks.append(f"{name}={self.read()}\nAC_SUBST([{name}])")
         last = self.one(LAST)
+        if any("AC_PREFIX_DEFAULT" in it for it in blocks) and self.all_idioms:
+            blocks = [re.sub(r"\$(\{?)prefix\b", r"$\1exec_prefix", it) for it in blocks]
         if any("MY_CHECK" in it for it in blocks):
             first.append("AC_DEFUN([MY_CHECK], [$1=mine])")
         return [*first, header], ["AC_PROG_CC"] * (not self.has(0.05)) + blocks, last
@@ -770,7 +853,12 @@ def cache_names(name):
 
 
 def least_of(name):
-    return min(least for it, _, least, _ in exact() if it == name)
+    return min(least for it, _, least, _ in [*exact(), *others()] if it.partition("(")[0] == name)
+
+
+def is_kept(name, cached):
+    """Returns whether the idiom of a macro may set a cache variable that the macro sets: it is exact, or has the name."""
+    return any(it == name for it, *_ in exact()) or any(cached in entry.text() for it, entry, *_ in others() if it == name)
 
 
 def joined(first, blocks, last):
@@ -797,16 +885,16 @@ def written_errors(program, text, ported):
     return [(Setting(by="lint"), {f"error in {lines[it['line'] - 1]}: {it['message']}": ("", "")}) for it in new]
 
 
-def judge(program, room, number, names=None, runs=2):
+def judge(program, room, number, names=None, runs=2, switches=()):
     """Returns what is wrong with a source: how it was run, and what differs."""
-    maker = Maker(number, names)
+    maker = Maker(number, names, switches)
     first, blocks, last = maker.source()
     settings = maker.settings(runs)
     text = joined(first, blocks, last)
-    ported, is_read = port(program, text)
+    ported, is_read = port(program, text, *switches)
     if ported == text and not is_read:
         return "same", text, ported
-    return held(program, room, text, ported, is_read, settings), text, ported
+    return held(program, room, text, ported, is_read, settings, switches), text, ported
 
 
 # ---------------------------------------------------------------------------------------------------------------------- stored sources
@@ -855,7 +943,7 @@ def stored(names):
 
 def judge_stored(program, room, text, settings, switches):
     ported, is_read = port(program, text, *switches)
-    return held(program, room, text, ported, is_read, settings), text, ported
+    return held(program, room, text, ported, is_read, settings, switches), text, ported
 
 
 # ---------------------------------------------------------------------------------------------------------------------- runs
@@ -871,21 +959,26 @@ def shown(differs):
             yield f"    {name}" + (f": {before!r}, and {after!r} {other}" if before != after else "")
 
 
-def minimized(program, room, number, names):
-    """Returns the smallest part of a source that still differs, what port makes of it, and the differences: blocks and lines go in turn."""
-    maker = Maker(number, names)
+def minimized(program, room, number, names, switches):
+    """Returns the smallest part of a source in which a name of its first difference still differs, what port makes of it, and the differences:
+    blocks, arguments and variables of the environment go in turn."""
+    maker = Maker(number, names, switches)
     first, blocks, last = maker.source()
     settings = maker.settings(2)
 
     def tried(blocks, settings):
         text = joined(first, blocks, last)
-        ported, is_read = port(program, text)
-        found = held(program, room, text, ported, is_read, settings)
-        return (found, text, ported) if found and not isinstance(found, str) else None
+        ported, is_read = port(program, text, *switches)
+        found = held(program, room, text, ported, is_read, settings, switches)
+        if isinstance(found, str) or (wanted and not any(wanted & {*names} for _, names in found)):
+            return None
+        return (found, text, ported) if found else None
 
+    wanted = set()
     best = tried(blocks, settings)
     if not best:
         return [], joined(first, blocks, last), ""
+    wanted = {*best[0][0][1]}
     settings = [dataclasses.replace(best[0][0][0], by="port")]
     changed = True
     while changed:
@@ -908,9 +1001,9 @@ ROOM = None
 
 def task(given):
     global ROOM
-    program, number, names, runs = given
+    program, number, names, runs, switches = given
     try:
-        return number, *judge(program, ROOM, number, names, runs)
+        return number, *judge(program, ROOM, number, names, runs, switches)
     except Exception as error:
         return number, f"{type(error).__name__}: {error}", "", ""
 
@@ -942,25 +1035,26 @@ def main():
     options.add_argument("--jobs", type=int, default=os.cpu_count())
     options.add_argument("--runs", type=int, default=2)
     options.add_argument("--only", action="append", default=[])
+    options.add_argument("--idioms", action="store_true")
     options.add_argument("--stored", nargs="*", metavar="NAME")
     options.add_argument("--replay", type=int)
     options.add_argument("--minimize", type=int)
     options = options.parse_args()
-    program = str(pathlib.Path(options.program).resolve())
+    program, switches = str(pathlib.Path(options.program).resolve()), IDIOMS if options.idioms else ()
     global ROOM
     ROOM = Room()
     try:
         if options.replay is not None or options.minimize is not None:
             if options.minimize is not None:
-                found, text, ported = minimized(program, ROOM, options.minimize, options.only)
+                found, text, ported = minimized(program, ROOM, options.minimize, options.only, switches)
             else:
-                found, text, ported = judge(program, ROOM, options.replay, options.only, options.runs)
+                found, text, ported = judge(program, ROOM, options.replay, options.only, options.runs, switches)
             print(f"{text}--- after port\n{ported}---", *(shown(found) if not isinstance(found, str) else [found]), sep="\n")
             return int(bool(found) and not isinstance(found, str))
         if options.stored is not None:
             return try_stored(program, options)
         counts, began = {"same": 0, "rewritten": 0, "refused": 0, "differ": 0}, time.time()
-        rows = ((program, number, options.only, options.runs) for number in range(options.first, options.first + options.count))
+        rows = ((program, number, options.only, options.runs, switches) for number in range(options.first, options.first + options.count))
         with concurrent.futures.ProcessPoolExecutor(options.jobs) as pool:
             for number, found, _, _ in pool.map(task, rows):
                 kind = found if found in ("same", "refused") else "differ" if found else "rewritten"

@@ -22,9 +22,10 @@ The lines of macros.txt, by how they begin:
   `$ `      arguments of a run in which that script compares both, in place of one without arguments
   `? `      names of definitions and variables, a colon and a reason: what the idiom leaves otherwise than the macro does, by design.
             That script fails if it doesn't
-  `~ `      names of macros, a colon, what is otherwise, a colon and a reason: what the exact idiom of these macros, or a `drop`, leaves
+  `~ `      names of macros, a colon, what is otherwise, a colon and a reason: what the idiom of these macros, or a `drop`, leaves
             otherwise. That is names of definitions, variables and cache variables, `NAME=VALUE` for one that the macro gives such a
-            value, and lines that are printed, in quotes; a `*` is for any text. tools/fuzz_exact.py allows these differences alone
+            value, and, of an exact idiom, lines that are printed, in quotes; a `*` is for any text, and `$1` for the first argument.
+            tools/fuzz_exact.py allows these differences alone, and those of lines `? `
   blanks    4 of them begin a line of the entry's text
 Empty lines mean nothing. `specs/Places` and `specs/Values` of the crate say what places are, and what they are filled with.
 """
@@ -270,10 +271,12 @@ def wrong():
                 yield f"{name}: what is said of the idiom is no line of plain words"
         for names, listed, reason in entry.allowed:
             for name in names:
-                if name not in {it[0] for it in entry.exact}:
-                    yield f"{name} is no exact macro of the entry, and is said to differ"
+                if name not in {it[0] for it in [*entry.exact, *entry.other]}:
+                    yield f"no idiom of {name} is written, and it is said to differ"
+            if len({name in {it[0] for it in entry.exact} for name in names}) > 1:
+                yield f"{entry.names[0]}: of the macros of a line `~ `, some have an exact idiom and some another one"
             if not names or not listed or not reason:
-                yield f"{entry.names[0]}: what an exact idiom leaves otherwise has macros, names and a reason"
+                yield f"{entry.names[0]}: what an idiom leaves otherwise has macros, names and a reason"
         if entry.kind != "idiom" and len(entry.lines) > 1:
             yield f"{entry.names[0]}: only an idiom has more than one line"
         for word, _shown in entry.words:
@@ -402,14 +405,15 @@ def rows():
             yield f"| other macros that begin with `{entry.names[0]}` | {entry.text()} |"
 
 
-def allowed():
-    """Yields the lines of the table of what exact replacements leave otherwise."""
-    rows = [(names, listed, reason) for entry in entries() for names, listed, reason in entry.allowed]
+def allowed(is_exact, heading, sentence):
+    """Yields the lines of the table of what exact replacements, or the others, leave otherwise."""
+    rows = []
+    for entry in entries():
+        exact_names = {name for name, *_ in entry.exact}
+        rows += [(names, listed, reason) for names, listed, reason in entry.allowed if (names[0] in exact_names) == is_exact]
     if not rows:
         return
-    yield from ("", "### What an exact replacement leaves otherwise", "")
-    yield "`acrun port` writes these without `--idioms` too. A `*` is for any text."
-    yield from ("", "| In place of | Otherwise | Why |", "|---|---|---|")
+    yield from ("", f"### {heading}", "", sentence, "", "| In place of | Otherwise | Why |", "|---|---|---|")
     for names, listed, reason in rows:
         yield f"| {', '.join(names)} | {', '.join(f'`` {it} ``' if '`' in it else f'`{it}`' for it in listed)} | {reason} |"
 
@@ -428,7 +432,13 @@ def part_of_guide():
     for section in filter(is_shown, sections()):
         lines += ["", f"### {section.heading}", *([""] + section.prose if section.prose else [])]
         lines += [*table_of_idioms(section), *blocks(section), *what_differs(section)]
-    lines += allowed()
+    lines += allowed(True, "What an exact replacement leaves otherwise", "`acrun port` writes these without `--idioms` too. A `*` is for any text.")
+    lines += allowed(
+        False,
+        "What an idiom leaves otherwise",
+        "`acrun port --idioms` writes these, below a line that says in what they differ. A `$1` is for the first argument, and a `*` for any text. "
+        "What differs by design is said with the idioms above.",
+    )
     return "\n".join(lines) + "\n"
 
 

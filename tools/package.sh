@@ -1,11 +1,14 @@
 #!/bin/sh
 # Makes an archive or a Debian package of out/acrun, for machines without the toolchain.
-#   package.sh dist    out/acrun-VERSION-x86_64-linux.tar.gz
-#   package.sh deb     out/acrun_VERSION_amd64.deb
+#   package.sh dist [PROGRAM [DIRECTORY]]    out/acrun-VERSION-x86_64-linux.tar.gz
+#   package.sh deb [PROGRAM [DIRECTORY]]     out/acrun_VERSION_amd64.deb
+# Another program than out/acrun, and another directory than out, are for trials.
 # The same commit, program and tools give the same bytes, in any directory and at any time, whoever makes it and with any umask. The time
 # of each file is that of the last commit, or SOURCE_DATE_EPOCH.
 set -e
 kind=$1
+program=${2-out/acrun}
+out=${3-out}
 version=$(sed -n 's/^pub const VERSION: &str = "\(.*\)";$/\1/p' crates/cmd_help/src/texts.rt)
 [ -n "$version" ] || { echo 'package.sh: crates/cmd_help/src/texts.rt names no version' >&2; exit 2; }
 SOURCE_DATE_EPOCH=${SOURCE_DATE_EPOCH:-$(git log -1 --format=%ct 2> /dev/null || echo 0)}
@@ -15,7 +18,7 @@ trap 'rm -rf "$folder"' EXIT
 
 # The oldest version of the C library that has all that the program asks of it.
 glibc() {
-    LC_ALL=C objdump -T out/acrun | sed -n 's/.*GLIBC_\([0-9][0-9.]*\).*/\1/p' | sort -t. -k1,1n -k2,2n -k3,3n | tail -1
+    LC_ALL=C objdump -T "$program" | sed -n 's/.*GLIBC_\([0-9][0-9.]*\).*/\1/p' | sort -t. -k1,1n -k2,2n -k3,3n | tail -1
 }
 
 # The KiB that the package takes, whatever the file system: each file rounded up, and one for each directory.
@@ -31,7 +34,7 @@ settle_files() {
 
 make_dist() {
     name=acrun-$version-x86_64-linux
-    MAKEFLAGS='' make -s install-files DESTDIR="$folder/" prefix="$name"
+    MAKEFLAGS='' make -s install-files DESTDIR="$folder/" prefix="$name" program="$program"
     cp -R README.md CHANGELOG.md LICENSE docs "$folder/$name"
     {
         echo "acrun $version for x86_64 Linux"
@@ -40,17 +43,20 @@ make_dist() {
         echo
         echo 'Check the archive by the sum that was published with it, `sha256sum acrun-*.tar.gz`. To install, copy bin/ and share/ below'
         echo '/usr/local or another prefix: cp -R bin share /usr/local'
+        echo 'lib/ has macros of rpm, which looks in /usr/lib/rpm/macros.d.'
     } > "$folder/$name/INSTALL"
     settle_files
-    tar --sort=name --owner=0 --group=0 --numeric-owner --format=ustar -C "$folder" -cf - "$name" | gzip -9n > "out/$name.tar.gz"
-    sha256sum "out/$name.tar.gz"
+    tar --sort=name --owner=0 --group=0 --numeric-owner --format=ustar -C "$folder" -cf - "$name" | gzip -9n > "$out/$name.tar.gz"
+    sha256sum "$out/$name.tar.gz"
 }
 
 make_deb() {
-    package=out/acrun_${version}_amd64.deb
+    package=$out/acrun_${version}_amd64.deb
     share=$folder/usr/share
-    MAKEFLAGS='' make -s install-files DESTDIR="$folder" prefix=/usr
-    strip --strip-unneeded "$folder/usr/bin/acrun"
+    MAKEFLAGS='' make -s install-files DESTDIR="$folder" prefix=/usr program="$program"
+    mkdir -p "$share/perl5/Debian"
+    cp -R share/debhelper "$share/perl5/Debian/Debhelper"
+    strip --strip-unneeded --remove-section=.comment --remove-section=.note "$folder/usr/bin/acrun"
     mkdir -p "$share/doc/acrun" "$folder/DEBIAN"
     cp README.md CONTRIBUTING.md docs/*.md "$share/doc/acrun"
     cp LICENSE "$share/doc/acrun/copyright"
@@ -67,6 +73,8 @@ Section: devel
 Priority: optional
 Architecture: amd64
 Depends: libc6 (>= $(glibc))
+Provides: dh-sequence-acrun
+Enhances: debhelper
 Installed-Size: $(installed_size)
 Maintainer: $(git log -1 --format='%an <%ae>')
 Description: proved configure engine that reads configure.ac itself
@@ -76,6 +84,7 @@ Description: proved configure engine that reads configure.ac itself
  is never taken for "no", and a run that was cut is taken up again from
  its cache.
 END
+    (cd "$folder" && find usr -type f | LC_ALL=C sort | xargs -d '\n' md5sum) > "$folder/DEBIAN/md5sums"
     settle_files
     dpkg-deb --root-owner-group --build "$folder" "$package" > /dev/null
     sha256sum "$package"

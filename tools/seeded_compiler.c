@@ -1,9 +1,10 @@
 /* A compiler's stand-in for configure scripts of Autoconf and for acrun: whether it takes a program is a function of what the
    program asks, of the flags -l, and of a seed, the number in SEEDED_COMPILER.
    What a program asks: a header, if it only includes; a function, if it declares `char NAME (void);` or `char NAME ();` and calls
-   it; a type, if it takes the size of one; a declaration, if it casts a name to void unless that is a macro; otherwise its text.
+   it; a type, if it takes the size of one; a declaration, if it casts a name to void unless that is a macro; a member, if it takes
+   one of a variable or takes its size; whether a size or an alignment is a number, or at least or at most that; otherwise its text.
    Its definitions, its default includes, its comments and its blanks do not count, so that two programs that ask the same get the
-   same answer.
+   same answer. A size is one of seven, or the type does not compile.
    What AC_PROG_CC and AC_PROG_CPP try is answered as by GCC. A program that it links ends with 0 or 1, by another bit, and with
    1 if the environment has SEEDED_CROSS.
    Build: cc -O1 -static -o gcc seeded_compiler.c */
@@ -62,6 +63,7 @@ static void plain(char *text) {
             "#ifdef HAVE_SYS_TYPES_H # include <sys/types.h> #endif #ifdef HAVE_SYS_STAT_H # include <sys/stat.h> #endif "
             "#ifdef HAVE_UNISTD_H # include <unistd.h> #endif ");
   cut(text, "#include <stddef.h> #include <stdio.h> #include <stdlib.h> #include <string.h> #include <sys/types.h> ");
+  cut(text, "#include <inttypes.h> #include <sys/stat.h> #include <unistd.h> ");
 }
 
 /* Copies the text between two marks into a buffer, and returns whether both are there. */
@@ -74,15 +76,71 @@ static int between(const char *text, const char *first, const char *last, char *
   return 1;
 }
 
-/* Adds what is asked to the sum. Returns 1 for a program that GCC takes, 0 for one that it doesn't take, and -1 for another one. */
-static int asked(char *text, int is_ansi) {
+/* Returns the size or the alignment of a type, whatever the flags are, or 0 if the seed is against the type. */
+static int measure(const char *kind, const char *type) {
+  static const int sizes[] = {8, 4, 2, 1, 16, 8, 4, 12, 0, 0};
+  const char *seed = getenv("SEEDED_COMPILER");
+  uint64_t before = sum;
+  sum = 0xcbf29ce484222325u;
+  add(seed ? seed : "");
+  add(kind);
+  add(type);
+  int size = sizes[mixed() % (sizeof sizes / sizeof *sizes)];
+  sum = before;
+  return strcmp(kind, "alignment") == 0 && size == 12 ? 1 : size;
+}
+
+/* Returns whether a program about a size or an alignment is taken, or -1 for another program. One that writes the number to a file
+   leaves it in `wanted`. */
+static int measured(const char *text, int *wanted) {
+  char type[300], test[300];
+  const char *kind = strstr(text, "offsetof (") ? "alignment" : "size";
+  if (strcmp(kind, "alignment") == 0) {
+    if (!between(text, "struct { char x; ", " y; }", type) && !between(text, "struct both { char c; ", " t; };", type)) return -1;
+  } else if (!between(text, "(sizeof (", "))", type) && !between(text, "[sizeof (", ") == ", type) && !between(text, "return sizeof (", ") == 0;", type)) {
+    return -1;
+  }
+  int size = measure(kind, type);
+  if (strstr(text, "longval (void)")) {
+    *wanted = size;
+    return size > 0;
+  }
+  if (strstr(text, "return sizeof (")) return size > 0;
+  if (between(text, ") == ", " ? 1 : -1]", test)) return size > 0 && size == atoi(test);
+  if (!between(text, "[1 - 2 * !(((long int) ", ")];", test)) return -1;
+  char *sign = strpbrk(test, "<>"), *last = sign;
+  while (sign && (sign = strpbrk(sign + 1, "<>"))) last = sign;
+  if (!last || size == 0) return 0;
+  int number = atoi(last + 1 + (last[1] == '='));
+  return last[0] == '>' ? size >= number : last[1] == '=' ? size <= number : size < number;
+}
+
+/* Adds what a program asks of a member, and returns whether it does. */
+static int is_member(const char *text) {
+  char whole[1000];
+  const char *begin = strstr(text, "static ");
+  if (!begin || strlen(begin) >= sizeof whole || (!strstr(begin, " ac_aggr; if (") && !strstr(begin, " whole; if ("))) return 0;
+  strcpy(whole, begin);
+  cut(whole, "ac_aggr");
+  cut(whole, "whole");
+  cut(whole, "; return 0; }");
+  add("member");
+  add(whole);
+  return 1;
+}
+
+/* Adds what is asked to the sum. Returns 1 for a program that is taken, 0 for one that isn't, and -1 for another one. */
+static int asked(char *text, int is_ansi, int *wanted) {
   static const char *taken[] = {"#ifndef __GNUC__ choke me", "conformance?", "fopen (\"conftest.out\", \"w\")", "Syntax error", "ac_decl"};
   char name[300], call[400], *last = 0;
-  if (strstr(text, "ac_nonexistent.h") || strstr(text, "(void) strchr;") || strstr(text, "sizeof ((")) return 0;
+  if (strstr(text, "ac_nonexistent.h") || strstr(text, "(void) strchr;") || strstr(text, "if (sizeof ((")) return 0;
   if (strcmp(text, "int main (void) { ; return 0; }") == 0) return 1;
   for (size_t i = 0; i < sizeof taken / sizeof *taken; i++)
     if (strstr(text, taken[i])) return 1;
   if (strstr(text, "foo_t static_foo")) return !is_ansi || strstr(text, "__inline");
+  int fits = measured(text, wanted);
+  if (fits != -1) return fits;
+  if (is_member(text)) return -1;
   for (char *at = text; (at = strstr(at, "#include <")); at++) last = at;
   if (last && !strstr(text, "main") && between(last, "#include <", ">", name) && !strchr(last + 1, '#')) {
     add("header");
@@ -130,7 +188,7 @@ int main(int count, char **words) {
   plain(text);
   add(how);
   add(seed ? seed : "");
-  int known = asked(text, is_ansi), takes = known == -1 ? mixed() % 10 < 6 : known;
+  int wanted = 0, known = asked(text, is_ansi, &wanted), takes = known == -1 ? mixed() % 10 < 6 : known;
   if (!takes) {
     fprintf(stderr, "%s:1:1: error: the seed is against it\n", source);
     return 1;
@@ -145,6 +203,7 @@ int main(int count, char **words) {
   int ends_well = !getenv("SEEDED_CROSS") && (known == 1 || (mixed() >> 40 & 1));
   made = made ? made : "a.out";
   unlink(made);
-  if (put(made, ends_well ? "#!/bin/sh\nexit 0\n" : "#!/bin/sh\nexit 1\n") != 0) return 2;
+  snprintf(object, sizeof object, "#!/bin/sh\necho %d > conftest.val\nexit 0\n", wanted);
+  if (put(made, wanted && !getenv("SEEDED_CROSS") ? object : ends_well ? "#!/bin/sh\nexit 0\n" : "#!/bin/sh\nexit 1\n") != 0) return 2;
   return chmod(made, 0755) == 0 ? 0 : 2;
 }

@@ -17,6 +17,8 @@
 # libraries of the package. If one is missing, or if the machine's archives have the package in another version alone, it says so and ends
 # with 77. It ends with 1 if something is otherwise than it should be.
 # If ROWS is set in the environment, it prints the package's rows of docs/guide.md too.
+# If PORTED=DIRECTORY is set, it copies the sources there as they are moved over, with no script of Autoconf, and ends: it needs no Autoconf
+# then.
 # To make the edits anew, set UNEDITED=DIRECTORY in the environment, which copies the sources there, edit a copy of them, and set
 # EDITED=COPY, which first makes the edits of it. Both are absolute paths.
 set -u
@@ -64,6 +66,13 @@ fetch() {
     [ "$(sha256sum < "$archive" | cut -d ' ' -f 1)" = "$sum" ] || { wrong 'the archive is another one'; exit 1; }
 }
 
+# Applies the edits, and ports what they leave.
+move() {
+    sh "$here/../apply.sh" "$here/edits" . || { wrong 'the edits do not apply'; exit 1; }
+    cp -R . "$work/edited"
+    acrun port --idioms "$work/edited/configure.ac" > configure.ac || wrong 'port leaves something to do'
+}
+
 # Compares what acrun made with what Autoconf made in another directory, of sources that the second word names.
 compare() {
     sh "$share/acrun-compare" -k -x "$here/known" "$1" "$work/ours" > "$work/compared" || {
@@ -108,10 +117,16 @@ rows() {
 for tool in apt-get make cc ${tools-}; do
     command -v "$tool" > /dev/null || skip "there is no $tool"
 done
-autoconf --version 2> /dev/null | grep -q '^autoconf .* 2\.71$' || skip 'there is no Autoconf 2.71'
+[ -n "${PORTED-}" ] || autoconf --version 2> /dev/null | grep -q '^autoconf .* 2\.71$' || skip 'there is no Autoconf 2.71'
 fetch
 tar xf "$archive" -C "$work/ours" --strip-components=1
 cd "$work/ours" && eval "${prepare-}" || exit 2
+if [ -n "${PORTED-}" ]; then
+    move
+    rm -f configure
+    mkdir -p "$PORTED" && cp -R . "$PORTED" || exit 2
+    exit $status
+fi
 cp -R . "$work/theirs"
 
 # Autoconf keeps a script that is newer than its source, such as the one of the archive that another Autoconf made.
@@ -123,10 +138,7 @@ cd "$work/ours" || exit 2
 cp -R . "$work/unedited"
 [ -z "${UNEDITED-}" ] || { mkdir -p "$UNEDITED" && cp -R . "$UNEDITED"; }
 [ -z "${EDITED-}" ] || sh "$here/../edits.sh" "$work/unedited" "$(realpath "$EDITED")" "$here/edits"
-sh "$here/../apply.sh" "$here/edits" . || { wrong 'the edits do not apply'; exit 1; }
-cp -R . "$work/edited"
-acrun port --idioms "$work/edited/configure.ac" > configure.ac
-[ $? = 0 ] || wrong 'port leaves something to do'
+move
 [ -z "${ROWS-}" ] || { cp -R . "$work/one" && cp -R . "$work/four"; }
 cp -R . "$work/both"
 acrun lint --json . | grep -q '"severity":"error"' && wrong 'lint finds an error'

@@ -78,6 +78,9 @@ status() {
     fi
 }
 
+# parts_of NAME: the arguments for all that a source may declare of the build, the host or the target.
+parts_of() { echo "[$1=x86_64-pc-linux-gnu][$1_cpu=x86_64][$1_vendor=pc][$1_os=linux-gnu]"; }
+
 rows_of_one_shell() {
     row '[-j1][configure]'
     # Debian: dh_auto_configure
@@ -123,8 +126,40 @@ rows_of_one_shell() {
     printf 'usage: acrun configure\n  host_os  a\n  target' > ../help
     row '[-j1][configure][target=a]' --build=a --target=a
     row '[-j1][configure][target=a]' --build=a
+    row '[-j1][configure][host_os=linux-gnu][target=x86_64-pc-linux-gnu][-q]' --build=x86_64-linux-gnu -q
+    row '[-j1][configure][host_os=linux-gnu][target=x86_64-pc-linux-gnu][host_os=b]' --build=x86_64-linux-gnu host_os=b
+    row '[-j1][configure]' --build= --target=
+    # All parts, and the names that config.sub gives
+    printf 'usage: acrun configure\n  %s\n' > ../help host 'host_cpu  a' host_vendor host_os 'build b' build_cpu build_vendor build_os target \
+        target_cpu target_vendor target_os
+    row "[-j1][configure]$(parts_of host)$(parts_of build)$(parts_of target)[-q]" --build=x86_64-linux-gnu --host=x86_64-linux-gnu -q
+    printf '  host\n  host_cpu\n  host_vendor\n  host_os\n' > ../help
+    while read -r given named; do
+        cpu=${named%%-*} os=${named#*-*-} vendor=${named#*-}
+        row "[-j1][configure][host=$named][host_cpu=$cpu][host_vendor=${vendor%%-*}][host_os=$os]" "--build=$given"
+    done << 'END'
+x86_64-linux-gnu x86_64-pc-linux-gnu
+x86_64-linux x86_64-pc-linux-gnu
+x86_64-linux-gnux32 x86_64-pc-linux-gnux32
+x86_64-linux-musl x86_64-pc-linux-musl
+x86_64-pc-linux-gnu x86_64-pc-linux-gnu
+x86_64-unknown-linux-gnu x86_64-unknown-linux-gnu
+x86_64-redhat-linux-gnu x86_64-redhat-linux-gnu
+x86_64-redhat-linux x86_64-redhat-linux-gnu
+x86_64-suse-linux x86_64-suse-linux-gnu
+x86_64-alpine-linux-musl x86_64-alpine-linux-musl
+i386-linux-gnu i386-pc-linux-gnu
+i686-linux-gnu i686-pc-linux-gnu
+i586-suse-linux i586-suse-linux-gnu
+END
+    # Names without parts
+    row '[-j1][configure][host=a]' --build=a
+    row '[-j1][configure][host=x86_64-linux-]' --build=x86_64-linux-
+    row '[-j1][configure][host=x86_64--linux]' --build=x86_64--linux
+    row '[-j1][configure][host=aarch64-linux-gnu]' --build=aarch64-linux-gnu
+    row '[-j1][configure][host=aarch64-a-linux-gnu][host_cpu=aarch64][host_vendor=a][host_os=linux-gnu]' --build=aarch64-a-linux-gnu
     echo 2 > ../status
-    row '[-j1][configure]' --build=a
+    row '[-j1][configure]' --build=x86_64-linux-gnu
     rm ../help ../status ../asked
     # The environment stays
     build=1 srcdir=2 name=3 row '[-j1][configure] build=1 srcdir=2 name=3' --build=a --host=a

@@ -4,3 +4,4 @@ pub mod FeatureLemmas
 pub mod EntryLists
 pub mod PartsLaws
 pub mod PartsLoop
+pub mod HelpParts

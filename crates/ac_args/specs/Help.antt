@@ -2,10 +2,11 @@
 --
 -- AS_HELP_STRING is looked for among the argument's items or, if the argument is one quoted run with blanks and `dnl`
 -- lines around it, among the items of the run's inside. Quadrigraphs are replaced later, in the text that is read
--- there. If AS_HELP_STRING is called, only blanks and `dnl` lines may be beside it, and the help is an entry. If it
--- isn't called, or the items can't be read, the help is the argument's used text. (Own: Autoconf expands AS_HELP_STRING
--- wherever it finds it.)
-use Rattle.std.specs.Prelude.{ℕ, Bool, true, false, ◌&&◌, ◌||◌, ◌==◌, List, [], ◌∷◌, length, Option, Some, None, Result, Ok, Err, codes, if◌then◌else◌}
+-- there. If AS_HELP_STRING is called, only blanks and `dnl` lines may be beside it, and the help is an entry. If the
+-- items can't be read and AS_HELP_STRING is in the text, the help has the error in reading them. Otherwise the help is
+-- the argument's used text. (Own: Autoconf expands AS_HELP_STRING wherever it finds it.)
+use Rattle.std.specs.Prelude.{ℕ, Bool, true, false, ◌&&◌, ◌||◌, ◌==◌, nat_eq, List, [], ◌∷◌, length, Option, Some, None, Result, Ok, Err, codes, if◌then◌else◌}
+use Rattle.std.specs.List.{starts_with}
 use Rattle.std.specs.Str.{bytes_eq}
 use Rattle.m4quote.specs.ItemValue.{Span, ItemValue, call, bare}
 use Rattle.ac_statement.specs.declared.fault.ParseFault.{ParseFault}
@@ -64,10 +65,20 @@ help_by arg called (Some c) = help_string c.args c.at
 help_by arg true None = Err (UnknownStatement arg.at)
 help_by arg false None = own_text arg
 
+-- The text has this part. (own)
+unfoldable pub has_part : List ℕ → List ℕ → Bool
+has_part part [] = false
+has_part part (b ∷ bs) = starts_with nat_eq (b ∷ bs) part || has_part part bs
+
+-- The help of an argument whose items can't be read: it has that error if AS_HELP_STRING is in it. (own)
+abbrev pub unread_help : Span → Bool → ParseFault → Result Help ParseFault
+unread_help arg true f = Err f
+unread_help arg false f = own_text arg
+
 -- The help of an argument, by its items or the error in reading them. (own)
 abbrev pub help_among : Span → Result (List ItemValue) ParseFault → Result Help ParseFault
 help_among arg (Ok items) = help_by arg (has_call help_string_name items) (sole_call help_string_name items)
-help_among arg (Err f) = own_text arg
+help_among arg (Err f) = unread_help arg (has_part help_string_name arg.text) f
 
 -- The help that an argument gives. (own)
 unfoldable pub help : Span → Result Help ParseFault

@@ -93,6 +93,31 @@ fn help_among(alloc: Global, arg: Arg<'_>, items: &[Item<'_>]) -> Result<Help, P
     own_text(alloc, arg)
 }
 
+/// Returns whether AS_HELP_STRING is in the text.
+#[tactic(auto, using(crate::proofs::HelpParts::part_end))]
+fn has_help_string(text: &[u8]) -> bool
+    ensures { result ≡ words.has_part words.help_string_name text.now }
+{
+    for i in 0..text.len() {
+        if text[i..].starts_with(HELP_STRING) {
+            return true;
+        }
+    }
+    false
+}
+
+/// Returns the help of an argument whose items can't be read because of this error.
+fn unread_help(alloc: Global, arg: Arg<'_>, fault: ParseFault) -> Result<Help, ParseFault>
+    ensures { Gives (λ h. h) result (
+        words.unread_help (span arg.entry)
+        (words.has_part words.help_string_name (span arg.entry).text) fault) }
+{
+    if has_help_string(arg.text) {
+        return Err(fault);
+    }
+    own_text(alloc, arg)
+}
+
 /// Returns the help that an argument gives. If AS_HELP_STRING is called among its items
 /// (`call_items`), it is the entry that the call makes; else it is the argument's used text.
 ///
@@ -101,6 +126,7 @@ fn help_among(alloc: Global, arg: Arg<'_>, items: &[Item<'_>]) -> Result<Help, P
 /// - `UnknownStatement` at the argument, if it calls AS_HELP_STRING and has anything else but
 ///   blanks and `dnl` lines.
 /// - `ArgCount` at the name AS_HELP_STRING, if the call doesn't have two arguments.
+/// - The error in reading the items, if AS_HELP_STRING is in the text of the argument.
 #[tactic(auto, unfolding(crate::specs::Help::help))]
 pub fn help(alloc: Global, arg: Arg<'_>) -> Result<Help, ParseFault>
     ensures { Gives (λ h. h) result (words.help (span arg.entry)) }
@@ -108,6 +134,6 @@ pub fn help(alloc: Global, arg: Arg<'_>) -> Result<Help, ParseFault>
     match call_items(alloc, arg) {
         Ok(items) => help_among(alloc, arg, &items),
         Err(ParseFault::OutOfMemory) => Err(ParseFault::OutOfMemory),
-        Err(_) => own_text(alloc, arg),
+        Err(fault) => unread_help(alloc, arg, fault),
     }
 }

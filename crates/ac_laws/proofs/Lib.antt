@@ -6,3 +6,6 @@ pub mod Clear
 pub mod Positions
 pub mod Listed
 pub mod Counted
+mod Idles
+mod Holdings
+mod Helps

@@ -11,7 +11,7 @@ use cachefile::{OldCache, read_cache};
 use deftable::Vars;
 use lint_table::Words;
 use lint_words::precious_words;
-use options::{PreciousFault, Settings, mark_name};
+use options::{PreciousFault, Settings, mark_name, value_before};
 use std::alloc::{AllocError, Global};
 
 /// What a run was given, once its source was judged.
@@ -54,14 +54,6 @@ fn old_value<'a>(
     Ok(Some(poured(vars, cache, value_name.as_slice())))
 }
 
-/// Returns the value that a variable has, or `None` if it is unset.
-fn value_now<'a>(vars: &'a Vars, name: &[u8]) -> Option<&'a [u8]>
-    ensures { option_map (λ v. v.now) result ≡ value_of vars.now name.now }
-{
-    let value = vars.get(name)?;
-    Some(value.as_slice())
-}
-
 /// Returns the name of the cache, or an empty text if none is named.
 fn cache_name(settings: &Settings) -> &[u8] {
     match &settings.cache_name {
@@ -78,7 +70,7 @@ fn of_name(
     name: &[u8],
 ) -> Result<Words, AllocError> {
     let old = old_value(alloc, &settings.vars, cache, name)?;
-    let now = value_now(&settings.vars, name);
+    let now = value_before(alloc, &settings.vars, name)?;
     precious_words(alloc, name, old, now, cache_name(settings))
 }
 

@@ -72,7 +72,8 @@ macro that acrun does not read replaced, if another text does the same exactly, 
 a call: `if`, and a statement after a test and `&&` or `||`, become AS_IF, and `case` becomes AS_CASE. A statement after AC_DEFINE gets
 a line of its own, an argument with an `if` or a `case` gets brackets, AC_HELP_STRING becomes AS_HELP_STRING, and backslashes go from the ends
 of lines of lists. All else is copied. What has to be done by hand has a line `dnl acrun: ..` above it, with what `acrun lint` says
-there. FILE itself is not written.
+there. FILE itself is not written. Standard error gets those warnings of `acrun lint` that say that something in the text that is
+printed means another thing to Autoconf.
 
   --idioms   write texts too that differ from the macro, with the call's arguments in them, and AC_MSG_RESULT in place of `echo`, each
              below a line `dnl acrun: in place of MACRO: ..` that says in what; such a line is not counted as left to do

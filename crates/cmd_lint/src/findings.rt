@@ -8,7 +8,7 @@ ghost use Rattle.ac_tree.specs.Script.{script_of};
 use crate::reading::Linted;
 use crate::reasons::add_reasons;
 use crate::sheets::{Sheets, sheets_of};
-use crate::templates::read_all;
+use crate::templates::{add_lost_of_calls, read_all};
 use crate::warnings::add_warnings;
 use ac_calls::{CallAt, calls_of};
 use ac_tree::Source;
@@ -100,19 +100,65 @@ fn add_all_warnings(
     }
 }
 
-/// Appends the warnings about a source and its templates, and puts what was found in order of
-/// place.
-fn finish(
+/// Appends an error for each output that a call of a refused source names, if its template can't be
+/// read.
+fn add_lost<D: Disk>(
     alloc: Global,
-    text: &[u8],
+    disk: &D,
+    linted: &Linted,
+    calls: &[CallAt],
+    source: &Option<Source>,
+    found: &mut Vec<Finding>,
+) -> Result<(), AllocError> {
+    match source {
+        Some(_) => Ok(()),
+        None => add_lost_of_calls(alloc, disk, linted, calls, found),
+    }
+}
+
+/// Appends the warnings about a source and its templates, and the errors of templates of a refused
+/// source, and puts what was found in order of place.
+fn finish<D: Disk>(
+    alloc: Global,
+    disk: &D,
+    linted: &Linted,
     source: &Option<Source>,
     sheets: &Sheets,
     found: &mut Vec<Finding>,
 ) -> Result<(), AllocError> {
+    let text = linted.text.as_slice();
     add_reasons(alloc, text, found)?;
     let calls = calls_of(alloc, text)?;
+    add_lost(alloc, disk, linted, calls.as_slice(), source, found)?;
     add_all_warnings(alloc, text, calls.as_slice(), source, sheets, found)?;
     put_in_order(found)
+}
+
+/// The warnings about a source and its templates, in order of place, and the templates.
+#[derive(Drop)]
+pub(crate) struct Warnings {
+    pub(crate) findings: Vec<Finding>,
+    pub(crate) sheets: Sheets,
+}
+
+/// Returns the warnings about a source and its templates. The errors of templates that can't be
+/// read are among them.
+pub(crate) fn warnings_in<D: Disk>(
+    alloc: Global,
+    disk: &D,
+    linted: &Linted,
+) -> Result<Warnings, AllocError> {
+    let text = linted.text.as_slice();
+    let mut found = Vec::new(alloc);
+    let source = parsed(alloc, text)?;
+    let sheets = sheets_for(alloc, disk, linted, &source, &mut found)?;
+    let calls = calls_of(alloc, text)?;
+    add_all_warnings(alloc, text, calls.as_slice(), &source, &sheets, &mut found)?;
+    put_in_order(&mut found)?;
+    Ok(Warnings {
+        findings: found,
+        sheets,
+    })
 }
 
 /// Returns what is found in a source, in order of place: its errors, the templates that are not
@@ -130,7 +176,7 @@ pub(crate) fn found_in<D: Disk>(
     let source = parsed(alloc, text)?;
     let sheets = sheets_for(alloc, disk, linted, &source, &mut findings)?;
     let has_error = has_some(findings.as_slice());
-    finish(alloc, text, &source, &sheets, &mut findings)?;
+    finish(alloc, disk, linted, &source, &sheets, &mut findings)?;
     Ok(Found {
         findings,
         sheets,

@@ -12,10 +12,12 @@
 //!
 //! Read `command`, then `reading`, which reads a source, `findings`, which finds, and `showing`.
 //! `words` reads the words of the command, `templates` the templates of a source, and `reasons` says
-//! of a statement of a shell why no call can be put in its place.
+//! of a statement of a shell why no call can be put in its place, and `differing` has the warnings
+//! of what means another thing to Autoconf.
 #![tactic(auto)]
 
 mod command;
+mod differing;
 mod findings;
 mod reading;
 mod reasons;
@@ -26,6 +28,7 @@ mod warnings;
 mod words;
 
 pub use command::{may_colour, run_lint};
+pub use differing::differences_of;
 pub use reading::{Linted, SOURCE, read_named};
 pub use reasons::add_reasons;
 pub use words::{has_input, is_option};

@@ -18,6 +18,12 @@ pub(crate) struct Form {
     pub(crate) is_coloured: bool,
 }
 
+/// An excerpt without colours.
+pub(crate) const PLAIN: Form = Form {
+    is_json: false,
+    is_coloured: false,
+};
+
 /// Returns a finding as it is shown, in a file of this name with this text.
 fn shown_in(
     alloc: Global,
@@ -40,7 +46,7 @@ fn shown_in(
 }
 
 /// Returns a finding as it is shown, in the source or in one of its templates.
-fn shown(
+pub(crate) fn shown(
     alloc: Global,
     form: Form,
     linted: &Linted,

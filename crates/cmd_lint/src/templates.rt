@@ -7,13 +7,16 @@ ghost use Rattle.cmd_lint.specs.Status.{outputs_of};
 ghost use Rattle.ac_tree.specs.Script.{script_of};
 
 use crate::reading::Linted;
+use ac_calls::CallAt;
 use ac_tree::Source;
+use acparse::{ParseFault, parse};
 use cmd_call::read_templates;
 use deftable::Bytes;
 use file_disk::Disk;
 use file_texts::path_in;
 use lint_findings::Finding;
 use lint_table::{Page, WordPart, keys};
+use lint_text::part;
 use output_list::Output;
 use std::alloc::{AllocError, Global};
 
@@ -152,4 +155,54 @@ pub(crate) fn read_all<D: Disk>(
     let templates = read_templates(alloc, disk, linted.directory.as_slice(), files, headers)?;
     add_all_lost(alloc, linted, templates.as_slice(), files, headers, found)?;
     Ok(templates)
+}
+
+/// Returns whether a call of this name names outputs.
+fn names_outputs(name: &[u8]) -> bool {
+    name == b"AC_CONFIG_FILES".as_slice() || name == b"AC_CONFIG_HEADERS".as_slice()
+}
+
+/// Returns the statements of a source that has this call alone, unless that is refused.
+fn alone(alloc: Global, call: &[u8]) -> Result<Option<Source>, AllocError> {
+    let mut text = Vec::from_slice(alloc, b"AC_INIT([a],[1])\n")?;
+    text.extend_from_slice(call)?;
+    text.extend_from_slice(b"\nAC_OUTPUT\n")?;
+    match parse(alloc, text.as_slice()) {
+        Ok(source) => Ok(Some(source)),
+        Err(ParseFault::OutOfMemory) => Err(AllocError),
+        Err(_) => Ok(None),
+    }
+}
+
+/// Appends an error for each output that a call names, if its template can't be read.
+fn add_lost_of_call<D: Disk>(
+    alloc: Global,
+    disk: &D,
+    linted: &Linted,
+    call: &CallAt,
+    found: &mut Vec<Finding>,
+) -> Result<(), AllocError> {
+    let text = linted.text.as_slice();
+    if !names_outputs(part(text, call.start, call.name_end)) {
+        return Ok(());
+    }
+    match alone(alloc, part(text, call.start, call.end))? {
+        Some(source) => read_all(alloc, disk, linted, &source, found).map(|_| ()),
+        None => Ok(()),
+    }
+}
+
+/// Appends an error for each output that one of these calls names, if its template can't be read. A
+/// call of which a source can't be made is passed over.
+pub(crate) fn add_lost_of_calls<D: Disk>(
+    alloc: Global,
+    disk: &D,
+    linted: &Linted,
+    calls: &[CallAt],
+    found: &mut Vec<Finding>,
+) -> Result<(), AllocError> {
+    for call in calls {
+        add_lost_of_call(alloc, disk, linted, call, found)?;
+    }
+    Ok(())
 }

@@ -94,3 +94,15 @@ by_words files words asked request reads result a b is some all gives ne =
 
 pub not_wrong : (words : Option Request) (request : Request) (result : ℕ) → Some request ≡ words → words ≡ None → result ≡ 2
 not_wrong words request result is none = absurd (let z : Some request ≡ None = is ∙ none in cc)
+
+-- ---- text and then warnings
+
+-- What follows a text that was written, if the status isn't 2
+pub status_after : (first second wanted : ℕ) → (first ≢ 2 → first ≡ wanted) → (first ≡ 2 → ⊥) → (second ≢ 2 → second ≡ first) → second ≢ 2 → second ≡ wanted
+status_after first second wanted is went same ne = same ne ∙ is went
+
+pub put_after : {A : Type 0} (first : ℕ) → (first ≢ 2 → A) → (first ≡ 2 → ⊥) → A
+put_after first put went = put went
+
+pub warned_after : {S : Type 0} {P : S → Type 0} (first second : ℕ) (old mid new : S) → (first ≢ 2 → mid ≡ old) → (first ≡ 2 → ⊥) → (second ≢ 2 → (new ≡ mid) ⊎ P mid) → second ≢ 2 → (new ≡ old) ⊎ P old
+warned_after {S} {P} first second old mid new silent went warned ne = subst (λ s. (new ≡ s) ⊎ P s) (silent went) (warned ne)

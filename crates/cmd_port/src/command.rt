@@ -1,6 +1,6 @@
 //! The command.
 
-ghost use Rattle.std.specs.Prelude.{◌≡◌, ◌≢◌, ◌≤◌, ◌&&◌, false, ℕ, List, option_map, None};
+ghost use Rattle.std.specs.Prelude.{◌≡◌, ◌≢◌, ◌⊎◌, ◌≤◌, ◌&&◌, false, ℕ, List, option_map, None};
 ghost use Rattle.std.specs.List.{list_any};
 ghost use Rattle.std.specs.Io.KnownBytes.{Appends};
 ghost use Rattle.cmd_call.specs.Calls as calls;
@@ -11,7 +11,7 @@ ghost use Rattle.cmd_port.specs.Printed as specs;
 use crate::asking::request_of;
 use crate::{Ported, port};
 use cmd_call::{FAULT, tell_file, tell_memory, tell_usage};
-use cmd_lint::{Linted, has_input, read_named};
+use cmd_lint::{Linted, differences_of, has_input, read_named};
 use deftable::Bytes;
 use file_disk::Disk;
 use lint_errors::errors_of;
@@ -52,6 +52,43 @@ fn status_of(ported: &Ported) -> u8
     if ported.has_comments { 1 } else { 0 }
 }
 
+/// The name of standard output in what is printed.
+const OUTPUT: &[u8] = b"standard output";
+
+/// Returns the warnings that something in the text that is printed means another thing to Autoconf.
+/// The templates are in the directory of the source.
+fn warnings_of<D: Disk>(
+    alloc: Global,
+    disk: &D,
+    linted: &Linted,
+    ported: &Ported,
+) -> Result<Vec<u8>, AllocError> {
+    let printed = Linted {
+        name: Bytes::from_slice(alloc, OUTPUT)?,
+        directory: linted.directory.copy(alloc)?,
+        text: ported.text.copy(alloc)?,
+    };
+    differences_of(alloc, disk, &printed)
+}
+
+/// Writes warnings, and returns the exit status: that which is given, unless they can't be written.
+fn put_warnings<E: Write>(warnings: &[u8], answer: u8, errors: &mut E) -> u8
+    requires { answer ≤ 1 }
+    ensures bound { result ≤ 2 }
+    ensures status { result ≢ 2 → result ≡ answer }
+    ensures warned { result ≢ 2
+        → (errors.new ≡ errors.old)
+        ⊎ ((page : List ℕ) × Appends (E.contents errors.old) (E.contents errors.new) page) }
+{
+    if warnings.is_empty() {
+        return answer;
+    }
+    match errors.write_all(warnings) {
+        Ok(()) => answer,
+        Err(_) => FAULT,
+    }
+}
+
 /// Writes a text, and returns the exit status: that which is given, unless the text can't be
 /// written.
 fn put_text<W: Write, E: Write>(text: &[u8], status: u8, output: &mut W, errors: &mut E) -> u8
@@ -63,7 +100,7 @@ fn put_text<W: Write, E: Write>(text: &[u8], status: u8, output: &mut W, errors:
 {
     match output.write_all(text) {
         Ok(()) => status,
-        Err(_) => tell_file(errors, b"standard output"),
+        Err(_) => tell_file(errors, OUTPUT),
     }
 }
 
@@ -72,6 +109,7 @@ fn put_text<W: Write, E: Write>(text: &[u8], status: u8, output: &mut W, errors:
 fn put_ported<W: Write, E: Write>(ported: &Ported, output: &mut W, errors: &mut E) -> u8
     ensures bound { result ≤ 2 }
     ensures status { result ≢ 2 → result ≡ specs.status_of ported.now.has_comments }
+    ensures low { result ≢ 2 → result ≤ 1 }
     ensures silent { result ≢ 2 → errors.new ≡ errors.old }
     ensures put { result ≢ 2
         → Appends (W.contents output.old) (W.contents output.new) ported.now.text }
@@ -79,23 +117,72 @@ fn put_ported<W: Write, E: Write>(ported: &Ported, output: &mut W, errors: &mut 
     put_text(ported.text.as_slice(), status_of(ported), output, errors)
 }
 
+/// Writes a source that was rewritten and the warnings about it, and returns the exit status.
+#[tactic(auto, using(crate::proofs::Written::status_after, crate::proofs::Written::put_after, crate::proofs::Written::warned_after))]
+fn put_both<W: Write, E: Write>(
+    ported: &Ported,
+    warnings: &[u8],
+    output: &mut W,
+    errors: &mut E,
+) -> u8
+    ensures bound { result ≤ 2 }
+    ensures status { result ≢ 2 → result ≡ specs.status_of ported.now.has_comments }
+    ensures warned { result ≢ 2
+        → (errors.new ≡ errors.old)
+        ⊎ ((page : List ℕ) × Appends (E.contents errors.old) (E.contents errors.new) page) }
+    ensures put { result ≢ 2
+        → Appends (W.contents output.old) (W.contents output.new) ported.now.text }
+{
+    let status = put_ported(ported, output, errors);
+    if status == 2 {
+        return status;
+    }
+    put_warnings(warnings, status, errors)
+}
+
+/// Writes a source that was rewritten and the warnings about it, and returns the exit status.
+fn print_ported<D: Disk, W: Write, E: Write>(
+    alloc: Global,
+    disk: &D,
+    linted: &Linted,
+    ported: &Ported,
+    output: &mut W,
+    errors: &mut E,
+) -> u8
+    ensures bound { result ≤ 2 }
+    ensures status { result ≢ 2 → result ≡ specs.status_of ported.now.has_comments }
+    ensures warned { result ≢ 2
+        → (errors.new ≡ errors.old)
+        ⊎ ((page : List ℕ) × Appends (E.contents errors.old) (E.contents errors.new) page) }
+    ensures put { result ≢ 2
+        → Appends (W.contents output.old) (W.contents output.new) ported.now.text }
+{
+    match warnings_of(alloc, disk, linted, ported) {
+        Ok(warnings) => put_both(ported, warnings.as_slice(), output, errors),
+        Err(_) => tell_memory(errors),
+    }
+}
+
 /// Prints a source with its calls rewritten, and returns the exit status.
 #[tactic(auto, using(crate::proofs::Written::answered))]
-fn port_source<W: Write, E: Write>(
+fn port_source<D: Disk, W: Write, E: Write>(
     alloc: Global,
+    disk: &D,
     idioms: Idioms,
     linted: &Linted,
     output: &mut W,
     errors: &mut E,
 ) -> u8
     ensures bound { result ≤ 2 }
-    ensures silent { result ≢ 2 → errors.new ≡ errors.old }
+    ensures warned { result ≢ 2
+        → (errors.new ≡ errors.old)
+        ⊎ ((page : List ℕ) × Appends (E.contents errors.old) (E.contents errors.new) page) }
     ensures ported { result ≢ 2
         → (out : List ℕ) × specs.IsPrinted idioms linted.now.text out result
         × Appends (W.contents output.old) (W.contents output.new) out }
 {
     match port(alloc, idioms, linted.text.as_slice()) {
-        Ok(Some(ported)) => put_ported(&ported, output, errors),
+        Ok(Some(ported)) => print_ported(alloc, disk, linted, &ported, output, errors),
         Ok(None) => tell_quotes(alloc, linted, errors),
         Err(_) => tell_memory(errors),
     }
@@ -115,7 +202,9 @@ fn port_named<D: Disk, R: Read, W: Write, E: Write>(
 ) -> u8
     ensures input { reads ≡ false → input.new ≡ input.old }
     ensures bound { result ≤ 2 }
-    ensures silent { result ≢ 2 → errors.new ≡ errors.old }
+    ensures warned { result ≢ 2
+        → (errors.new ≡ errors.old)
+        ⊎ ((page : List ℕ) × Appends (E.contents errors.old) (E.contents errors.new) page) }
     ensures ported { result ≢ 2
         → (out : List ℕ)
         × ((text : List ℕ) × (directory : List ℕ)
@@ -124,7 +213,7 @@ fn port_named<D: Disk, R: Read, W: Write, E: Write>(
         × Appends (W.contents output.old) (W.contents output.new) out }
 {
     match read_named(alloc, disk, reads, input, name) {
-        Ok(Some(linted)) => port_source(alloc, idioms, &linted, output, errors),
+        Ok(Some(linted)) => port_source(alloc, disk, idioms, &linted, output, errors),
         Ok(None) => tell_file(errors, name),
         Err(_) => tell_memory(errors),
     }
@@ -136,8 +225,11 @@ fn port_named<D: Disk, R: Read, W: Write, E: Write>(
 /// source or of a directory with a `configure.ac`. Without a name, `configure.ac` is read. Without
 /// `--idioms`, exact idioms alone are written. Nothing is run, and no file is written.
 ///
+/// Standard error gets the warnings of `lint` that something in the text that is printed means
+/// another thing to Autoconf. They don't change the status.
+///
 /// The status is 0 if nothing is left to do; 1 if the text has comments about what is left; and 2
-/// if the source can't be read, if its quotes have an error, if the text can't be written, or if
+/// if the source can't be read, if its quotes have an error, if something can't be written, or if
 /// the words are wrong. Then standard error says so (own).
 #[tactic(auto, using(crate::proofs::Written::by_words, crate::proofs::Written::not_wrong))]
 pub fn run_port<D: Disk, R: Read, W: Write, E: Write>(
@@ -152,8 +244,10 @@ pub fn run_port<D: Disk, R: Read, W: Write, E: Write>(
     ensures input { list_any calls.is_input words.now ≡ false → input.new ≡ input.old }
     // The status is one of these three.
     ensures status { result ≤ 2 }
-    // Standard error has something only if the status is 2.
-    ensures silent { result ≢ 2 → errors.new ≡ errors.old }
+    // Unless the status is 2, standard error is as it was, or has text after what it had.
+    ensures warned { result ≢ 2
+        → (errors.new ≡ errors.old)
+        ⊎ ((page : List ℕ) × Appends (E.contents errors.old) (E.contents errors.new) page) }
     // It is 2 if the words are wrong.
     ensures usage { wanted.request_of words.now ≡ None → result ≡ 2 }
     // Unless it is 2, the source that the words name is written as it was rewritten. It is 1 if

@@ -1,6 +1,7 @@
 -- No name has two entries in the variables, from the opening of a run to its end.
 use Rattle.std.proofs.Common.{ℕ, Bool, true, false, List, [], ◌∷◌, Option, Some, None, sym, subst}
 use Rattle.std.specs.Prelude.{fold, is_some, if◌then◌else◌}
+use Rattle.std.specs.List.{flat_map}
 use Rattle.cachefile.specs.Cache.{with_setting, vars_after}
 use Rattle.cachefile.specs.Line.{Setting, Sets, Defaults}
 use Rattle.cachefile.proofs.Orders.{Entries}
@@ -13,7 +14,7 @@ use Rattle.deftable.proofs.Tables.{HasDistinctNames-with_entry, HasDistinctNames
 use Rattle.meaning_laws.proofs.Kept.{Closed, of_variables, meaning_keeps}
 use Rattle.meaning.specs.Meaning.{meaning}
 use Rattle.meaning.specs.State.{opened}
-use Rattle.options.specs.Opening.{with_variable, set_by, with_unslashed, with_marks, finished}
+use Rattle.options.specs.Opening.{with_variable, set_by, with_unslashed, marks_of, with_marks, unmarked, finished}
 use Rattle.meaning_resumption.specs.Plays.{played}
 use Rattle.meaning_resumption.proofs.Runs.{at_end}
 use Rattle.meaning_laws.proofs.Plays.{same_end}
@@ -35,18 +36,11 @@ unslashed : (ds : List Directory) (base : Entries) → HasDistinctNames base →
 unslashed [] base h = h
 unslashed (d ∷ ds) base h = unslashed ds (with_unslashed base d) (one_unslashed base d h)
 
-one_marked : (base : Entries) (name : List ℕ) → HasDistinctNames base → HasDistinctNames (with_marks base name)
-unfolding with_marks
-one_marked base name h = HasDistinctNames-with_entry _ _ _ (HasDistinctNames-with_entry _ _ _ h)
-
-marked : (names : List (List ℕ)) (base : Entries) → HasDistinctNames base → HasDistinctNames (fold with_marks base names)
-marked [] base h = h
-marked (name ∷ names) base h = marked names (with_marks base name) (one_marked base name h)
-
 pub finished_distinct : (precious : List (List ℕ)) (es : Entries) → HasDistinctNames (finished precious (set_by es))
-unfolding finished set_by
+unfolding finished with_marks unmarked set_by
 finished_distinct precious es =
-    marked precious (fold with_unslashed (fold with_variable [] es) directories) (unslashed directories (fold with_variable [] es) (fold_distinct es [] HasDistinctNames-[]))
+    let base = fold with_unslashed (fold with_variable [] es) directories in
+    fold_distinct (flat_map (marks_of base) precious) base (unslashed directories (fold with_variable [] es) (fold_distinct es [] HasDistinctNames-[]))
 
 one_setting : (base : Entries) (s : Setting) → HasDistinctNames base → HasDistinctNames (with_setting base s)
 one_setting base (Sets name value) h = HasDistinctNames-with_entry base name value h

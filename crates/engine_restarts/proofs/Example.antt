@@ -1,5 +1,5 @@
--- The premises of the laws can be met: by a source with a precious variable, whose first call is
--- cut at the test of a function. The variable has a name like a mark, but of none that is precious.
+-- The premises of the laws can be met: by a source with precious variables, whose first call is
+-- cut at the test of a function. Of its two precious variables one is a mark of the other.
 use Rattle.acparse.specs.Profile.{source_of}
 use Rattle.cachefile.proofs.Orders.{Entries}
 use Rattle.cachefile.specs.Cache.{entry_of, lines_from, cache_of, vars_after, limit}
@@ -29,11 +29,11 @@ use Rattle.meaning.specs.Meaning.{effect, after_subject, is_taken, meaning, chos
 use Rattle.meaning.specs.Package.{escaped, initialised}
 use Rattle.meaning.specs.Play.{Played, play, whole}
 use Rattle.meaning.specs.State.{State, How, opened, Goes_on, Completed, Cut, Run}
-use Rattle.options.specs.Opening.{cache_named, source_directory, setters, set_by, with_unslashed, with_marks, finished, is_declared, run_settings, opened_by, opening}
-use Rattle.options.specs.Precious.{old_value, blanks_note, restored, restored_variable, restored_from, checked}
+use Rattle.options.specs.Opening.{cache_named, source_directory, setters, set_by, with_unslashed, with_marks, marks_of, unmarked, marks_one, finished, is_declared, run_settings, opened_by, opening}
+use Rattle.options.specs.Precious.{old_value, value_before, blanks_note, restored, restored_variable, restored_from, checked}
 use Rattle.options.specs.Unrecognized.{after_comma, listed, warning, notes_of}
 use Rattle.cachefile.proofs.Texts.{setting_of}
-use Rattle.engine_restarts.specs.Calls.{replies_to, Given, follows, CanResume, no_cache, Saved}
+use Rattle.engine_restarts.specs.Calls.{replies_to, Given, follows, no_cache, Saved}
 use Rattle.engine_restarts.specs.Law.{Again, joined, WasCut}
 use Rattle.meaning_resumption.specs.Joint.{joint_plain, begins, scope_at, joint, joint_cases}
 use Rattle.meaning_resumption.specs.Plays.{played}
@@ -141,21 +141,19 @@ text t = map parts.Plain t
 abbrev sets : List ℕ → Script
 sets name = Then declares.Nothing (Assign name (text (codes "1"))) Done
 
--- AC_INIT([a],[1]), AC_ARG_VAR([ac_cv_env_X_value],[help]), AC_CHECK_HEADER([a.h],[x=1]),
--- AC_CHECK_FUNC([f],[y=1]) and AC_OUTPUT.
+-- AC_INIT([a],[1]), AC_ARG_VAR([ac_cv_env_X_value],[help]), AC_ARG_VAR([X],[help]),
+-- AC_CHECK_HEADER([a.h],[x=1]), AC_CHECK_FUNC([f],[y=1]) and AC_OUTPUT.
 abbrev example : Script
 example =
     Then declares.Begin (Package (codes "a") (codes "1") [] (codes "a") [])
     (Then (declares.Precious (codes "ac_cv_env_X_value") (codes "help")) Nothing
+    (Then (declares.Precious (codes "X") (codes "help")) Nothing
     (Choice declares.Nothing (Asked (Checks (ListEntry Header) (codes "a.h") None)) (Case Yes (sets (codes "x")) No_case)
-    (Choice declares.Nothing (Asked (Checks (ListEntry Function) (codes "f") None)) (Case Yes (sets (codes "y")) No_case) (Then declares.End Complete Done))))
+    (Choice declares.Nothing (Asked (Checks (ListEntry Function) (codes "f") None)) (Case Yes (sets (codes "y")) No_case) (Then declares.End Complete Done)))))
 
-form : CanResume example
-unfolding after with_name has_name has_cv is_cache_name is_mark
-form = record {
-  resumable = ((tt, (tt, tt)), ((tt, (tt, tt)), ((tt, (tt, tt)), ((tt, (((tt, (inl refl, (tt, tt))), tt), tt)), ((tt, (tt, tt)), ((tt, (((tt, (inl refl, (tt, tt))), tt), tt)), ((tt, (tt, tt)), tt)))))));
-  precious = ((refl, refl), tt);
-}
+resumable : IsResumable example
+unfolding has_cv is_cache_name
+resumable = ((tt, (tt, tt)), ((tt, (tt, tt)), ((tt, (tt, tt)), ((tt, (tt, tt)), ((tt, (((tt, (inl refl, (tt, tt))), tt), tt)), ((tt, (tt, tt)), ((tt, (((tt, (inl refl, (tt, tt))), tt), tt)), ((tt, (tt, tt)), tt))))))))
 
 -- ---- what a call is given; the text is any that is read as the source
 
@@ -171,18 +169,18 @@ call source = record {
 }
 
 abbrev begin_vars : Entries
-begin_vars = finished (codes "ac_cv_env_X_value" ∷ []) (set_by (setters environment (Switched ConfigCache ∷ [])))
+begin_vars = finished (codes "ac_cv_env_X_value" ∷ codes "X" ∷ []) (set_by (setters environment (Switched ConfigCache ∷ [])))
 
 abbrev start : Start
 start = record { cache_name = Some (codes "config.cache"); srcdir = codes "."; no_create = false; args = codes "-C" ∷ []; vars = begin_vars; notes = [] }
 
 first_accepted : (source : List ℕ) → source_of source ≡ Ok example → follows (call source) None ≡ Ok (Starts example start)
-unfolding acceptance accepted_after source_settings present started cache_named source_directory setters set_by with_unslashed with_marks finished is_declared run_settings opened_by opening old_value blanks_note restored restored_variable restored_from checked after_comma listed warning notes_of value_in rest_of switch_of switches install_directory_of target_of package_of choice_of said_with_value dashed_of read_argument settings_from key_of directories variable_of default_of directory_named kept_from unslashed without_slashes after value_of with_entry without_entry with_name has_name parts_by parts fields
+unfolding acceptance accepted_after source_settings present started value_before is_mark cache_named source_directory setters set_by with_unslashed with_marks marks_of unmarked marks_one finished is_declared run_settings opened_by opening old_value blanks_note restored restored_variable restored_from checked after_comma listed warning notes_of value_in rest_of switch_of switches install_directory_of target_of package_of choice_of said_with_value dashed_of read_argument settings_from key_of directories variable_of default_of directory_named kept_from unslashed without_slashes after value_of with_entry without_entry with_name has_name parts_by parts fields
 first_accepted source read = ap (λ r. named of_parse r >>= λ script. source_settings (call source).arguments (call source).environment script >>= accepted_after (call source).arguments None [] script) read
 
 -- What runs compute with.
 on_values : Unit {0}
-unfolding cache_named source_directory setters set_by with_unslashed with_marks finished is_declared run_settings opened_by opening directories variable_of default_of directory_named value_of with_entry without_entry effect after_subject is_taken meaning chosen directories_of out_name file_name words_of compile_words link_words_with conftest_text run_of job_of ended default_includes header_source function_source truth word_value parts_by parts fields escaped initialised is_mark has_cv is_cache_name line_for word_of
+unfolding cache_named source_directory setters set_by with_unslashed with_marks marks_of unmarked marks_one finished is_declared run_settings opened_by opening directories variable_of default_of directory_named value_of with_entry without_entry effect after_subject is_taken meaning chosen directories_of out_name file_name words_of compile_words link_words_with conftest_text run_of job_of ended default_includes header_source function_source truth word_value parts_by parts fields escaped initialised is_mark has_cv is_cache_name line_for word_of
 on_values = tt
 
 -- ---- the first call
@@ -214,7 +212,7 @@ abbrev saved : (source : List ℕ) → source_of source ≡ Ok example → Saved
 saved source read = record {
   accepted = first_accepted source read;
   meant = record { end = first_end; ran = first_ran; told = refl };
-  form = form;
+  resumable = resumable;
   named = refl;
   own = no_cache;
   small = (let few = small in omega (arith, few));
@@ -224,7 +222,7 @@ abbrev was_cut : (source : List ℕ) → source_of source ≡ Ok example → Was
 was_cut source read = record {
   saved = saved source read;
   cut = tt;
-  alone = (tt, (tt, (((tt, ((tt, tt), tt)), tt), (((tt, ((tt, tt), tt)), tt), (tt, tt)))));
+  alone = (tt, (tt, (tt, (((tt, ((tt, tt), tt)), tt), (((tt, ((tt, tt), tt)), tt), (tt, tt))))));
 }
 
 -- ---- the second call
@@ -233,7 +231,7 @@ abbrev second : Start
 second = record start { vars = vars_after (map setting_of (saved_entries first_run.state.vars)) begin_vars }
 
 second_accepted : (source : List ℕ) → source_of source ≡ Ok example → follows (call source) (Some (cache_text_of first_run.state.vars)) ≡ Ok (Starts example second)
-unfolding on_values acceptance accepted_after source_settings present started old_value blanks_note restored restored_variable restored_from checked after_comma listed warning notes_of value_in rest_of switch_of switches install_directory_of target_of package_of choice_of said_with_value dashed_of read_argument settings_from key_of kept_from unslashed without_slashes after with_name has_name entry_of lines_from cache_of rest_after before_brace sets_nothing front_word default_setting assigned_setting assignment guarded_setting setting_in line_of step value_from
+unfolding on_values acceptance accepted_after source_settings present started value_before marks_one old_value blanks_note restored restored_variable restored_from checked after_comma listed warning notes_of value_in rest_of switch_of switches install_directory_of target_of package_of choice_of said_with_value dashed_of read_argument settings_from key_of kept_from unslashed without_slashes after with_name has_name entry_of lines_from cache_of rest_after before_brace sets_nothing front_word default_setting assigned_setting assignment guarded_setting setting_in line_of step value_from
 second_accepted source read = ap (λ r. named of_parse r >>= λ script. source_settings (call source).arguments (call source).environment script >>= accepted_after (call source).arguments (Some (cache_text_of first_run.state.vars)) [] script) read
 
 abbrev second_run : Played
@@ -251,7 +249,7 @@ second_ran = whole_ran (whole (meaning example (opened second.vars))) second_run
 
 same_again : SameAgain example (record { first = opened begin_vars; replies = replies; second = opened second.vars; again = good ∷ [] })
 unfolding on_values joint_plain begins scope_at joint joint_cases SameAgain SameCases
-same_again = (tt, (tt, (((λ h k. let z : Some (codes "yes") ≡ None = k in cc, (tt, tt)), tt), (((λ h k. let z : Cut ≡ Goes_on = h in cc, tt), tt), tt))))
+same_again = (tt, (tt, (tt, (((λ h k. let z : Some (codes "yes") ≡ None = k in cc, (tt, tt)), tt), (((λ h k. let z : Cut ≡ Goes_on = h in cc, tt), tt), tt)))))
 
 abbrev report : Report
 report = report_of second second_end 2

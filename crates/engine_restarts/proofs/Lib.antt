@@ -7,5 +7,5 @@ mod Judging
 mod Tellings
 mod Starting
 mod Reports
-mod Counter
+mod Uncached
 mod Example

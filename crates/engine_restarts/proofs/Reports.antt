@@ -71,7 +71,7 @@ configures_resume forms resume asks given cache script start second window other
     let q = played script (opened second.vars) more in
     let uncut = not_cut q.how (first_refused more) report.outcome two.outcome again.uncut in
     let law = resume script (opened start.vars) (opened second.vars) replies more (record {
-      resumable = saves.form.resumable;
+      resumable = saves.resumable;
       commands = forms.commands given.source script source;
       names = forms.names given.source script source;
       alone = cut.alone;

@@ -12,7 +12,6 @@ use Rattle.cachefile.specs.declared.fault.CacheFault.{CacheFault}
 use Rattle.cachefile.specs.declared.fault.CacheFault.TheVariants.{TooLarge}
 use Rattle.crew_trait.specs.Events.{Account}
 use Rattle.deftable.specs.CacheName.{is_cache_name}
-use Rattle.deftable.specs.NameList.{has_name}
 use Rattle.deftable.specs.Table.{value_of, HasDistinctNames}
 use Rattle.deftable.proofs.Tables.{HasDistinctNames-[]}
 use Rattle.engine_frame.specs.Faults.{of_option, of_cache, of_precious, named}
@@ -21,18 +20,18 @@ use Rattle.engine_frame.specs.declared.starting.Start.{Start}
 use Rattle.engine_frame.specs.declared.report.Report.{Report}
 use Rattle.meaning.specs.Meaning.{meaning}
 use Rattle.meaning.specs.State.{opened}
-use Rattle.options.specs.Opening.{opening, set_by}
+use Rattle.options.specs.Opening.{opening, set_by, set_name, value_name, marks_one}
 use Rattle.options.specs.Precious.{checked}
 use Rattle.meaning_resumption.specs.Poured.{poured}
 use Rattle.meaning_laws.proofs.Plays.{same_end, whole_enough}
 use Rattle.meaning_resumption.proofs.Whole.{script_part}
 use Rattle.ac_tree.specs.Lists.{lists_of}
 use Rattle.ac_tree.specs.Script.{Script}
-use Rattle.engine_restarts.specs.Calls.{Given, follows, replies_to, IsOwnCache, no_cache, saved_cache, set_name, value_name, HasPlainMarks, Saved}
+use Rattle.engine_restarts.specs.Calls.{Given, follows, replies_to, IsOwnCache, no_cache, saved_cache, Saved}
 use Rattle.engine_restarts.specs.Second.{SecondCallStarts}
 use Rattle.engine_restarts.proofs.Distinct.{finished_distinct, settings_distinct, played_distinct}
 use Rattle.engine_restarts.proofs.Judging.{HaveForms, Way, way, named_ok, start_of, comparison}
-use Rattle.engine_restarts.proofs.Marks.{is_mark-set_name, is_mark-value_name, IsMarked, finished_marked, SameMarks, same_checked, checked_leaves}
+use Rattle.engine_restarts.proofs.Marks.{is_mark-set_name, is_mark-value_name, IsMarked, AreOne, all_ones, finished_marked, SameMarks, same_checked, checked_leaves}
 use Rattle.engine_restarts.proofs.Openings.{opening_finished}
 use Rattle.engine_restarts.proofs.Settings.{over, value_over, saved_there, poured_again, mark_again}
 use Rattle.engine_restarts.proofs.Sorting.{saved_distinct}
@@ -98,7 +97,7 @@ first_call forms given cache window script start before now report h w =
     let own = old_entries w.settings.cache_name cache w.old h.own w.read in
     let replies = replies_to before h.meant in
     let told = tells window script start before now report h.meant in
-    let sets = (script_part script [] [] (λ n k. k) (forms.commands given.source script w.source) (forms.names given.source script w.source) h.form.resumable).sets (opened start.vars) replies (whole_enough (meaning script (opened start.vars)) replies told.enough) in
+    let sets = (script_part script [] [] (λ n k. k) (forms.commands given.source script w.source) (forms.names given.source script w.source) h.resumable).sets (opened start.vars) replies (whole_enough (meaning script (opened start.vars)) replies told.enough) in
     record {
       own = own;
       begins = λ q. ap (λ s. value_of s.vars q) w.is ∙ ap (λ ss. value_of (vars_after ss w.left.0) q) own.are ∙ value_over own.entries w.left.0 q own.distinct;
@@ -123,16 +122,16 @@ same_mark script start report vars below old f q m there same =
     ∙ sym (ap (λ b. over b s r) m) ∙ sym (value_over entries vars q f.own.distinct) ∙ sym (ap (λ ss. value_of (vars_after ss vars) q) f.own.are)
 
 same_marks : (script : Script) (start : Start) (report : Report) (vars below : Entries) (old : List Setting) → First script start report below old
-    → (all : List (List ℕ)) → ((q : List ℕ) → has_name all q ≡ false → value_of below q ≡ value_of vars q)
-    → (precious : List (List ℕ)) → AllByRecursion (HasPlainMarks all) precious → AllByRecursion (IsMarked vars) precious
+    → (all : List (List ℕ)) → ((q : List ℕ) → marks_one all q ≡ true → value_of below q ≡ value_of vars q)
+    → (precious : List (List ℕ)) → AllByRecursion (AreOne all) precious → AllByRecursion (IsMarked vars) precious
     → AllByRecursion (SameMarks (vars_after (map setting_of (saved_entries report.vars)) vars) (vars_after old vars)) precious
-same_marks script start report vars below old f all value [] plain h = tt
-same_marks script start report vars below old f all value (name ∷ more) plain h = (
+same_marks script start report vars below old f all value [] one h = tt
+same_marks script start report vars below old f all value (name ∷ more) one h = (
   (
-    same_mark script start report vars below old f (set_name name) (is_mark-set_name name) h.0.0 (value (set_name name) plain.0.0),
-    same_mark script start report vars below old f (value_name name) (is_mark-value_name name) h.0.1 (value (value_name name) plain.0.1),
+    same_mark script start report vars below old f (set_name name) (is_mark-set_name name) h.0.0 (value (set_name name) one.0.0),
+    same_mark script start report vars below old f (value_name name) (is_mark-value_name name) h.0.1 (value (value_name name) one.0.1),
   ),
-  same_marks script start report vars below old f all value more plain.1 h.1,
+  same_marks script start report vars below old f all value more one.1 h.1,
 )
 
 pub second_call_starts : HaveForms → SecondCallStarts
@@ -147,7 +146,7 @@ second_call_starts forms given cache window script start before now report h =
     let left = checked_leaves lists.precious settings.vars w.old w.left (named_ok of_precious (checked lists.precious settings.vars w.old) w.left w.check) in
     let more = map setting_of (saved_entries report.vars) in
     let reads = old_again settings.cache_name report.vars (sym (ap (λ s. is_some s.cache_name) w.is) ∙ h.named) h.small in
-    let marks = same_marks script start report settings.vars below w.old f lists.precious left.value lists.precious h.form.precious marked in
+    let marks = same_marks script start report settings.vars below w.old f lists.precious left.value lists.precious (all_ones lists.precious) marked in
     let checks : comparison script settings more ≡ Ok w.left = ap (named of_precious) (same_checked lists.precious settings.vars more w.old marks) ∙ w.check in
     let second = start_of given settings more w.left in
     let with_vars : Start → Start = λ s. record second { vars = s.vars } in

@@ -1,11 +1,9 @@
 -- Calls of `configure`: what each is given, and what it reports.
-use Rattle.std.specs.Prelude.{◌≡◌, ℕ, true, false, List, ◌++◌, codes, length, ◌≤◌, Option, Some, None, is_some, option_map, Result, Ok}
-use Rattle.std.specs.List.{AllByRecursion}
+use Rattle.std.specs.Prelude.{◌≡◌, ℕ, true, List, length, ◌≤◌, Option, Some, None, is_some, option_map, Result, Ok}
 use Rattle.cachefile.specs.Cache.{limit}
 use Rattle.cachefile.specs.Text.{cache_text_of}
 use Rattle.crew_trait.specs.declared.reply.Reply.{Reply}
 use Rattle.crew_trait.specs.Events.{Account, replies_in}
-use Rattle.deftable.specs.NameList.{has_name}
 use Rattle.engine.specs.Configured.{IsMeant}
 use Rattle.engine.specs.Judged.{acceptance}
 use Rattle.engine.specs.Told.{outcome_of}
@@ -19,7 +17,6 @@ use Rattle.meaning.specs.Play.{all_jobs, first_refused}
 use Rattle.meaning.specs.State.{opened}
 use Rattle.proberun.specs.Ran.{outcome_from}
 use Rattle.meaning_resumption.specs.Plays.{played, HasReplies}
-use Rattle.ac_tree.specs.Lists.{lists_of}
 use Rattle.ac_tree.specs.Resumable.{IsResumable}
 use Rattle.ac_tree.specs.Script.{Script}
 
@@ -51,30 +48,7 @@ pub data IsOwnCache : Option (List ℕ) → Type 0 where
   no_cache : IsOwnCache None
   saved_cache : (vars : List (List ℕ × List ℕ)) → IsOwnCache (Some (cache_text_of vars))
 
--- The marks of a precious variable, under which configure saves whether it is set, and its value.
--- (own; Autoconf's manual, "Setting Output Variables", has the precious variables)
-abbrev pub set_name : List ℕ → List ℕ
-set_name name = codes "ac_cv_env_" ++ name ++ codes "_set"
-
-abbrev pub value_name : List ℕ → List ℕ
-value_name name = codes "ac_cv_env_" ++ name ++ codes "_value"
-
--- Neither mark of the variable is one of these precious variables. (own)
-abbrev pub HasPlainMarks : List (List ℕ) → List ℕ → Type 0
-HasPlainMarks precious name = (has_name precious (set_name name) ≡ false) × (has_name precious (value_name name) ≡ false)
-
--- No precious variable is a mark of another one. (own)
-abbrev pub HasPlainPrecious : Script → Type 0
-HasPlainPrecious script = AllByRecursion (HasPlainMarks (lists_of script).precious) (lists_of script).precious
-
--- The source can be resumed. (own)
-pub record CanResume (script : Script) : Type 0 where
-  -- What `is_resumable` says of a source.
-  pub resumable : IsResumable script
-  -- What AC_ARG_VAR and AC_PROG_CC declare.
-  pub precious : HasPlainPrecious script
-
--- A call of such a source was run, and its cache is saved: the call names a cache, and the text is
+-- A call of a source that can be resumed was run, and its cache is saved: the call names a cache, and the text is
 -- within the limit of cache texts. What it was given as its own cache, if anything, was saved by a
 -- call too. (own)
 pub record Saved (given : Given) (cache : Option (List ℕ)) (window : ℕ) (script : Script) (start : Start) (before now : Account) (report : Report) : Type 0 where
@@ -82,7 +56,8 @@ pub record Saved (given : Given) (cache : Option (List ℕ)) (window : ℕ) (scr
   pub accepted : follows given cache ≡ Ok (Starts script start)
   -- What `configure` promises of each report, also with a refused put.
   pub meant : IsMeant window script start before now report
-  pub form : CanResume script
+  -- What `is_resumable` says of a source.
+  pub resumable : IsResumable script
   -- An argument names the cache.
   pub named : is_some start.cache_name ≡ true
   pub own : IsOwnCache cache

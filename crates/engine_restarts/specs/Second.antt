@@ -1,12 +1,14 @@
 -- A second call, with the cache that a first one saved.
-use Rattle.std.specs.Prelude.{◌≡◌, ℕ, List, [], Option, Some, Ok}
+use Rattle.std.specs.Prelude.{◌≡◌, ℕ, List, [], Option, Some, None, Ok, Err}
 use Rattle.cachefile.specs.Text.{cache_text_of}
 use Rattle.crew_trait.specs.Events.{Account}
 use Rattle.engine_frame.specs.Given.{Starts}
+use Rattle.engine_frame.specs.declared.fault.Fault.TheVariants.{Precious}
 use Rattle.engine_frame.specs.declared.starting.Start.{Start}
 use Rattle.engine_frame.specs.declared.report.Report.{Report}
 use Rattle.meaning.specs.State.{State, opened}
 use Rattle.meaning_resumption.specs.Poured.{Poured}
+use Rattle.options.specs.declared.fault.PreciousFault.{PreciousFault}
 use Rattle.ac_tree.specs.Script.{Script}
 use Rattle.engine_restarts.specs.Calls.{Given, follows, Saved}
 
@@ -27,3 +29,7 @@ pub record StartsAgain (given : Given) (script : Script) (start : Start) (report
 abbrev pub SecondCallStarts : Type 0
 SecondCallStarts = (given : Given) (cache : Option (List ℕ)) (window : ℕ) (script : Script) (start : Start) (before now : Account) (report : Report)
     → Saved given cache window script start before now report → StartsAgain given script start report
+
+-- A call without a cache has no fault of a precious variable. (own)
+abbrev pub UncachedCallsAgree : Type 0
+UncachedCallsAgree = (given : Given) (fault : PreciousFault) → follows given None ≡ Err (Precious fault) → ⊥

@@ -14,7 +14,7 @@
 
 ghost use Rattle.engine_restarts.specs.Calls.{ReportsTell};
 ghost use Rattle.engine_restarts.specs.Law.{ConfiguresResume};
-ghost use Rattle.engine_restarts.specs.Second.{SecondCallStarts};
+ghost use Rattle.engine_restarts.specs.Second.{SecondCallStarts, UncachedCallsAgree};
 
 use acparse::forms::sources_have_forms;
 use meaning_resumption::{asks_no_saved, whole_runs_resume};
@@ -34,6 +34,12 @@ pub fn second_call_starts()
 {
     sources_have_forms();
 }
+
+/// A call without a cache never has the fault of a precious variable, whatever the names of
+/// precious variables are.
+pub fn uncached_calls_agree()
+    ensures law { UncachedCallsAgree }
+{}
 
 /// A call was cut short, and a second one with the cache that it saved is not. If the source can be
 /// resumed, the second call ends as one call would that begins as the first did, under the joint

@@ -4,7 +4,7 @@ ghost use Rattle.std.specs.Prelude.{length, All, IfOk, OnOk};
 ghost use Rattle.lint_all.specs.Found as specs;
 
 use lint_findings::Finding;
-use lint_text::{first_line, first_word, from};
+use lint_text::{after_blanks, before, first_line, first_name, from, without_end_blanks};
 use std::alloc::{AllocError, Global};
 use std::collections::BTreeSet;
 
@@ -22,18 +22,43 @@ fn is_of_text(error: &Finding) -> bool {
     error.code.as_slice() == b"parse-3".as_slice()
 }
 
-/// Returns whether a word goes on with a construct of the shell or ends it, or is a pattern of
-/// `case`.
-fn continues(word: &[u8]) -> bool {
-    let is_pattern = word.ends_with(b")") && !word.contains(&b'(');
-    is_pattern || CONTINUING.iter().any(|other| *other == word)
+/// Returns whether a part of a list of patterns is one pattern.
+fn is_pattern(part: &[u8]) -> bool {
+    let pattern = after_blanks(without_end_blanks(part));
+    !pattern.is_empty()
+        && !pattern
+            .iter()
+            .any(|byte| matches!(*byte, b' ' | b'\t' | b'('))
+}
+
+/// Returns whether a line begins with a list of patterns of a `case`, and the parenthesis after it.
+fn has_patterns(line: &[u8]) -> bool {
+    match line.iter().position(|byte| *byte == b')') {
+        Some(at) => before(line, at).split(|byte| *byte == b'|').all(is_pattern),
+        None => false,
+    }
+}
+
+/// Returns whether text goes on with a construct of the shell or ends it, begins with the patterns
+/// of a `case`, or is the value of a variable whose name is read as that of a macro.
+fn continues(rest: &[u8]) -> bool {
+    let name = first_name(rest);
+    rest.starts_with(b"=")
+        || has_patterns(first_line(rest))
+        || CONTINUING.iter().any(|other| *other == name)
+}
+
+/// Returns whether an error is of the quotes of a copy, in which something was taken out. Those of
+/// the source itself have no error.
+fn is_of_quotes(error: &Finding) -> bool {
+    error.code.as_slice().starts_with(b"parse-1.")
 }
 
 /// Returns whether an error is of text that another error is about too: that of the construct which
 /// the text goes on with or ends, or that something is before AC_INIT.
 fn is_continuing(text: &[u8], error: &Finding) -> bool {
     let rest = from(text, error.start);
-    is_of_text(error) && (rest.starts_with(MARK) || continues(first_word(rest)))
+    is_of_quotes(error) || is_of_text(error) && (rest.starts_with(MARK) || continues(rest))
 }
 
 /// Returns the place and the code of an error. In a file with the line ends of another system each

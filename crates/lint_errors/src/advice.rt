@@ -8,7 +8,7 @@ use deftable::Bytes;
 use lint_findings::Finding;
 use lint_macros::{Index, MacroEntry, MacroKind, entry_name, fill, takes_list};
 use lint_table::{Page, WordPart, keys};
-use lint_text::part;
+use lint_text::{before, from, part};
 use std::alloc::{AllocError, Global};
 
 /// Returns the texts of the arguments.
@@ -113,6 +113,24 @@ fn with_help(finding: Finding, help: Bytes) -> Finding
     Finding { help, ..finding }
 }
 
+/// Returns whether the name of a call is that of a variable: a `$` or a `${` is before it, or a `=`
+/// after it.
+fn is_variable(text: &[u8], call: &CallAt) -> bool {
+    let front = before(text, call.start);
+    call.args.is_empty()
+        && (front.ends_with(b"$")
+            || front.ends_with(b"${")
+            || from(text, call.name_end).starts_with(b"="))
+}
+
+/// Returns what is said of a variable whose name is read as that of a macro.
+fn in_brackets(alloc: Global, text: &[u8], call: &CallAt) -> Result<Bytes, AllocError> {
+    let name = part(text, call.start, call.name_end);
+    let mut page = Page::new(alloc);
+    page.put(keys::VARIABLE_IN_BRACKETS, &[WordPart::AsItIs(name)]);
+    page.help()
+}
+
 /// Returns what the table of other macros says of a call, if it has the macro.
 fn help_of(
     alloc: Global,
@@ -120,6 +138,9 @@ fn help_of(
     text: &[u8],
     call: &CallAt,
 ) -> Result<Option<Bytes>, AllocError> {
+    if is_variable(text, call) {
+        return in_brackets(alloc, text, call).map(|help| Some(help));
+    }
     let name = part(text, call.start, call.name_end);
     match index.entry_of(alloc, entry_name(name, call.args.len()))? {
         None => Ok(None),

@@ -65,7 +65,9 @@ AC_DEFINE([GETGROUPS_T], [gid_t], [Define to the type of elements in the array s
 AC_CHECK_TYPE([size_t], [], [AC_DEFINE([size_t], [unsigned int], [Define to a type of sizes if there is no size_t.])])~idiom AC_TYPE_OFF_T AC_OFF_T
 AC_CHECK_TYPE([off_t], [], [AC_DEFINE([off_t], [long int], [Define to a type of file sizes if there is no off_t.])])~idiom AC_TYPE_PID_T AC_PID_T
 AC_CHECK_TYPE([pid_t], [], [AC_DEFINE([pid_t], [int], [Define to a type of process ids if there is no pid_t.])])~idiom AC_TYPE_UID_T AC_UID_T
-AC_CHECK_TYPE([uid_t], [], [AC_DEFINE([uid_t], [int], [Define to a type of user ids if there is no uid_t.])])~idiom AC_TYPE_MODE_T AC_MODE_T
+AC_CHECK_TYPE([uid_t], [],
+  [AC_DEFINE([uid_t], [int], [Define to a type of user ids if there is no uid_t.])
+   AC_DEFINE([gid_t], [int], [Define to a type of group ids if there is no uid_t.])])~idiom AC_TYPE_MODE_T AC_MODE_T
 AC_CHECK_TYPE([mode_t], [], [AC_DEFINE([mode_t], [int], [Define to a type of file modes if there is no mode_t.])])~idiom AC_TYPE_SSIZE_T
 AC_CHECK_TYPE([ssize_t], [], [AC_DEFINE([ssize_t], [int], [Define to a type of signed sizes if there is no ssize_t.])])~idiom AC_HEADER_DIRENT AC_DIR_HEADER AC_DIRENT
 AC_CHECK_HEADERS([dirent.h])~idiom AC_HEADER_SYS_WAIT
@@ -73,7 +75,9 @@ AC_CHECK_HEADERS([sys/wait.h])~idiom AC_HEADER_STDBOOL AC_CHECK_HEADER_STDBOOL A
 AC_CHECK_HEADERS([stdbool.h])
 AC_CHECK_TYPES([_Bool])~idiom AC_SYS_POSIX_TERMIOS
 AC_CACHE_CHECK([POSIX termios], [ac_cv_sys_posix_termios],
-  [AC_LINK_IFELSE([AC_LANG_PROGRAM([[#include <termios.h>]], [[return tcgetattr (0, 0);]])],
+  [AC_LINK_IFELSE([AC_LANG_PROGRAM([[#include <sys/types.h>
+#include <unistd.h>
+#include <termios.h>]], [[tcgetattr(0, 0);]])],
     [ac_cv_sys_posix_termios=yes], [ac_cv_sys_posix_termios=no])])~idiom AC_HEADER_TIOCGWINSZ
 AC_CACHE_CHECK([whether termios.h defines TIOCGWINSZ], [ac_cv_sys_tiocgwinsz_in_termios_h],
   [AC_COMPILE_IFELSE([AC_LANG_PROGRAM([[#include <sys/types.h>

@@ -38,6 +38,10 @@ pub const NO_MACRO: Key = Key(b"no-macro", b"\x01 is no macro that acrun knows, 
 #[rattlefmt::skip]
 pub const NEAR_MACRO: Key = Key(b"near-macro", b"", b"a macro of a similar name is \x01");
 
+/// a name that begins so is read as that of a macro; write a variable in brackets, as in [$NAME] and [NAME]=VALUE
+#[rattlefmt::skip]
+pub const VARIABLE_IN_BRACKETS: Key = Key(b"variable-in-brackets", b"", b"a name that begins so is read as that of a macro; write a variable in brackets, as in [$\x01] and [\x01]=VALUE");
+
 /// no table of acrun has it: if the package defines it (aclocal.m4, acinclude.m4, m4/), write here what its definition does
 #[rattlefmt::skip]
 pub const UNLISTED_MACRO: Key = Key(b"unlisted-macro", b"", b"no table of acrun has it: if the package defines it (aclocal.m4, acinclude.m4, m4/), write here what its definition does");
@@ -81,6 +85,14 @@ pub const PROGRAM_ARGUMENT: Key = Key(b"program-argument", b"", b"a program is A
 /// an action is assignments NAME=VALUE and calls, and no command is run; a list has blanks between its entries
 #[rattlefmt::skip]
 pub const BARE_ARGUMENT: Key = Key(b"bare-argument", b"", b"an action is assignments NAME=VALUE and calls, and no command is run; a list has blanks between its entries");
+
+/// no action ends a list: make each check only if the one before it says no, as in
+#[rattlefmt::skip]
+pub const BREAK_ACTION: Key = Key(b"break-action", b"", b"no action ends a list: make each check only if the one before it says no, as in\nAC_CHECK_FUNCS([f], [], [AC_CHECK_FUNCS([g])])");
+
+/// the second argument is an action, and no default; write instead
+#[rattlefmt::skip]
+pub const DEFAULT_OF_TYPE: Key = Key(b"default-of-type", b"", b"the second argument is an action, and no default; write instead\nAC_CHECK_TYPE([\x01], [],\n  [AC_DEFINE([\x01], [\x02], [Define if there is no \x01.])])");
 
 /// put the whole argument in one pair of brackets; a list has blanks between its entries
 #[rattlefmt::skip]
@@ -194,6 +206,10 @@ pub const NO_TYPE: Key = Key(b"no-type", b"\x01 is no type in \x02", b"name them
 #[rattlefmt::skip]
 pub const NO_TYPES: Key = Key(b"no-types", b"\x01 is no list of types in \x02", b"name them with commas between them; includes are lines of #include, and not `-`");
 
+/// MACRO names nothing
+#[rattlefmt::skip]
+pub const NAMES_NOTHING: Key = Key(b"names-nothing", b"\x01 names nothing", b"leave the call out");
+
 /// ARGUMENT is no list of files in MACRO
 #[rattlefmt::skip]
 pub const NO_FILES: Key = Key(b"no-files", b"\x01 is no list of files in \x02", b"name files below the directory, each once, with blanks between them: no `..`, no `/` in front, no `$`");
@@ -236,7 +252,7 @@ pub const NO_VERSION: Key = Key(b"no-version", b"\x01 is no version of Autoconf 
 
 /// ARGUMENT is no exit status in MACRO
 #[rattlefmt::skip]
-pub const NO_EXIT_STATUS: Key = Key(b"no-exit-status", b"\x01 is no exit status in \x02", b"an exit status is a number from 1 to 255");
+pub const NO_EXIT_STATUS: Key = Key(b"no-exit-status", b"\x01 is no exit status in \x02", b"an exit status is a number from 1 to 255; a message that has a comma is in brackets");
 
 /// ARGUMENT is no language that is known in MACRO
 #[rattlefmt::skip]
@@ -382,9 +398,9 @@ pub const TEST_NUMBER: Key = Key(b"test-number", b"`\x01` in a test is not read"
 #[rattlefmt::skip]
 pub const TEST_SEMICOLON: Key = Key(b"test-semicolon", b"`\x01` in a test is not read", b"join tests by && and ||");
 
-/// `[` of the shell is not read as a test, since brackets are quotes here
+/// a test in brackets is not read, since brackets are quotes here
 #[rattlefmt::skip]
-pub const TEST_BRACKET: Key = Key(b"test-bracket", b"`[` of the shell is not read as a test, since brackets are quotes here", b"write test instead\nAS_IF([test \"$name\" = value], ..)");
+pub const TEST_BRACKET: Key = Key(b"test-bracket", b"a test in brackets is not read, since brackets are quotes here", b"write test instead\nAS_IF([test \"$name\" = value], ..)");
 
 /// the line ends in a carriage return
 #[rattlefmt::skip]
@@ -397,6 +413,14 @@ pub const BLANK_BESIDE_EQUALS: Key = Key(b"blank-beside-equals", b"there is a bl
 /// `${NAME-WORD}` and its like are not read
 #[rattlefmt::skip]
 pub const VARIABLE_WITH_OPERATOR: Key = Key(b"variable-with-operator", b"`${NAME-WORD}` and its like are not read", b"write instead\nAS_IF([test -z \"$name\"], [name=default])");
+
+/// `${NAME#WORD}` and its like are not read
+#[rattlefmt::skip]
+pub const VARIABLE_WITH_CUT: Key = Key(b"variable-with-cut", b"`${NAME#WORD}` and its like are not read", b"nothing here cuts a value or replaces a part of it; write the parts out, or let the user give them\nAC_ARG_VAR([NAME], [what it is])");
+
+/// a backquote in a message is not read
+#[rattlefmt::skip]
+pub const MESSAGE_BACKQUOTE: Key = Key(b"message-backquote", b"a backquote in a message is not read", b"write an apostrophe in its place");
 
 /// the shell's own variables, such as `$1`, `$@` and `$?`, are not read
 #[rattlefmt::skip]

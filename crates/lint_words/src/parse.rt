@@ -5,7 +5,8 @@ ghost use Rattle.lint_findings.specs.declared.finding.Severity.TheVariants.{Erro
 
 use crate::arguments::put_bad_argument;
 use crate::calls::{arguments_at, before_close, call_around, last_name, unquoted};
-use crate::{near_name, shell_help, test_help, word_help};
+use crate::shell::argument_help;
+use crate::{near_name, shell_help, test_help};
 use ac_calls::{CallAt, Extent};
 use ac_macros::Row;
 use ac_macros::table::{row_named, rows};
@@ -78,6 +79,26 @@ impl<'a> Around<'a> {
         match self.found() {
             Some((number, _)) => number == 0 && self.call().ends_with(b"_IFELSE"),
             None => false,
+        }
+    }
+
+    /// Returns whether the second argument of AC_CHECK_TYPE begins at the place, which was a default
+    /// once.
+    fn is_default(&self) -> bool {
+        match self.found() {
+            Some((number, _)) => number == 1 && self.call() == b"AC_CHECK_TYPE".as_slice(),
+            None => false,
+        }
+    }
+
+    /// Returns the first argument of the call that the place is in, without the quotes around it.
+    fn first(&self) -> &'a [u8] {
+        let Some(call) = call_around(self.calls, self.at) else {
+            return b"";
+        };
+        match call.args.first() {
+            Some(arg) => unquoted(without_end_blanks(part(self.text, arg.start, arg.end))),
+            None => b"",
         }
     }
 }
@@ -164,6 +185,29 @@ fn has_blank_after_equals(text: &[u8]) -> bool {
     text.starts_with(b"= ") || text.starts_with(b"=\t")
 }
 
+/// Returns what a word begins with before a bracket that closes none of the word, which ends the
+/// argument that the word is in.
+fn within_argument(word: &[u8]) -> &[u8] {
+    let (mut depth, mut len) = (0_usize, 0_usize);
+    for byte in word {
+        match *byte {
+            b']' | b')' if depth == 0 => return before(word, len),
+            b'[' | b'(' => depth = depth.saturating_add(1),
+            b']' | b')' => depth = depth.saturating_sub(1),
+            _ => {}
+        }
+        len = len.saturating_add(1);
+    }
+    word
+}
+
+/// Returns the word by which a statement is named that this text begins with.
+fn statement_word(text: &[u8]) -> &[u8] {
+    let word = first_word(text);
+    let inner = within_argument(word);
+    if inner.is_empty() { word } else { inner }
+}
+
 /// Writes what is wrong with text that is no statement, and that has no construct by which to say
 /// it.
 fn put_plain_text(alloc: Global, page: &mut Page, around: Around<'_>) -> Result<(), AllocError> {
@@ -180,7 +224,10 @@ fn put_plain_text(alloc: Global, page: &mut Page, around: Around<'_>) -> Result<
     if has_blank_after_equals(from(rest, name.len())) {
         page.put(keys::BLANK_AFTER_EQUALS, &[]);
     } else {
-        page.put(keys::NO_STATEMENT, &[WordPart::Quoted(first_word(rest))]);
+        page.put(
+            keys::NO_STATEMENT,
+            &[WordPart::Quoted(statement_word(rest))],
+        );
     }
     Ok(())
 }
@@ -192,6 +239,15 @@ fn is_argument_macro(name: &[u8]) -> bool {
         || name == b"AC_LANG_SOURCE".as_slice()
 }
 
+/// Writes what to do about a default of AC_CHECK_TYPE, which begins at the place.
+fn put_default(page: &mut Page, around: Around<'_>) {
+    let name = WordPart::AsItIs(around.first());
+    page.put(
+        keys::DEFAULT_OF_TYPE,
+        &[name, WordPart::AsItIs(around.argument())],
+    );
+}
+
 /// Writes what is wrong with an argument that is to hold statements, help or a program.
 fn put_no_statements(page: &mut Page, around: Around<'_>) {
     let argument = WordPart::Quoted(around.argument());
@@ -201,6 +257,10 @@ fn put_no_statements(page: &mut Page, around: Around<'_>) {
     );
     if around.is_program() {
         page.put(keys::PROGRAM_ARGUMENT, &[]);
+    } else if around.argument() == b"break".as_slice() {
+        page.put(keys::BREAK_ACTION, &[]);
+    } else if around.is_default() {
+        put_default(page, around);
     } else if !around.written().contains(&b'[') {
         page.put(keys::BARE_ARGUMENT, &[]);
     } else {
@@ -317,9 +377,22 @@ fn put_count(alloc: Global, page: &mut Page, around: Around<'_>) -> Result<(), A
     Ok(())
 }
 
-/// Writes what is wrong with a word that is an argument.
-fn put_argument_word(page: &mut Page, argument: &[u8]) {
-    match word_help(argument) {
+/// The macros whose first argument is a message.
+const MESSAGES: [&[u8]; 5] = [
+    b"AC_MSG_CHECKING",
+    b"AC_MSG_RESULT",
+    b"AC_MSG_NOTICE",
+    b"AC_MSG_WARN",
+    b"AC_MSG_ERROR",
+];
+
+/// Writes what is wrong with a word that is an argument of this call.
+fn put_argument_word(page: &mut Page, call: &[u8], argument: &[u8]) {
+    if MESSAGES.iter().any(|name| *name == call) && argument.contains(&b'`') {
+        page.put(keys::MESSAGE_BACKQUOTE, &[]);
+        return;
+    }
+    match argument_help(argument) {
         Some(found) => found.put(page),
         None => page.put(keys::NO_WORD, &[WordPart::Quoted(argument)]),
     }
@@ -336,7 +409,7 @@ fn put_value(page: &mut Page, rest: &[u8]) {
 /// Writes what is wrong with a word, or with text that has variables.
 fn put_word(page: &mut Page, around: Around<'_>) {
     if around.is_argument() {
-        put_argument_word(page, around.argument());
+        put_argument_word(page, around.call(), around.argument());
     } else {
         put_value(page, around.rest());
     }
@@ -419,6 +492,21 @@ fn put_rest(page: &mut Page, around: Around<'_>, fault: ParseFault) {
     }
 }
 
+/// Returns whether the first argument of a call of this name is a list of outputs.
+fn lists_outputs(name: &[u8]) -> bool {
+    name == b"AC_CONFIG_FILES".as_slice() || name == b"AC_CONFIG_HEADERS".as_slice()
+}
+
+/// Writes what is wrong with an argument.
+fn put_bad_name(page: &mut Page, around: Around<'_>) {
+    let (argument, call) = (around.argument(), around.call());
+    if argument.is_empty() && lists_outputs(call) {
+        page.put(keys::NAMES_NOTHING, &[WordPart::AsItIs(call)]);
+    } else {
+        put_bad_argument(page, first_line(argument), call);
+    }
+}
+
 /// Writes the words of a fault.
 fn put_fault(
     alloc: Global,
@@ -431,9 +519,7 @@ fn put_fault(
         ParseFault::UnknownMacro(_) => return put_unknown(alloc, page, around.name()),
         ParseFault::UnknownStatement(_) => return put_statement(alloc, page, around),
         ParseFault::ArgCount(_) => return put_count(alloc, page, around),
-        ParseFault::BadName(_) => {
-            put_bad_argument(page, first_line(around.argument()), around.call())
-        }
+        ParseFault::BadName(_) => put_bad_name(page, around),
         ParseFault::Shell(fault, _) => put_shell(page, around, fault),
         other => put_rest(page, around, other),
     }

@@ -33,6 +33,15 @@ fn is_operator(text: &[u8]) -> bool {
     }
 }
 
+/// Returns what is said of an expansion with an operator, of which this is the text after the `$`.
+fn said_of_operator(text: &[u8]) -> Construct {
+    let inside = from(text, 1);
+    match from(inside, first_name(inside).len()) {
+        [b'-' | b'=', ..] | [b':', b'-' | b'=', ..] => said_of(Nameless::Operator),
+        _ => said_of(Nameless::Cut),
+    }
+}
+
 /// Returns whether the text after a `$` is a variable of the shell's own.
 fn is_special(text: &[u8]) -> bool {
     match text {
@@ -47,7 +56,7 @@ fn variable_help(text: &[u8]) -> Option<Construct> {
     for byte in text {
         at = at.saturating_add(1);
         if *byte == b'$' && is_operator(from(text, at)) {
-            return Some(said_of(Nameless::Operator));
+            return Some(said_of_operator(from(text, at)));
         }
         if *byte == b'$' && is_special(from(text, at)) {
             return Some(said_of(Nameless::Special));
@@ -113,6 +122,14 @@ pub fn word_help(text: &[u8]) -> Option<Construct> {
         return Some(found);
     }
     quote_help(text)
+}
+
+/// Returns what is said of an argument that is to be one word.
+pub(crate) fn argument_help(argument: &[u8]) -> Option<Construct> {
+    if let Some(found) = word_help(argument) {
+        return Some(found);
+    }
+    row_of(Kind::Piece, Fit::IsIn(argument))
 }
 
 /// Returns what is said of a statement by what it begins with.

@@ -3,6 +3,7 @@
 use Rattle.std.proofs.Common.{◌≡◌, ◌↔◌, ℕ, ◌⊎◌, inl, inr, cond, if◌then◌else◌, ◌||◌, Bool, true, false, List, [], ◌∷◌, ◌++◌, map, fold, codes, Option, Some, None, Result, Ok, Err, refl, sym, ap, subst, ◌∙◌}
 use Rattle.std.specs.Prelude.{unwrap_or}
 use Rattle.std.specs.Option.{option_map}
+use Rattle.std.specs.List.{flat_map}
 use Rattle.std.specs.Str.{bytes_eq}
 use Rattle.std.proofs.lemmas.Slice.Eq.{bytes_eq-Decides}
 use Rattle.std.proofs.lemmas.List.Sums.{fold-append}
@@ -12,7 +13,7 @@ use Rattle.deftable.specs.Table.{value_of, with_entry, names_of}
 use Rattle.options_line.proofs.Lines.{settings_given, fault_given, given_reads, Reads}
 use Rattle.options_line.specs.Arguments.{settings_from}
 use Rattle.options_line.specs.CommandLine.{Setting, GivesSettings, IsFirstFault}
-use Rattle.options.specs.Opening.{opened_by, opening, IsOpening, of_arguments, of_options, IsOpeningFault, set_by, with_variable, with_unslashed, set_mark, with_marks, finished}
+use Rattle.options.specs.Opening.{opened_by, opening, IsOpening, of_arguments, of_options, IsOpeningFault, set_by, with_variable, with_unslashed, set_name, value_name, set_mark, marks_one, marks_of, with_marks, unmarked, finished}
 use Rattle.options_line.specs.Directories.{directories, directory_names, variable_of}
 use Rattle.options_line.specs.Reading.{◌>>=◌}
 use Rattle.options_line.specs.Slashes.{without_slashes}
@@ -133,29 +134,22 @@ all_unslashed : (ds : List Directory) (vars : List (List ℕ × List ℕ)) (name
 all_unslashed [] vars name = refl
 all_unslashed (d ∷ ds) vars name = all_unslashed ds (with_unslashed vars d) name ∙ ap (λ v. fold (unslashed_at name) v ds) (unslashed_value vars name d)
 
--- The name of a mark of a precious variable.
-abbrev is_mark : List (List ℕ) → List ℕ → Bool
-is_mark [] name = false
-is_mark (x ∷ more) name = bytes_eq name (codes "ac_cv_env_" ++ x ++ codes "_set") || (bytes_eq name (codes "ac_cv_env_" ++ x ++ codes "_value") || is_mark more name)
+either_part : (a b c : Bool) → (a || b || c) ≡ false → (a ≡ false) × ((b ≡ false) × (c ≡ false))
+either_part true b c h = absurd (cc)
+either_part false true c h = absurd (cc)
+either_part false false c h = (refl, (refl, h))
 
-unmarked : (precious : List (List ℕ)) (vars : List (List ℕ × List ℕ)) (name : List ℕ) → is_mark precious name ≡ false → value_of (fold with_marks vars precious) name ≡ value_of vars name
+no_mark_sets : (precious : List (List ℕ)) (base : List (List ℕ × List ℕ)) (name : List ℕ) → marks_one precious name ≡ false → has_name (names_of (flat_map (marks_of base) precious)) name ≡ false
+unfolding marks_one marks_of has_name
+no_mark_sets [] base name h = refl
+no_mark_sets (x ∷ more) base name h =
+    let parts = either_part (bytes_eq name (set_name x)) (bytes_eq name (value_name x)) (marks_one more name) h in
+    ap (λ b. b || (bytes_eq name (value_name x) || has_name (names_of (flat_map (marks_of base) more)) name)) parts.0
+    ∙ ap (λ b. b || has_name (names_of (flat_map (marks_of base) more)) name) parts.1.0 ∙ no_mark_sets more base name parts.1.1
+
+pub no_mark_changes : (precious : List (List ℕ)) (vars : List (List ℕ × List ℕ)) (name : List ℕ) → marks_one precious name ≡ false → value_of (with_marks precious vars) name ≡ value_of vars name
 unfolding with_marks
-unmarked [] vars name h = refl
-unmarked (x ∷ more) vars name h =
-    at (bytes_eq name (codes "ac_cv_env_" ++ x ++ codes "_set")) refl (bytes_eq name (codes "ac_cv_env_" ++ x ++ codes "_value")) refl h (unmarked more (with_marks vars x) name) where
-      at : (t : Bool) → bytes_eq name (codes "ac_cv_env_" ++ x ++ codes "_set") ≡ t → (u : Bool) → bytes_eq name (codes "ac_cv_env_" ++ x ++ codes "_value") ≡ u
-          → (t || (u || is_mark more name)) ≡ false
-          → (is_mark more name ≡ false → value_of (fold with_marks (with_marks vars x) more) name ≡ value_of (with_marks vars x) name)
-          → value_of (fold with_marks (with_marks vars x) more) name ≡ value_of vars name
-      at true is u other h rest = absurd (cc)
-      at false is true other h rest = absurd (cc)
-      at false is false other h rest =
-          let set : List (List ℕ × List ℕ) = with_entry vars (codes "ac_cv_env_" ++ x ++ codes "_set") (set_mark (value_of vars x)) in
-          rest h
-          ∙ value_of-with_entry set (codes "ac_cv_env_" ++ x ++ codes "_value") (unwrap_or (value_of vars x) []) name
-          ∙ ap (λ t. cond t (Some (unwrap_or (value_of vars x) [])) (value_of set name)) other
-          ∙ value_of-with_entry vars (codes "ac_cv_env_" ++ x ++ codes "_set") (set_mark (value_of vars x)) name
-          ∙ ap (λ t. cond t (Some (set_mark (value_of vars x))) (value_of vars name)) is
+no_mark_changes precious vars name h = kept (flat_map (marks_of vars) precious) vars name (no_mark_sets precious vars name h)
 
 no_directory : (ds : List Directory) (name : List ℕ) (value : Option (List ℕ)) → has_name (map variable_of ds) name ≡ false → fold (unslashed_at name) value ds ≡ value
 unfolding has_name
@@ -167,14 +161,14 @@ no_directory (d ∷ ds) name value h = at (bytes_eq name (variable_of d)) h (no_
   at false h rest = rest value h
 
 -- At the end a variable that is neither a directory nor a mark has the value of its last setter.
-pub other_finished : (precious : List (List ℕ)) (vars : List (List ℕ × List ℕ)) (name : List ℕ) → has_name directory_names name ≡ false → is_mark precious name ≡ false
+pub other_finished : (precious : List (List ℕ)) (vars : List (List ℕ × List ℕ)) (name : List ℕ) → has_name directory_names name ≡ false → marks_one precious name ≡ false
     → value_of (finished precious vars) name ≡ value_of vars name
-unfolding finished directory_names
+unfolding finished unmarked directory_names
 other_finished precious vars name h k =
-    unmarked precious (fold with_unslashed vars directories) name k ∙ all_unslashed directories vars name ∙ no_directory directories name (value_of vars name) h
+    no_mark_changes precious (unmarked vars) name k ∙ all_unslashed directories vars name ∙ no_directory directories name (value_of vars name) h
 
-directory_mark : (precious : List (List ℕ)) (d : Directory) → is_mark precious (variable_of d) ≡ false
-unfolding variable_of
+directory_mark : (precious : List (List ℕ)) (d : Directory) → marks_one precious (variable_of d) ≡ false
+unfolding variable_of marks_one
 directory_mark [] d = refl
 directory_mark (x ∷ more) Prefix = directory_mark more Prefix
 directory_mark (x ∷ more) other = directory_mark more other
@@ -187,7 +181,7 @@ directory_unslashed vars other = refl
 -- A directory has the value of its last setter without its final slashes.
 pub directory_finished : (precious : List (List ℕ)) (vars : List (List ℕ × List ℕ)) (d : Directory)
     → value_of (finished precious vars) (variable_of d) ≡ option_map without_slashes (value_of vars (variable_of d))
-unfolding finished
+unfolding finished unmarked
 directory_finished precious vars d =
-    unmarked precious (fold with_unslashed vars directories) (variable_of d) (directory_mark precious d)
+    no_mark_changes precious (unmarked vars) (variable_of d) (directory_mark precious d)
     ∙ all_unslashed directories vars (variable_of d) ∙ directory_unslashed vars d

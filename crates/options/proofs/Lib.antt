@@ -6,3 +6,4 @@ pub mod Squeezes
 pub mod Restorings
 pub mod Checks
 pub mod CheckClauses
+pub mod Fresh

@@ -34,43 +34,43 @@ abbrev Entries : Type 0
 Entries = List (List ℕ × List ℕ)
 
 -- What was found, with what is still to be compared.
-abbrev pub left : Entries → Entries → Entries → ℕ → List (List ℕ) → Result Entries PreciousFault
-left vars marked now i precious = restored_from (i + 1) vars marked (drop i precious) >>= λ rest. Ok (now ++ rest)
+abbrev pub left : List (List ℕ) → Entries → Entries → Entries → ℕ → List (List ℕ) → Result Entries PreciousFault
+left all vars marked now i precious = restored_from all (i + 1) vars marked (drop i precious) >>= λ rest. Ok (now ++ rest)
 
 rebound : (now add : Entries) (r : Result Entries PreciousFault) → (r >>= λ rest. Ok (add ++ rest)) >>= (λ rest. Ok (now ++ rest)) ≡ (r >>= λ rest. Ok ((now ++ add) ++ rest))
 rebound now add (Ok rest) = ap (λ t. Ok t) (sym (append_assoc now add rest))
 rebound now add (Err e) = refl
 
-module _ (vars marked : Entries) (precious : List (List ℕ)) (total : Result Entries PreciousFault) (now : Entries) (i : ℕ) where
+module _ (all : List (List ℕ)) (vars marked : Entries) (precious : List (List ℕ)) (total : Result Entries PreciousFault) (now : Entries) (i : ℕ) where
   -- What is left begins with the variable at i.
   at_name : (x : List ℕ) → i < length precious → x ≡ get_or precious i x
-      → left vars marked now i precious
-      ≡ ((restored_variable (i + 1) vars marked x >>= λ one. restored_from (i + 1 + 1) vars marked (drop (i + 1) precious) >>= λ rest. Ok (option_to_list one ++ rest)) >>= λ rest. Ok (now ++ rest))
+      → left all vars marked now i precious
+      ≡ ((restored_variable all (i + 1) vars marked x >>= λ one. restored_from all (i + 1 + 1) vars marked (drop (i + 1) precious) >>= λ rest. Ok (option_to_list one ++ rest)) >>= λ rest. Ok (now ++ rest))
   unfolding restored_from
-  at_name x lt is = ap (λ t. restored_from (i + 1) vars marked t >>= λ rest. Ok (now ++ rest)) (next_of precious i x lt is)
+  at_name x lt is = ap (λ t. restored_from all (i + 1) vars marked t >>= λ rest. Ok (now ++ rest)) (next_of precious i x lt is)
 
   pub restored_more : (next : Entries) (one : Option (List ℕ × List ℕ)) (x : List ℕ) → i < length precious → x ≡ get_or precious i x
-      → restored_variable (i + 1) vars marked x ≡ Ok one → next ≡ now ++ option_to_list one → left vars marked now i precious ≡ total → left vars marked next (i + 1) precious ≡ total
+      → restored_variable all (i + 1) vars marked x ≡ Ok one → next ≡ now ++ option_to_list one → left all vars marked now i precious ≡ total → left all vars marked next (i + 1) precious ≡ total
   restored_more next one x lt is gives put h =
-      let rest = restored_from (i + 1 + 1) vars marked (drop (i + 1) precious) in
-      ap (λ t. left vars marked t (i + 1) precious) put
+      let rest = restored_from all (i + 1 + 1) vars marked (drop (i + 1) precious) in
+      ap (λ t. left all vars marked t (i + 1) precious) put
       ∙ sym (rebound now (option_to_list one) rest)
       ∙ ap (λ r. (r >>= λ one. rest >>= λ more. Ok (option_to_list one ++ more)) >>= λ more. Ok (now ++ more)) (sym gives)
       ∙ sym (at_name x lt is) ∙ h
 
   pub restored_fails : (e : PreciousFault) (x : List ℕ) → i < length precious → x ≡ get_or precious i x
-      → Fails e (restored_variable (i + 1) vars marked x) → left vars marked now i precious ≡ total → Fails e total
+      → Fails e (restored_variable all (i + 1) vars marked x) → left all vars marked now i precious ≡ total → Fails e total
   restored_fails e x lt is bad h =
       fails_along e _ _ (sym (at_name x lt is) ∙ h) (fails_bind e _ _ (fails_bind e _ _ bad))
 
-  pub restored_end : length precious ≤ i → left vars marked now i precious ≡ total → total ≡ Ok now
+  pub restored_end : length precious ≤ i → left all vars marked now i precious ≡ total → total ≡ Ok now
   unfolding restored_from
   restored_end le h =
-      sym h ∙ ap (λ t. restored_from (i + 1) vars marked t >>= λ rest. Ok (now ++ rest)) (drop_of_length-le precious le) ∙ ap (λ t. Ok t) (append-nil now)
+      sym h ∙ ap (λ t. restored_from all (i + 1) vars marked t >>= λ rest. Ok (now ++ rest)) (drop_of_length-le precious le) ∙ ap (λ t. Ok t) (append-nil now)
 
 -- ---- the whole check
 
-pub checked_is : (precious : List (List ℕ)) (vars : Entries) (cache : List Setting) (changes after : Entries) (notes : List Note) → restored_from 1 vars (vars_after cache vars) precious ≡ Ok changes
+pub checked_is : (precious : List (List ℕ)) (vars : Entries) (cache : List Setting) (changes after : Entries) (notes : List Note) → restored_from precious 1 vars (vars_after cache vars) precious ≡ Ok changes
     → after ≡ fold with_variable vars changes → notes ≡ map (λ change. blanks_note change.0) changes → checked precious vars cache ≡ Ok (after, notes)
 unfolding checked
 checked_is precious vars cache changes after notes found vars_are notes_are =
@@ -78,6 +78,6 @@ checked_is precious vars cache changes after notes found vars_are notes_are =
     ∙ ap (λ t. Ok (t, map (λ change. blanks_note change.0) changes)) (sym vars_are)
     ∙ ap (λ t. Ok (after, t)) (sym notes_are)
 
-pub check_fails : (e : PreciousFault) (precious : List (List ℕ)) (vars : Entries) (cache : List Setting) → Fails e (restored_from 1 vars (vars_after cache vars) precious) → Fails e (checked precious vars cache)
+pub check_fails : (e : PreciousFault) (precious : List (List ℕ)) (vars : Entries) (cache : List Setting) → Fails e (restored_from precious 1 vars (vars_after cache vars) precious) → Fails e (checked precious vars cache)
 unfolding checked
 check_fails e precious vars cache h = fails_bind e _ _ h

@@ -103,15 +103,34 @@ abbrev pub set_mark : Option (List ℕ) → List ℕ
 set_mark (Some value) = codes "set"
 set_mark None = []
 
--- The variables with the marks of a precious variable: whether it is set, and its value. (own)
-unfoldable pub with_marks : List (List ℕ × List ℕ) → List ℕ → List (List ℕ × List ℕ)
-with_marks vars name =
-    with_entry (with_entry vars (codes "ac_cv_env_" ++ name ++ codes "_set") (set_mark (value_of vars name)))
-    (codes "ac_cv_env_" ++ name ++ codes "_value") (unwrap_or (value_of vars name) [])
+-- The name of the mark for whether a variable is set, and that of the mark for its value. (own)
+abbrev pub set_name : List ℕ → List ℕ
+set_name name = codes "ac_cv_env_" ++ name ++ codes "_set"
+
+abbrev pub value_name : List ℕ → List ℕ
+value_name name = codes "ac_cv_env_" ++ name ++ codes "_value"
+
+-- The name is that of a mark of one of these variables. (own)
+unfoldable pub marks_one : List (List ℕ) → List ℕ → Bool
+marks_one [] q = false
+marks_one (name ∷ more) q = bytes_eq q (set_name name) || bytes_eq q (value_name name) || marks_one more q
+
+-- The marks of a variable, by its value among these: whether it is set, and the value. (own)
+unfoldable pub marks_of : List (List ℕ × List ℕ) → List ℕ → List (List ℕ × List ℕ)
+marks_of vars name = (set_name name, set_mark (value_of vars name)) ∷ (value_name name, unwrap_or (value_of vars name) []) ∷ []
+
+-- The variables with the marks of the precious ones. All marks are made of the variables before any mark, so if a precious
+-- variable has the name of a mark, its own marks have the value that it had before. (own)
+unfoldable pub with_marks : List (List ℕ) → List (List ℕ × List ℕ) → List (List ℕ × List ℕ)
+with_marks precious vars = fold with_variable vars (flat_map (marks_of vars) precious)
+
+-- The variables before any mark: those of all setters, without final slashes of directories. (own)
+unfoldable pub unmarked : List (List ℕ × List ℕ) → List (List ℕ × List ℕ)
+unmarked vars = fold with_unslashed vars directories
 
 -- The variables at the end: final slashes of directories are dropped, and then precious variables are marked. (own)
 unfoldable pub finished : List (List ℕ) → List (List ℕ × List ℕ) → List (List ℕ × List ℕ)
-finished precious vars = fold with_marks (fold with_unslashed vars directories) precious
+finished precious vars = with_marks precious (unmarked vars)
 
 -- ---- options that no macro declares
 

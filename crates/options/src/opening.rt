@@ -1,6 +1,7 @@
 //! The variables that a run begins with.
 
-ghost use Rattle.std.specs.Prelude.{◌≡◌, ℕ, List, [], ◌++◌, None, IfOk, OnOk, fold, codes, option_map};
+ghost use Rattle.std.specs.List.{flat_map};
+ghost use Rattle.std.specs.Prelude.{◌≡◌, ℕ, List, [], ◌++◌, None, IfOk, OnOk, fold, codes, option_map, unwrap_or};
 ghost use Rattle.deftable.specs.Table.{value_of};
 ghost use Rattle.options_line.specs.Directories.{directories as all_directories};
 ghost use Rattle.options.specs.Opening as words;
@@ -90,8 +91,9 @@ fn unslash(alloc: Global, vars: &mut Vars, directory: Directory) -> Result<(), A
     vars.set(directory.variable(), value.as_slice())
 }
 
+#[tactic(auto, unfolding(crate::specs::Opening::unmarked))]
 fn unslash_all(alloc: Global, vars: &mut Vars) -> Result<(), AllocError>
-    ensures { OnOk result (vars.new ≡ fold words.with_unslashed vars.old all_directories) }
+    ensures { OnOk result (vars.new ≡ words.unmarked vars.old) }
 {
     for directory in directories() {
         unslash(alloc, vars, *directory)?;
@@ -116,26 +118,76 @@ fn set_mark(value: Option<&Bytes>) -> &'static [u8]
     }
 }
 
-/// Sets the marks of a precious variable: whether it is set, and its value.
-#[tactic(auto, unfolding(crate::specs::Opening::with_marks))]
-fn mark(alloc: Global, vars: &mut Vars, name: &Bytes) -> Result<(), AllocError>
-    ensures { OnOk result (vars.new ≡ words.with_marks vars.old name.now) }
+/// Returns the mark for whether a variable is set.
+fn set_mark_of(alloc: Global, vars: &Vars, name: &Bytes) -> Result<(Bytes, Bytes), AllocError>
+    ensures { IfOk result (λ mark.
+        mark ≡ (words.set_name name.now, words.set_mark (value_of vars.now name.now))) }
 {
-    let set_name = mark_name(alloc, name.as_slice(), b"_set")?;
-    let value_name = mark_name(alloc, name.as_slice(), b"_value")?;
+    let mark = mark_name(alloc, name.as_slice(), b"_set")?;
     let set = set_mark(vars.get(name.as_slice()));
-    let value = Bytes::from_slice(alloc, vars.value_or_empty(name.as_slice()))?;
-    vars.set(set_name.as_slice(), set)?;
-    vars.set(value_name.as_slice(), value.as_slice())
+    Ok((mark, Bytes::from_slice(alloc, set)?))
 }
 
-fn mark_all(alloc: Global, vars: &mut Vars, precious: &[Bytes]) -> Result<(), AllocError>
-    ensures { OnOk result (vars.new ≡ fold words.with_marks vars.old precious.now) }
+/// Returns the mark for the value of a variable.
+fn value_mark_of(alloc: Global, vars: &Vars, name: &Bytes) -> Result<(Bytes, Bytes), AllocError>
+    ensures { IfOk result (λ mark.
+        mark ≡ (words.value_name name.now, unwrap_or (value_of vars.now name.now) [])) }
+{
+    let mark = mark_name(alloc, name.as_slice(), b"_value")?;
+    let value = vars.value_or_empty(name.as_slice());
+    Ok((mark, Bytes::from_slice(alloc, value)?))
+}
+
+/// Pushes the marks of a precious variable: whether it is set, and its value.
+fn push_marks(
+    alloc: Global,
+    marks: &mut Vec<(Bytes, Bytes)>,
+    vars: &Vars,
+    name: &Bytes,
+) -> Result<(), AllocError>
+    ensures { OnOk result (marks.new.items
+        ≡ marks.old.items ++ words.marks_of vars.now name.now) }
+{
+    let set = set_mark_of(alloc, vars, name)?;
+    let value = value_mark_of(alloc, vars, name)?;
+    marks.push(set)?;
+    marks.push(value)?;
+    Ok(())
+}
+
+/// Pushes the marks of precious variables, by their values before any mark.
+fn push_all_marks(
+    alloc: Global,
+    marks: &mut Vec<(Bytes, Bytes)>,
+    vars: &Vars,
+    precious: &[Bytes],
+) -> Result<(), AllocError>
+    ensures { OnOk result (marks.new.items
+        ≡ marks.old.items ++ flat_map (words.marks_of vars.now) precious.now) }
 {
     for name in precious {
-        mark(alloc, vars, name)?;
+        push_marks(alloc, marks, vars, name)?;
     }
     Ok(())
+}
+
+/// Sets all variables of these entries.
+pub(crate) fn set_all(vars: &mut Vars, entries: &[(Bytes, Bytes)]) -> Result<(), AllocError>
+    ensures { OnOk result (vars.new ≡ fold words.with_variable vars.old entries.now) }
+{
+    for entry in entries {
+        vars.set(entry.0.as_slice(), entry.1.as_slice())?;
+    }
+    Ok(())
+}
+
+#[tactic(auto, unfolding(crate::specs::Opening::with_marks))]
+fn mark_all(alloc: Global, vars: &mut Vars, precious: &[Bytes]) -> Result<(), AllocError>
+    ensures { OnOk result (vars.new ≡ words.with_marks precious.now vars.old) }
+{
+    let mut marks = Vec::new(alloc);
+    push_all_marks(alloc, &mut marks, vars, precious)?;
+    set_all(vars, &marks)
 }
 
 /// Drops the final slashes of directories, and then sets the marks of precious variables.

@@ -1,8 +1,10 @@
 //! Precious variables, compared with those of the run that made a cache.
 
-ghost use Rattle.std.specs.Prelude.{◌≡◌, ◌≢◌, ◌++◌, Err, IfOk, IfErr, OnOk, OnErr, option_map, option_to_list, map, fold};
+ghost use Rattle.std.specs.Prelude.{◌≡◌, ◌≢◌, ◌++◌, ◌||◌, Err, IfOk, IfErr, OnOk, OnErr, option_map, option_to_list, map, fold};
+ghost use Rattle.std.specs.Str.{bytes_eq};
 ghost use Rattle.cachefile.specs.Cache.{vars_after};
-ghost use Rattle.deftable.specs.Table.{value_of};
+ghost use Rattle.cachefile.specs.Name as names;
+ghost use Rattle.options.specs.Opening as opening;
 ghost use Rattle.options.specs.Opening.{with_variable};
 ghost use Rattle.options.specs.Precious as words;
 ghost use Rattle.options.specs.Reading.{Gives};
@@ -10,7 +12,7 @@ ghost use Rattle.options.specs.declared.fault.PreciousFault as faults;
 ghost use Rattle.options.specs.declared.fault.PreciousFault.TheVariants.{OutOfMemory};
 
 use crate::fault::PreciousFault;
-use crate::opening::mark_name;
+use crate::opening::{mark_name, set_all};
 use cachefile::OldCache;
 use deftable::{Bytes, Note, Notes, Stream, SubstList, Vars};
 use std::alloc::{AllocError, Global};
@@ -43,11 +45,31 @@ fn old_value<'a>(
     Ok(Some(marked.value_or_empty(value_name.as_slice())))
 }
 
-fn value_now<'a>(vars: &'a Vars, name: &[u8]) -> Option<&'a [u8]>
-    ensures { option_map (λ v. v.now) result ≡ value_of vars.now name.now }
+/// Returns whether the name begins with `ac_cv_env_`, as those of marks do.
+#[tactic(auto, unfolding(cachefile::specs::Name::is_mark))]
+fn is_mark(name: &[u8]) -> bool
+    ensures { result ≡ names.is_mark name.now }
 {
-    let value = vars.get(name)?;
-    Some(value.as_slice())
+    name.starts_with(b"ac_cv_env_")
+}
+
+/// Returns the value that a precious variable has before any mark, or `None` if it is unset then.
+#[tactic(auto, unfolding(crate::specs::Precious::value_before))]
+pub fn value_before<'a>(
+    alloc: Global,
+    vars: &'a Vars,
+    name: &[u8],
+) -> Result<Option<&'a [u8]>, AllocError>
+    ensures { IfOk result (λ value.
+        option_map (λ v. v.now) value ≡ words.value_before vars.now name.now) }
+{
+    let Some(value) = vars.get(name) else {
+        return Ok(None);
+    };
+    if is_mark(name) {
+        return old_value(alloc, vars, name);
+    }
+    Ok(Some(value.as_slice()))
 }
 
 fn have_same_fields(alloc: Global, a: &[u8], b: &[u8]) -> Result<bool, AllocError>
@@ -98,18 +120,58 @@ fn restored<'a>(
     }
 }
 
-/// Returns the variable with this value, if there is one.
+/// Returns whether the name is that of a mark of this variable.
+fn is_mark_of(alloc: Global, of: &Bytes, name: &[u8]) -> Result<bool, AllocError>
+    ensures { IfOk result (λ marks. marks ≡ (bytes_eq name.now (opening.set_name of.now)
+        || bytes_eq name.now (opening.value_name of.now))) }
+{
+    let set_name = mark_name(alloc, of.as_slice(), b"_set")?;
+    let value_name = mark_name(alloc, of.as_slice(), b"_value")?;
+    Ok(name == set_name.as_slice() || name == value_name.as_slice())
+}
+
+/// Returns whether the name is that of a mark of a precious variable.
+#[tactic(auto, unfolding(crate::specs::Opening::marks_one))]
+fn is_mark_of_one(alloc: Global, precious: &[Bytes], name: &[u8]) -> Result<bool, AllocError>
+    ensures { IfOk result (λ marks. marks ≡ opening.marks_one precious.now name.now) }
+{
+    for of in precious {
+        if is_mark_of(alloc, of, name)? {
+            return Ok(true);
+        }
+    }
+    Ok(false)
+}
+
+/// Returns whether the name is that of a mark of a precious variable. If it does not begin as one,
+/// no name is compared.
+#[tactic(auto, using(crate::proofs::Checks::no_mark))]
+fn marks_one(alloc: Global, precious: &[Bytes], name: &[u8]) -> Result<bool, AllocError>
+    ensures { IfOk result (λ marks. marks ≡ opening.marks_one precious.now name.now) }
+{
+    if !is_mark(name) {
+        return Ok(false);
+    }
+    is_mark_of_one(alloc, precious, name)
+}
+
+/// Returns the variable with this old value, if there is one and the variable is no mark of a
+/// precious one.
 fn change_of(
     alloc: Global,
+    precious: &[Bytes],
     name: &Bytes,
     value: Option<&[u8]>,
 ) -> Result<Option<(Bytes, Bytes)>, AllocError>
-    ensures { IfOk result (λ change.
-        change ≡ option_map (λ v. (name.now, v)) (option_map (λ v. v.now) value.entry)) }
+    ensures { IfOk result (λ change. change
+        ≡ words.change_of precious.now name.now (option_map (λ v. v.now) value.entry)) }
 {
     let Some(value) = value else {
         return Ok(None);
     };
+    if marks_one(alloc, precious, name.as_slice())? {
+        return Ok(None);
+    }
     let name = name.copy(alloc)?;
     Ok(Some((name, Bytes::from_slice(alloc, value)?)))
 }
@@ -119,17 +181,19 @@ fn change_of(
 #[tactic(auto, unfolding(crate::specs::Precious::restored_variable))]
 fn restored_variable(
     alloc: Global,
+    precious: &[Bytes],
     place: u64,
     vars: &Vars,
     marked: &Vars,
     name: &Bytes,
 ) -> Result<Option<(Bytes, Bytes)>, PreciousFault>
     ensures { Gives (λ change. change) result
-        (words.restored_variable place vars.now marked.now name.now) }
+        (words.restored_variable precious.now place vars.now marked.now name.now) }
 {
     let old = old_value(alloc, marked, name.as_slice())?;
-    let value = restored(alloc, place, old, value_now(vars, name.as_slice()))?;
-    Ok(change_of(alloc, name, value)?)
+    let now = value_before(alloc, vars, name.as_slice())?;
+    let value = restored(alloc, place, old, now)?;
+    Ok(change_of(alloc, precious, name, value)?)
 }
 
 fn push_change(
@@ -153,11 +217,11 @@ fn restored_variables(
     marked: &Vars,
 ) -> Result<Vec<(Bytes, Bytes)>, PreciousFault>
     ensures { Gives (λ changes. changes.items) result
-        (words.restored_from 1 vars.now marked.now precious.now) }
+        (words.restored_from precious.now 1 vars.now marked.now precious.now) }
 {
     let mut changes = Vec::new(alloc);
     'names: for i in 0..precious.len() {
-        let change = restored_variable(alloc, i as u64 + 1, vars, marked, &precious[i])?;
+        let change = restored_variable(alloc, precious, i as u64 + 1, vars, marked, &precious[i])?;
         push_change(&mut changes, change)?;
     }
     Ok(changes)
@@ -171,7 +235,7 @@ fn compare_all(
     cache: &OldCache,
 ) -> Result<Vec<(Bytes, Bytes)>, PreciousFault>
     ensures { Gives (λ changes. changes.items) result
-        (words.restored_from 1 vars.now (vars_after cache.now vars.now) precious.now) }
+        (words.restored_from precious.now 1 vars.now (vars_after cache.now vars.now) precious.now) }
 {
     let marked = poured(alloc, vars, cache)?;
     restored_variables(alloc, precious, vars, &marked)
@@ -205,9 +269,7 @@ fn with_changes(alloc: Global, vars: &Vars, changes: &[(Bytes, Bytes)]) -> Resul
     ensures { IfOk result (λ after. after ≡ fold with_variable vars.now changes.now) }
 {
     let mut after = vars.copy(alloc)?;
-    for change in changes {
-        after.set(change.0.as_slice(), change.1.as_slice())?;
-    }
+    set_all(&mut after, changes)?;
     Ok(after)
 }
 
@@ -251,7 +313,12 @@ fn check(
 /// If only blanks have changed, the variable gets its old value, with a note about it. All
 /// variables are compared before any is changed.
 ///
-/// This takes time and memory in proportion to the cache and the variables.
+/// A precious variable may have the name of a mark of another one. It is compared by the value that
+/// it has before any mark, and is never changed.
+///
+/// This takes time and memory in proportion to the cache and the variables. For each name that
+/// begins with `ac_cv_env_`, and of which only blanks have changed, it also takes time in
+/// proportion to the precious variables.
 ///
 /// # Errors
 ///

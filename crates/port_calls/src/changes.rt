@@ -127,7 +127,27 @@ fn idiom_text(
     filled(alloc, idiom, args.as_slice(), indent)
 }
 
-/// Returns the change of a call to an idiom, unless an argument can't be put into it.
+/// Returns whether m4 drops the rest of the line after a call, and so joins what is put in its
+/// place to the next line.
+fn joins_next_line(text: &[u8], call: &CallAt) -> bool {
+    let after = call.end.saturating_add(space_len(from(text, call.end)));
+    from(text, after).starts_with(b"dnl")
+}
+
+/// Returns whether the last call of an idiom is one of which Autoconf makes a text that ends in
+/// `fi` or `esac`, without a newline.
+fn ends_in_word(idiom: &[u8]) -> bool {
+    let mut is_choice = false;
+    for line in idiom.split(|byte| *byte == b'\n') {
+        if !line.starts_with(b" ") {
+            is_choice = line.starts_with(b"AS_IF(") || line.starts_with(b"AS_CASE(");
+        }
+    }
+    is_choice
+}
+
+/// Returns the change of a call to an idiom, unless an argument can't be put into it, or the shell
+/// text of the idiom would be joined to the next line.
 fn to_idiom(
     alloc: Global,
     text: &[u8],
@@ -139,6 +159,9 @@ fn to_idiom(
     ensures { IfOk result (λ o.
         IfSome o (λ change. specs.IsPut text.now (macro_call_of call.now) change.put.items)) }
 {
+    if joins_next_line(text, call) && ends_in_word(idiom) {
+        return Ok(None);
+    }
     match idiom_text(alloc, text, spot, call, idiom)? {
         Some(put) => Ok(Some(change_to(call, put))),
         None => Ok(None),
@@ -209,14 +232,12 @@ fn to_nothing(
 
 /// Macros that Autoconf draws out of the argument of another call, as a whole or in part, and so
 /// does them in any case. Their idioms are done only if the action is.
-const DRAWN: [&[u8]; 7] = [
+const DRAWN: [&[u8]; 5] = [
     b"AC_PROG_INSTALL",
     b"AC_PROG_MKDIR_P",
     b"AC_PROG_CPP",
-    b"AC_FUNC_VPRINTF",
-    b"AC_VPRINTF",
-    b"AC_FUNC_STRERROR_R",
     b"AC_HEADER_MAJOR",
+    b"AC_OBJEXT",
 ];
 
 /// Returns whether Autoconf draws a macro of this name out of an argument.
@@ -229,13 +250,6 @@ fn is_same_here(text: &[u8], spot: Spot, call: &CallAt) -> bool {
     begins_statement(text, spot, call.start)
         && ends_statement(from(text, call.end))
         && (spot.is_at_top || !is_drawn(part(text, call.start, call.name_end)))
-}
-
-/// Returns whether m4 drops the rest of the line after a call, and so joins what is put in its
-/// place to the next line.
-fn joins_next_line(text: &[u8], call: &CallAt) -> bool {
-    let after = call.end.saturating_add(space_len(from(text, call.end)));
-    from(text, after).starts_with(b"dnl")
 }
 
 /// Returns the change of a call to nothing, unless the source doesn't look for a compiler, or a `:`

@@ -17,9 +17,7 @@ AC_FUNC_CHECK 1 1
 AC_FUNC_GETMNTENT 0 0
 AC_FUNC_MBRTOWC 0 0
 AC_FUNC_SETVBUF_REVERSED 0 0
-AC_FUNC_STRERROR_R 0 0
 AC_FUNC_STRFTIME 0 0
-AC_FUNC_VPRINTF 0 0
 AC_HAVE_FUNCS 1 1
 AC_HAVE_HEADERS 1 1
 AC_HEADER_CHECK 1 1
@@ -54,6 +52,7 @@ AC_REVISION 0 1
 AC_SETVBUF_REVERSED 0 0
 AC_SIZE_T 0 0
 AC_STRUCT_TM 0 0
+AC_SYS_POSIX_TERMIOS 0 0
 AC_TEST_PROGRAM 1 4
 AC_TRY_COMPILE 2 4
 AC_TRY_CPP 1 3
@@ -67,7 +66,6 @@ AC_TYPE_SIGNAL 0 0
 AC_TYPE_SIZE_T 0 0
 AC_TYPE_SSIZE_T 0 0
 AC_VERBOSE 1 1
-AC_VPRINTF 0 0
 AC_WARN 1 1
 AS_MESSAGE 1 1
 AS_VAR_COPY 2 2
@@ -99,13 +97,13 @@ AC_CHECK_FUNCS_ONCE 1 1 each is checked here, and not all of them together at th
 AC_CHECK_HEADERS_ONCE 1 1 each is checked here, and not all of them together at the first such call
 AC_CHECK_HEADER_STDBOOL 0 0 HAVE_STDBOOL_H is defined if the header is there
 AC_CHECK_MEMBER 1 3 the headers that Autoconf includes are taken to be there
-AC_CHECK_MEMBER(includes) 4 4 a bit-field counts as missing
+AC_CHECK_MEMBER(includes) 4 4 if the fourth argument is empty, no header is included
 AC_CHECK_MEMBERS 1 1 the headers that Autoconf includes are taken to be there
 AC_CHECK_MEMBERS(actions) 2 3 the headers that Autoconf includes are taken to be there
-AC_CHECK_MEMBERS(includes) 4 4 a bit-field counts as missing
+AC_CHECK_MEMBERS(includes) 4 4 if the fourth argument is empty, no header is included
 AC_CHECK_SIZEOF 1 2 the headers that Autoconf includes are taken to be there, and a size other than 1, 2, 4, 8, 12 and 16 is an error
-AC_CHECK_TARGET_TOOL 2 3 no program whose name begins with that of the host is looked for
-AC_CHECK_TARGET_TOOLS 2 3 no program whose name begins with that of the host is looked for
+AC_CHECK_TARGET_TOOL 2 3 no program whose name begins with that of the target is looked for, and no system is detected
+AC_CHECK_TARGET_TOOLS 2 3 no program whose name begins with that of the target is looked for, and no system is detected
 AC_CHECK_TOOL 2 3 no program whose name begins with that of the host is looked for
 AC_CHECK_TOOLS 2 3 no program whose name begins with that of the host is looked for
 AC_COMPILE_CHECK 3 5 what is checked is not printed
@@ -142,18 +140,20 @@ AC_FUNC_SELECT_ARGTYPES 0 0 the types are those of POSIX, without a check
 AC_FUNC_SETPGRP 0 0 SETPGRP_VOID is defined without a check
 AC_FUNC_STAT 0 0 the function is taken to work, and nothing is defined
 AC_FUNC_STRCOLL 0 0 no program is run, so a function that is there counts as one that works
+AC_FUNC_STRERROR_R 0 0 each call makes the checks, and not the first one alone
 AC_FUNC_STRNLEN 0 0 no program is run, and the object is in EXTRA_OBJS and not in LIBOBJS
 AC_FUNC_STRTOD 0 0 the function is taken to work, and nothing is defined
 AC_FUNC_UTIME_NULL 0 0 HAVE_UTIME_NULL is defined without a check
 AC_FUNC_VFORK 0 0 no program is run, so a function that is there counts as one that works
-AC_GETGROUPS_T 0 0 GETGROUPS_T is gid_t without a check
+AC_FUNC_VPRINTF 0 0 each call makes the check, and not the first one alone
+AC_GETGROUPS_T 0 0 GETGROUPS_T is gid_t without a check, and uid_t is not looked for
 AC_GNU_SOURCE 0 0 only _GNU_SOURCE and __EXTENSIONS__ are defined, and config.h.in needs a line for each
 AC_HEADER_DIRENT 0 0 no other header and no library of directories is looked for
 AC_HEADER_RESOLV 0 0 resolv.h counts as missing if one of the other headers is missing
 AC_HEADER_STDBOOL 0 0 HAVE_STDBOOL_H is defined if the header is there
 AC_HEADER_STDC 0 0 STDC_HEADERS is defined without a check
 AC_HEADER_SYS_WAIT 0 0 the header counts as that of POSIX if it is there
-AC_HEADER_TIME 0 0 TIME_WITH_SYS_TIME is defined without a check
+AC_HEADER_TIME 0 0 TIME_WITH_SYS_TIME is defined without a check, and sys/time.h is looked for here alone
 AC_HEADER_TIOCGWINSZ 0 0 a program is compiled, and no text is searched for
 AC_INLINE 0 0 inline is not defined, also where a flag such as -ansi takes it away
 AC_LANG_C 0 0 C is the only language
@@ -183,10 +183,9 @@ AC_STRCOLL 0 0 no program is run, so a function that is there counts as one that
 AC_STRUCT_TIMEZONE 0 0 the programs are others, and struct tm is taken to be in time.h
 AC_SYS_LARGEFILE 0 0 _FILE_OFFSET_BITS is defined on each system, and --disable-largefile is not read
 AC_SYS_LONG_FILE_NAMES 0 0 HAVE_LONG_FILE_NAMES is defined without a check
-AC_SYS_POSIX_TERMIOS 0 0 the program includes termios.h alone
 AC_TIMEZONE 0 0 the programs are others, and struct tm is taken to be in time.h
-AC_TIME_WITH_SYS_TIME 0 0 TIME_WITH_SYS_TIME is defined without a check
-AC_TYPE_GETGROUPS 0 0 GETGROUPS_T is gid_t without a check
+AC_TIME_WITH_SYS_TIME 0 0 TIME_WITH_SYS_TIME is defined without a check, and sys/time.h is looked for here alone
+AC_TYPE_GETGROUPS 0 0 GETGROUPS_T is gid_t without a check, and uid_t is not looked for
 AC_TYPE_INT16_T 0 0 nothing is defined, and the sources take the type from stdint.h
 AC_TYPE_INT32_T 0 0 nothing is defined, and the sources take the type from stdint.h
 AC_TYPE_INT64_T 0 0 nothing is defined, and the sources take the type from stdint.h
@@ -196,7 +195,7 @@ AC_TYPE_INTPTR_T 0 0 nothing is defined, and the sources take the type from stdi
 AC_TYPE_LONG_DOUBLE 0 0 nothing is defined, and the compiler is taken to have it
 AC_TYPE_LONG_LONG_INT 0 0 nothing is defined, and the compiler is taken to have it
 AC_TYPE_MBSTATE_T 0 0 nothing is defined, and the compiler is taken to have it
-AC_TYPE_UID_T 0 0 gid_t is taken to be there
+AC_TYPE_UID_T 0 0 a program is compiled, and the text of sys/types.h is not searched
 AC_TYPE_UINT16_T 0 0 nothing is defined, and the sources take the type from stdint.h
 AC_TYPE_UINT32_T 0 0 nothing is defined, and the sources take the type from stdint.h
 AC_TYPE_UINT64_T 0 0 nothing is defined, and the sources take the type from stdint.h
@@ -204,10 +203,11 @@ AC_TYPE_UINT8_T 0 0 nothing is defined, and the sources take the type from stdin
 AC_TYPE_UINTMAX_T 0 0 nothing is defined, and the sources take the type from stdint.h
 AC_TYPE_UINTPTR_T 0 0 nothing is defined, and the sources take the type from stdint.h
 AC_TYPE_UNSIGNED_LONG_LONG_INT 0 0 nothing is defined, and the compiler is taken to have it
-AC_UID_T 0 0 gid_t is taken to be there
+AC_UID_T 0 0 a program is compiled, and the text of sys/types.h is not searched
 AC_USE_SYSTEM_EXTENSIONS 0 0 only _GNU_SOURCE and __EXTENSIONS__ are defined, and config.h.in needs a line for each
 AC_UTIME_NULL 0 0 HAVE_UTIME_NULL is defined without a check
 AC_VFORK 0 0 no program is run, so a function that is there counts as one that works
+AC_VPRINTF 0 0 each call makes the check, and not the first one alone
 AC_WORDS_BIGENDIAN 0 0 the macros of the compiler for the order of bytes decide, and no program is run
 AH_BOTTOM 1 1 the template of the header has to have its text
 AH_TEMPLATE 2 2 the template of the header has to have its line

@@ -73,7 +73,11 @@ fn explain<D: Disk, R: Read, W: Write, E: Write>(
         (list_any is_unknown asked ≡ true → result ≡ 2)
         × (result ≢ 2 → IsStatus (D.known terminal.old.outputs.disk) asked result)) }
     ensures ported { IfPort (call_of words.now) (λ asked.
-        (result ≤ 2) × (result ≢ 2 → terminal.new.errors ≡ terminal.old.errors)) }
+        (result ≤ 2)
+        × (result ≢ 2
+        → (terminal.new.errors ≡ terminal.old.errors)
+        ⊎ ((page : List ℕ)
+        × Appends (E.contents terminal.old.errors) (E.contents terminal.new.errors) page))) }
     ensures port { IfPort (call_of words.now) (λ asked.
         (request_of asked ≡ None → result ≡ 2)
         × (result ≢ 2
@@ -211,7 +215,11 @@ pub fn run<F: Files, D: Disk, C: Crew + Causes, R: Read, W: Write, E: Write>(
     // rewritten, and it is 1 exactly if that has comments about what is left. If the words are
     // wrong, it is 2.
     ensures ported { IfPort (call_of words.now) (λ asked.
-        (result ≤ 2) × (result ≢ 2 → terminal.new.errors ≡ terminal.old.errors)) }
+        (result ≤ 2)
+        × (result ≢ 2
+        → (terminal.new.errors ≡ terminal.old.errors)
+        ⊎ ((page : List ℕ)
+        × Appends (E.contents terminal.old.errors) (E.contents terminal.new.errors) page))) }
     ensures port { IfPort (call_of words.now) (λ asked.
         (request_of asked ≡ None → result ≡ 2)
         × (result ≢ 2

@@ -184,10 +184,13 @@ help [AS_HELP@&t@_STRING([a],[b])] => [AS_HELP_STRING(a,b)]
 help [AS_HELP_STRING[]][[]] => [AS_HELP_STRING]
 help [a][b] [x [y]] => [ab x y]
 help [AC_FOO(] => [AC_FOO(]
+help [AC_FOO( AS_HELP@&t@_STRING] => [AC_FOO( AS_HELP_STRING]
 // AS_HELP_STRING beside something else, and with one text
 help [@%:@ AS_HELP_STRING([a],[b])] => 3 at 0
 help [x] AS_HELP_STRING([a],[b]) => 3 at 0
 help [AS_HELP_STRING([a])] => 4 at 1
+help [AS_HELP_STRING([a],[b]] => 1.2 at 15
+help AC_FOO( AS_HELP_STRING => 1.2 at 6
 "#;
 
 #[test]

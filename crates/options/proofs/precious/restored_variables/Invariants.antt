@@ -4,4 +4,4 @@ use Rattle.options.proofs.Restorings.{left}
 use Rattle.options.proofs.precious.restored_variables.Given as goal
 
 abbrev pub invariant-names : goal.invariant-names
-invariant-names l = left l.vars l.marked l.changes.items l.i l.precious ≡ restored_from 1 l.vars l.marked l.precious
+invariant-names l = left l.precious l.vars l.marked l.changes.items l.i l.precious ≡ restored_from l.precious 1 l.vars l.marked l.precious
