@@ -2,6 +2,7 @@ pub mod Beside
 mod Coherence
 mod Guarded
 mod Kept
+mod Keyed
 mod Leading
 mod Placed
 mod Puts

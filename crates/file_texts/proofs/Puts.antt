@@ -6,9 +6,9 @@ use Rattle.file_disk.proofs.Deeds.{with_none, does_none, does_more, after_does}
 use Rattle.output_put.specs.declared.artifact.Artifact.{Artifact}
 use Rattle.output_put.specs.declared.artifact.Kind.{Kind}
 use Rattle.output_put.specs.declared.artifact.Kind.TheVariants.{Cache, Record, File, Header}
-use Rattle.file_texts.specs.Done.{IsOther, IsEnd, IsPut, cache_same, cache_put, record_put, file_put, header_same, header_put, HasPlaces, there, IsTakenSo, IsRefused, AreDone, taken, refused, IsAllDone, IsDoneApart}
+use Rattle.file_texts.specs.Done.{can_be_read, IsOther, IsEnd, IsPut, cache_same, cache_put, record_put, file_put, header_same, header_put, HasPlaces, there, IsTakenSo, IsRefused, AreDone, taken, refused, IsAllDone, IsDoneApart}
 use Rattle.file_texts.specs.Done as made
-use Rattle.file_texts.specs.Held.{AreUnguarded}
+use Rattle.file_texts.specs.Held.{Held, AreUnguarded}
 use Rattle.file_texts.specs.Keeping.{IsKept, AreSame, IsLeft, IsStepped, IsUnstepped, before, after, Takes, keeps_of, made_for}
 use Rattle.file_texts.specs.Lines.{AreLines}
 use Rattle.file_texts.specs.Sayings.{saying_of, said}
@@ -72,13 +72,13 @@ both X Y (Some k) x y = (x, y)
 pub takes_is : {E : Type 0} (r : Result (Unit {0}) E) (a b : Option Known) (guards : List Guard) (places new_places : List FilePlace) (artifacts : List Artifact) (lines : List ℕ) (new_artifacts : List Artifact) (new_lines : List ℕ)
     (kind : Kind) (left : Bool) (name file text : List ℕ) (artifact : Artifact) (saying : Saying)
     → artifact ≡ record { kind = kind; name = name; text = text } → saying ≡ saying_of kind left
-    → is_name_guarded name guards ≡ false
+    → is_name_guarded name guards ≡ false → can_be_read kind text ≡ true
     → IfSome a (λ k. IsLeft kind k name text left) → IfSome a (λ k. IsEnd k name kind file)
     → OnOk r (IsKept artifacts lines new_artifacts new_lines artifact (said saying name))
     → OnOk r (Does a b (λ k deeds. IsStepped k guards places new_places saying left (keeps_of kind) name file text deeds))
     → OnOk r (Takes a b guards places new_places artifacts lines new_artifacts new_lines (record { kind = kind; name = name; text = text }))
-takes_is (Err e) a b guards places new_places artifacts lines new_artifacts new_lines kind left name file text artifact saying is says named lefts ends kept does = tt
-takes_is (Ok u) a b guards places new_places artifacts lines new_artifacts new_lines kind left name file text artifact saying is says named lefts ends kept does =
+takes_is (Err e) a b guards places new_places artifacts lines new_artifacts new_lines kind left name file text artifact saying is says named readable lefts ends kept does = tt
+takes_is (Ok u) a b guards places new_places artifacts lines new_artifacts new_lines kind left name file text artifact saying is says named readable lefts ends kept does =
     let line = said (saying_of kind left) name in
     let one : Artifact = record { kind = kind; name = name; text = text } in
     let steps : Does a b (λ k deeds. IsStepped k guards places new_places (saying_of kind left) left (keeps_of kind) name file text deeds) =
@@ -92,6 +92,7 @@ takes_is (Ok u) a b guards places new_places artifacts lines new_artifacts new_l
             file = file;
             ends = x.1;
             named = named;
+            readable = readable;
             placed = has_places k guards places new_places kind left name file s.placed;
             put = put_is k guards places new_places kind left name file text d x.0 s;
           });
@@ -173,6 +174,14 @@ pub all_of_apart : (a : Option Known) (guards : List Guard) (artifacts : List Ar
     → IfSome a (λ k. IsAllDone k artifacts failures lines)
 all_of_apart None guards artifacts failures lines places are = tt
 all_of_apart (Some k) guards artifacts failures lines places are = (guards, places, are)
+
+-- The same of a receiver, by what is inside it.
+pub done_of_view : {D : Type 0} (known : D → Option Known) (inside o : Held D) → inside ≡ o
+    → (inside.closed ≡ false → IfSome (known inside.disk) (λ k. IsDoneApart k inside.guards inside.handed inside.failures inside.lines inside.places))
+    → o.closed ≡ false → IfSome (known o.disk) (λ k. IsAllDone k o.handed o.failures o.lines)
+done_of_view known inside o is are =
+    subst (λ h. h.closed ≡ false → IfSome (known h.disk) (λ k. IsAllDone k h.handed h.failures h.lines)) is
+    (λ unclosed. all_of_apart (known inside.disk) inside.guards inside.handed inside.failures inside.lines inside.places (are unclosed))
 
 -- An artifact that is no cache is written to the file of its name.
 pub ends_as : (known : Option Known) (name : List ℕ) (kind other : Kind) → kind ≡ other

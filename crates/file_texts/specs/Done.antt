@@ -1,5 +1,5 @@
 -- What a receiver did for what was handed over.
-use Rattle.std.specs.Prelude.{◌≡◌, ℕ, ◌+◌, ◌<◌, ◌^◌, false, List, [], ◌∷◌, ◌++◌, length, Some}
+use Rattle.std.specs.Prelude.{◌≡◌, ℕ, ◌+◌, ◌<◌, ◌^◌, nat_le, Bool, true, false, List, [], ◌∷◌, ◌++◌, length, Some}
 use Rattle.file_disk.specs.Known.{Known, Files, Deed, with_deeds, text_under}
 use Rattle.output_put.specs.declared.artifact.Artifact.{Artifact}
 use Rattle.output_put.specs.declared.artifact.Kind.{Kind}
@@ -44,6 +44,14 @@ pub data IsPut (k : Known) (name file text : List ℕ) : Kind → List ℕ → L
       → IsWritten (with_deeds k (directories_for name)) Permissions file text deeds
       → IsPut k name file text Header (creating_line name) (directories_for name ++ deeds)
 
+-- An artifact of this kind with this text can be read again: a record has at most 64 MiB. A cache that is too long is a fault of who
+-- reads it, and nothing else is read. (own)
+abbrev pub can_be_read : Kind → List ℕ → Bool
+can_be_read Cache text = true
+can_be_read Record text = nat_le (length text) (2 ^ 26)
+can_be_read File text = true
+can_be_read Header text = true
+
 -- The directories of an artifact of this kind and name that may be made before it is put. (own)
 abbrev pub may_make : Kind → List ℕ → List Deed
 may_make Cache name = []
@@ -59,11 +67,12 @@ pub data HasPlaces (k : Known) (guards : List Guard) (places new : List FilePlac
       → HasPlaces k guards places new name file kind
 
 -- If this is known, an artifact was put in this way, to a file that is its own: not that of a name
--- that is guarded, and not that of an earlier artifact. (own)
+-- that is guarded, and not that of an earlier artifact. It can be read again. (own)
 pub record IsTakenSo (k : Known) (guards : List Guard) (places new : List FilePlace) (artifact : Artifact) (line : List ℕ) (deeds : List Deed) : Type 0 where
   pub file : List ℕ
   pub ends : IsEnd k artifact.name artifact.kind file
   pub named : is_name_guarded artifact.name guards ≡ false
+  pub readable : can_be_read artifact.kind artifact.text ≡ true
   pub placed : HasPlaces k guards places new artifact.name file artifact.kind
   pub put : IsPut k artifact.name file artifact.text artifact.kind line deeds
 

@@ -2,6 +2,7 @@ pub mod Coherent
 pub mod Done
 pub mod Held
 pub mod Keeping
+pub mod Keys
 pub mod Lines
 pub mod Links
 pub mod Names

@@ -1,17 +1,20 @@
 //! Where files are: which names are names of one file, and which are guarded.
 
-ghost use Rattle.std.specs.Prelude.{◌≡◌, ◌≢◌, ◌∷◌, ◌++◌, [], Some, None, IsTrue, IfOk, IfErr, IfSome, OnOk, OnErr, false};
+ghost use Rattle.std.specs.Prelude.{◌≡◌, ◌≢◌, ◌∷◌, ◌++◌, [], Some, None, IsTrue, IfOk, IfErr, IfSome, OnOk, OnErr, false, is_some, length, take};
 ghost use Rattle.std.specs.IoError.{error_kind};
+ghost use Rattle.deftable.specs.Table.{value_of, with_entry};
 ghost use Rattle.file_disk.specs.Known.{directory_under};
+ghost use Rattle.file_texts.specs.Keys.{place_key, guard_key};
 ghost use Rattle.file_texts.specs.Names as names;
 ghost use Rattle.file_texts.specs.Places as meant;
 ghost use Rattle.file_texts.specs.Places.{IsAdded, place_under, place_in};
 
 use crate::names::{home_of, last_of};
-use deftable::Bytes;
+use deftable::{Bytes, Vars};
 use file_disk::Disk;
 use std::alloc::{AllocError, Global};
 use std::io::{self, ErrorKind};
+use std::marker::Model;
 
 /// The place of a file: its directory, by device and number, and the last part of its name. Two
 /// names are of one place exactly if their directories are one, and their last parts are equal.
@@ -105,32 +108,189 @@ impl Guard {
     }
 }
 
-/// Returns whether the place is one of these.
-fn is_among(place: &FilePlace, places: &[FilePlace]) -> bool
-    ensures { result ≡ meant.is_among place.now places.now }
+/// Returns whether a key is one of these.
+#[tactic(auto, using(crate::proofs::Keyed::has_value))]
+fn has_key(keys: &Vars, key: &[u8]) -> bool
+    ensures { result ≡ is_some (value_of keys.now key.now) }
 {
-    places.iter().any(|other| place.is(other))
+    keys.get(key).is_some()
 }
 
-/// Returns whether the name is guarded.
-pub(crate) fn is_name_guarded(name: &[u8], guards: &[Guard]) -> bool
-    ensures { result ≡ meant.is_name_guarded name.now guards.now }
+/// Returns the key of a place. Two places of one key are compared.
+#[tactic(auto, unfolding(crate::specs::Keys::place_key))]
+fn key_of(alloc: Global, place: &FilePlace) -> Result<Bytes, AllocError>
+    ensures { IfOk result (λ key. key ≡ place_key place.now) }
 {
-    guards.iter().any(|guard| guard.name.as_slice() == name)
+    let mut key = Vec::from_slice(alloc, &place.directory.to_be_bytes())?;
+    key.extend_from_slice(place.name.as_slice())?;
+    Ok(Bytes::from_vec(key))
 }
 
-/// Returns whether the place is guarded.
-fn is_place_guarded(place: &FilePlace, guards: &[Guard]) -> bool
-    ensures { result ≡ meant.is_place_guarded place.now guards.now }
+/// Returns the key of the place of a guard, which is empty if it has none.
+fn key_of_guard(alloc: Global, guard: &Guard) -> Result<Bytes, AllocError>
+    ensures { IfOk result (λ key. key ≡ guard_key guard.now) }
 {
-    guards.iter().any(|guard| guard.is_at(place))
+    match &guard.place {
+        Some(place) => key_of(alloc, place),
+        None => Ok(Bytes::new(alloc)),
+    }
 }
 
-/// Returns whether the place is guarded, or one of these.
-fn is_held_at(place: &FilePlace, guards: &[Guard], places: &[FilePlace]) -> bool
-    ensures { result ≡ meant.is_held_at (Some place.now) guards.now places.now }
+/// The places of what was taken, in order. Their keys are kept, so that a new place isn't compared
+/// with each of them. A key may stay whose place is gone.
+pub(crate) struct Places {
+    list: Vec<FilePlace>,
+    keys: Vars,
+}
+
+impl Drop for Places {
+    fn drop(self) {
+        let Places {
+            list: _list,
+            keys: _keys,
+        } = self;
+    }
+}
+
+impl Model for Places {
+    ghost use Rattle.std.specs.Prelude.{List};
+    ghost use Rattle.file_texts.specs.Keys.{AreKeyed};
+    ghost use Rattle.file_texts.specs.declared.places.FilePlace.{FilePlace as Place};
+
+    ghost Value = { List Place };
+
+    ghost view = { λ p. p.list.items };
+
+    ghost invariant = { λ p. AreKeyed p.keys p.list.items };
+}
+
+#[tactic(auto, using(crate::proofs::Keyed::keying))]
+impl Places {
+    pub(crate) fn new(alloc: Global) -> Places
+        ensures { result ≡ [] }
+    {
+        Places {
+            list: Vec::new(alloc),
+            keys: Vars::new(alloc),
+        }
+    }
+
+    pub(crate) fn len(&self) -> usize
+        ensures { result ≡ length self.now }
+    {
+        self.list.len()
+    }
+
+    /// Drops the places from an index on.
+    pub(crate) fn truncate(&mut self, len: usize)
+        ensures { self.new ≡ take len self.old }
+    {
+        self.list.truncate(len);
+    }
+
+    /// Appends a place.
+    fn push(&mut self, alloc: Global, place: FilePlace) -> Result<(), AllocError>
+        ensures ok { OnOk result (self.new ≡ self.old ++ place ∷ []) }
+        ensures err { OnErr result (self.new ≡ self.old) }
+    {
+        let key = key_of(alloc, &place)?;
+        self.keys.set(key.as_slice(), b"")?;
+        self.list.push(place)?;
+        Ok(())
+    }
+
+    /// Returns whether the place, which has this key, is one of these.
+    fn has(&self, place: &FilePlace, key: &[u8]) -> bool
+        requires { key.now ≡ place_key place.now }
+        ensures { result ≡ meant.is_among place.now self.now }
+    {
+        has_key(&self.keys, key) && self.list.iter().any(|other| place.is(other))
+    }
+}
+
+/// Names to which nothing is to be put, in order. The names and the keys of their places are kept,
+/// so that a name isn't compared with each of them.
+pub(crate) struct Guards {
+    list: Vec<Guard>,
+    names: Vars,
+    keys: Vars,
+}
+
+impl Drop for Guards {
+    fn drop(self) {
+        let Guards {
+            list: _list,
+            names: _names,
+            keys: _keys,
+        } = self;
+    }
+}
+
+impl Model for Guards {
+    ghost use Rattle.std.specs.Prelude.{List};
+    ghost use Rattle.file_texts.specs.Keys.{AreNamed, AreKeyedGuards};
+    ghost use Rattle.file_texts.specs.declared.places.Guard.{Guard as OneGuard};
+
+    ghost Value = { List OneGuard };
+
+    ghost view = { λ g. g.list.items };
+
+    ghost invariant = { λ g. AreNamed g.names g.list.items × AreKeyedGuards g.keys g.list.items };
+}
+
+#[tactic(auto, using(crate::proofs::Keyed::keying))]
+impl Guards {
+    pub(crate) fn new(alloc: Global) -> Guards
+        ensures { result ≡ [] }
+    {
+        Guards {
+            list: Vec::new(alloc),
+            names: Vars::new(alloc),
+            keys: Vars::new(alloc),
+        }
+    }
+
+    /// Appends a guard.
+    pub(crate) fn push(&mut self, alloc: Global, guard: Guard) -> Result<(), AllocError>
+        ensures ok { OnOk result (self.new ≡ self.old ++ guard ∷ []) }
+        ensures err { OnErr result (self.new ≡ self.old) }
+    {
+        let key = key_of_guard(alloc, &guard)?;
+        self.keys.set(key.as_slice(), b"")?;
+        self.names.set(guard.name.as_slice(), b"")?;
+        self.list.push(guard)?;
+        Ok(())
+    }
+
+    /// Returns whether the name is guarded.
+    fn has_name(&self, name: &[u8]) -> bool
+        ensures { result ≡ meant.is_name_guarded name.now self.now }
+    {
+        has_key(&self.names, name) && self.list.iter().any(|guard| guard.name.as_slice() == name)
+    }
+
+    /// Returns whether the place, which has this key, is guarded.
+    fn has_place(&self, place: &FilePlace, key: &[u8]) -> bool
+        requires { key.now ≡ place_key place.now }
+        ensures { result ≡ meant.is_place_guarded place.now self.now }
+    {
+        has_key(&self.keys, key) && self.list.iter().any(|guard| guard.is_at(place))
+    }
+}
+
+/// Returns whether the place is guarded, or one of these. Fails only if memory runs out.
+fn is_held_at(
+    alloc: Global,
+    place: &FilePlace,
+    guards: &Guards,
+    places: &Places,
+) -> Result<bool, AllocError>
+    ensures { IfOk result
+        (λ held. held ≡ meant.is_held_at (Some place.now) guards.now places.now) }
 {
-    is_place_guarded(place, guards) || is_among(place, places)
+    let key = key_of(alloc, place)?;
+    let key = key.as_slice();
+    Ok(guards.has_place(place, key) || places.has(place, key))
 }
 
 /// Returns whether the name is guarded, or its place is guarded or one of these. Fails only if
@@ -138,8 +298,8 @@ fn is_held_at(place: &FilePlace, guards: &[Guard], places: &[FilePlace]) -> bool
 pub(crate) fn is_held<D: Disk>(
     alloc: Global,
     disk: &D,
-    guards: &[Guard],
-    places: &[FilePlace],
+    guards: &Guards,
+    places: &Places,
     name: &str,
 ) -> Result<bool, AllocError>
     ensures named { IfOk result
@@ -147,11 +307,11 @@ pub(crate) fn is_held<D: Disk>(
     ensures held { IfOk result (λ held.
         held ≡ false → meant.is_held (D.known disk.now) name.now guards.now places.now ≡ false) }
 {
-    if is_name_guarded(name.as_bytes(), guards) {
+    if guards.has_name(name.as_bytes()) {
         return Ok(true);
     }
     match place_if_there(alloc, disk, name)? {
-        Some(place) => Ok(is_held_at(&place, guards, places)),
+        Some(place) => is_held_at(alloc, &place, guards, places),
         None => Ok(false),
     }
 }
@@ -173,16 +333,15 @@ pub(crate) fn held_error() -> io::Error {
 }
 
 /// Adds a place, unless it is guarded or added already.
-fn add(guards: &[Guard], places: &mut Vec<FilePlace>, place: FilePlace) -> io::Result<()>
-    ensures free { OnOk result
-        (meant.is_held_at (Some place) guards.now places.old.items ≡ false) }
-    ensures added { OnOk result (places.new.items ≡ places.old.items ++ place ∷ []) }
-    ensures same { OnErr result (places.new.items ≡ places.old.items) }
+fn add(alloc: Global, guards: &Guards, places: &mut Places, place: FilePlace) -> io::Result<()>
+    ensures free { OnOk result (meant.is_held_at (Some place) guards.now places.old ≡ false) }
+    ensures added { OnOk result (places.new ≡ places.old ++ place ∷ []) }
+    ensures same { OnErr result (places.new ≡ places.old) }
 {
-    if is_held_at(&place, guards, places.as_slice()) {
+    if is_held_at(alloc, &place, guards, places)? {
         return Err(held_error());
     }
-    places.push(place)?;
+    places.push(alloc, place)?;
     Ok(())
 }
 
@@ -190,15 +349,15 @@ fn add(guards: &[Guard], places: &mut Vec<FilePlace>, place: FilePlace) -> io::R
 pub(crate) fn add_place<D: Disk>(
     alloc: Global,
     disk: &D,
-    guards: &[Guard],
-    places: &mut Vec<FilePlace>,
+    guards: &Guards,
+    places: &mut Places,
     name: &str,
 ) -> io::Result<()>
     ensures added { OnOk result (IfSome (D.known disk.now)
-        (λ k. IsAdded k guards.now places.old.items places.new.items name.now)) }
-    ensures more { OnOk result (meant.AreMore places.old.items places.new.items) }
-    ensures same { OnErr result (places.new.items ≡ places.old.items) }
+        (λ k. IsAdded k guards.now places.old places.new name.now)) }
+    ensures more { OnOk result (meant.AreMore places.old places.new) }
+    ensures same { OnErr result (places.new ≡ places.old) }
 {
     let place = place_of(alloc, disk, name)?;
-    add(guards, places, place)
+    add(alloc, guards, places, place)
 }

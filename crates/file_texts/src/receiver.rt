@@ -3,6 +3,7 @@
 ghost use Rattle.std.specs.Prelude.{◌≡◌, ◌+◌, ◌^◌, ◌<◌, true, false, List, ℕ, [], OnOk, OnErr, IfOk, IfSome, is_err, option_map, string_bytes};
 ghost use Rattle.file_disk.specs.Known.{Adds, Does};
 ghost use Rattle.output_put.specs.Receipt.{with_artifact, with_refusal};
+ghost use Rattle.file_texts.specs.Done as done;
 ghost use Rattle.file_texts.specs.Done.{IsEnd, IsTakenSo, IsRefused, IsAllDone, IsDoneApart};
 ghost use Rattle.file_texts.specs.Held.{fresh, receipt_of, lasting_of, IsTaken, IsCounted, IsClosed, IsGuarded, IsUnused, GuardsMore, AreUnguarded};
 ghost use Rattle.file_texts.specs.Keeping as meant;
@@ -16,12 +17,12 @@ ghost use Rattle.file_texts.specs.Steps.{IsReplaced, IsBegun, directories_for};
 use crate::lines::{Saying, say, saying_of};
 use crate::links::end_of;
 use crate::names::{directory_of, file_name, no_name};
-use crate::places::{FilePlace, Guard, add_place, guard_of, held_error, is_held};
+use crate::places::{Guards, Places, add_place, guard_of, held_error, is_held};
 use crate::reading::read_text;
 use crate::writing::{Keeps, write_new, write_text};
 use crew_refusals::words_of;
 use deftable::Bytes;
-use file_disk::Disk;
+use file_disk::{Disk, LARGEST_TEXT};
 use output_put::{Artifact, Kind, Outputs, PutRefused};
 use std::alloc::{AllocError, Global};
 use std::io::{self, ErrorKind};
@@ -35,14 +36,14 @@ use std::marker::Model;
 /// took, and the lines that are to be printed.
 ///
 /// A put is refused if memory runs out, no file can have the name, the system refuses to write, the
-/// file is that of an earlier put or one that [`FileOutputs::keep`] names, or the receiver is
-/// closed. Then the file is as it was, as [`write_text`] says, but directories that were made for
+/// file is that of an earlier put or one that [`FileOutputs::keep`] names, it is a record of more
+/// than 64 MiB, which couldn't be read again, or the receiver is closed. Then the file is as it was, as [`write_text`] says, but directories that were made for
 /// it stay. The receiver keeps why the last put was refused.
 pub struct FileOutputs<D: Disk> {
     alloc: Global,
     disk: D,
-    guards: Vec<Guard>,
-    places: Vec<FilePlace>,
+    guards: Guards,
+    places: Places,
     artifacts: Vec<Artifact>,
     failures: u64,
     lines: Vec<u8>,
@@ -74,12 +75,12 @@ impl<D: Disk> Model for FileOutputs<D> {
 
     ghost Value = { Held D };
 
-    ghost view = { λ o. record { handed = o.artifacts.items; failures = o.failures; lines = o.lines.items; guards = o.guards.items; places = o.places.items; closed = o.is_closed; disk = o.disk } };
+    ghost view = { λ o. record { handed = o.artifacts.items; failures = o.failures; lines = o.lines.items; guards = o.guards; places = o.places; closed = o.is_closed; disk = o.disk } };
 
     ghost invariant = { λ o. AreLines o.artifacts.items o.lines.items
-        × AreUnguarded o.guards.items o.artifacts.items
+        × AreUnguarded o.guards o.artifacts.items
         × (o.is_closed ≡ false → IfSome (D.known o.disk)
-        (λ k. IsDoneApart k o.guards.items o.artifacts.items o.failures o.lines.items o.places.items)) };
+        (λ k. IsDoneApart k o.guards o.artifacts.items o.failures o.lines.items o.places)) };
 }
 
 /// Returns the error of an allocation that failed.
@@ -87,12 +88,21 @@ fn no_memory() -> io::Error {
     io::Error::from(ErrorKind::OutOfMemory)
 }
 
+/// Returns the error of directories that weren't made. If something is there already, it is no
+/// directory.
+fn unmade(error: io::Error) -> io::Error {
+    match error.kind() {
+        ErrorKind::AlreadyExists => io::Error::new(ErrorKind::NotADirectory, "Not a directory"),
+        _ => error,
+    }
+}
+
 /// Makes the directories of a file that don't exist.
 fn make_directories<D: Disk>(disk: &mut D, name: &str) -> io::Result<()>
     ensures { Adds (D.known disk.old) (D.known disk.new) (directories_for name.now) }
 {
     match directory_of(name) {
-        Some(directory) => disk.make_directories(directory),
+        Some(directory) => disk.make_directories(directory).map_err(unmade),
         None => Ok(()),
     }
 }
@@ -112,15 +122,15 @@ fn make_for<D: Disk>(disk: &mut D, saying: Saying, name: &str) -> io::Result<()>
 fn add_places<D: Disk>(
     alloc: Global,
     disk: &D,
-    guards: &[Guard],
-    places: &mut Vec<FilePlace>,
+    guards: &Guards,
+    places: &mut Places,
     name: &str,
     end: &Option<String>,
 ) -> io::Result<()>
     ensures placed { OnOk result (IfSome (D.known disk.now)
-        (λ k. ArePlaced k guards.now places.old.items places.new.items name.now
+        (λ k. ArePlaced k guards.now places.old places.new name.now
         (meant.file_of (option_map string_bytes end.now) name.now))) }
-    ensures more { AreMore places.old.items places.new.items }
+    ensures more { AreMore places.old places.new }
 {
     match end {
         Some(file) => add_both(alloc, disk, guards, places, name, file.as_str()),
@@ -132,17 +142,34 @@ fn add_places<D: Disk>(
 fn add_both<D: Disk>(
     alloc: Global,
     disk: &D,
-    guards: &[Guard],
-    places: &mut Vec<FilePlace>,
+    guards: &Guards,
+    places: &mut Places,
     name: &str,
     file: &str,
 ) -> io::Result<()>
     ensures placed { OnOk result (IfSome (D.known disk.now)
-        (λ k. ArePlaced k guards.now places.old.items places.new.items name.now file.now)) }
-    ensures more { AreMore places.old.items places.new.items }
+        (λ k. ArePlaced k guards.now places.old places.new name.now file.now)) }
+    ensures more { AreMore places.old places.new }
 {
     add_place(alloc, disk, guards, places, file)?;
     add_place(alloc, disk, guards, places, name)
+}
+
+/// Returns whether an artifact of this kind with this text can be read again. A record can, if it
+/// has at most 64 MiB. A cache that is too long is a fault of the run that reads it, and what else
+/// is made isn't read.
+fn can_be_read(kind: Kind, text: &[u8]) -> bool
+    ensures { result ≡ done.can_be_read kind text.now }
+{
+    match kind {
+        Kind::Record => text.len() <= LARGEST_TEXT,
+        Kind::Cache | Kind::File | Kind::Header => true,
+    }
+}
+
+/// Returns the error of a record that couldn't be read again.
+fn too_large() -> io::Error {
+    io::Error::new(ErrorKind::FileTooLarge, "has more than 64 MiB")
 }
 
 /// Returns what permissions the file of an artifact of this kind keeps. A record is no program, so
@@ -174,14 +201,14 @@ struct Put<'a> {
 fn write_placed<D: Disk>(
     alloc: Global,
     disk: &mut D,
-    guards: &[Guard],
-    places: &mut Vec<FilePlace>,
+    guards: &Guards,
+    places: &mut Places,
     put: &Put<'_>,
     end: &Option<String>,
 ) -> io::Result<()>
     ensures stepped { OnOk result (
         Does (D.known disk.old) (D.known disk.new) (λ k deeds.
-        IsStepped k guards.now places.old.items places.new.items put.now.saying
+        IsStepped k guards.now places.old places.new put.now.saying
         put.now.unchanged (keeps_of put.now.kind) put.now.name.now
         (meant.file_of (option_map string_bytes end.now) put.now.name.now) put.now.text.now
         deeds)) }
@@ -189,7 +216,7 @@ fn write_placed<D: Disk>(
         (Does (D.known disk.old) (D.known disk.new)
         (λ _ deeds. IsUnstepped put.now.saying put.now.name.now
         (meant.file_of (option_map string_bytes end.now) put.now.name.now) deeds)) }
-    ensures more { AreMore places.old.items places.new.items }
+    ensures more { AreMore places.old places.new }
 {
     make_for(disk, put.saying, put.name)?;
     add_places(alloc, disk, guards, places, put.name, end)?;
@@ -273,8 +300,8 @@ fn file_of<'a>(end: &'a Option<String>, name: &'a str) -> &'a str
 fn keep_written<D: Disk>(
     alloc: Global,
     disk: &mut D,
-    guards: &[Guard],
-    places: &mut Vec<FilePlace>,
+    guards: &Guards,
+    places: &mut Places,
     artifacts: &mut Vec<Artifact>,
     lines: &mut Vec<u8>,
     artifact: Artifact,
@@ -286,10 +313,10 @@ fn keep_written<D: Disk>(
         (said put.now.saying put.now.name.now)) }
     ensures err { OnErr result
         (AreSame artifacts.old.items lines.old.items artifacts.new.items lines.new.items) }
-    ensures unplaced { OnErr result (places.new.items ≡ places.old.items) }
+    ensures unplaced { OnErr result (places.new ≡ places.old) }
     ensures stepped { OnOk result (
         Does (D.known disk.old) (D.known disk.new) (λ k deeds.
-        IsStepped k guards.now places.old.items places.new.items put.now.saying
+        IsStepped k guards.now places.old places.new put.now.saying
         put.now.unchanged (keeps_of put.now.kind) put.now.name.now
         (meant.file_of (option_map string_bytes end.now) put.now.name.now) put.now.text.now
         deeds)) }
@@ -322,8 +349,8 @@ fn keep_written<D: Disk>(
 fn take<'a, D: Disk>(
     alloc: Global,
     disk: &mut D,
-    guards: &[Guard],
-    places: &mut Vec<FilePlace>,
+    guards: &Guards,
+    places: &mut Places,
     artifacts: &mut Vec<Artifact>,
     lines: &mut Vec<u8>,
     is_closed: bool,
@@ -333,16 +360,17 @@ fn take<'a, D: Disk>(
 ) -> io::Result<()>
     ensures unclosed { OnOk result (is_closed ≡ false) }
     ensures taken { OnOk result (
-        Takes (D.known disk.old) (D.known disk.new) guards.now places.old.items places.new.items
+        Takes (D.known disk.old) (D.known disk.new) guards.now places.old places.new
         artifacts.old.items lines.old.items artifacts.new.items lines.new.items
         (record { kind = kind; name = name.now; text = text.now })) }
     ensures name { IfOk result (λ _. IsFileName name.now) }
     ensures unguarded { OnOk result (is_name_guarded name.now guards.now ≡ false) }
-    ensures held { is_held (D.known disk.old) name.now guards.now places.old.items ≡ true
+    ensures readable { OnOk result (done.can_be_read kind text.now ≡ true) }
+    ensures held { is_held (D.known disk.old) name.now guards.now places.old ≡ true
         → (is_err result ≡ true) × (disk.new ≡ disk.old) }
     ensures unchanged { OnErr result
         (AreSame artifacts.old.items lines.old.items artifacts.new.items lines.new.items) }
-    ensures unplaced { OnErr result (places.new.items ≡ places.old.items) }
+    ensures unplaced { OnErr result (places.new ≡ places.old) }
     ensures undone { OnErr result
         (Does (D.known disk.old) (D.known disk.new) (λ k deeds. IsRefused k name.now kind deeds)) }
 {
@@ -352,11 +380,14 @@ fn take<'a, D: Disk>(
     let Some(path) = file_name(name) else {
         return Err(no_name());
     };
-    let Ok(held) = is_held(alloc, disk, guards, places.as_slice(), path) else {
+    let Ok(held) = is_held(alloc, disk, guards, places, path) else {
         return Err(no_memory());
     };
     if held {
         return Err(held_error());
+    }
+    if !can_be_read(kind, text) {
+        return Err(too_large());
     }
     take_free(
         alloc, disk, guards, places, artifacts, lines, kind, name, path, text,
@@ -367,8 +398,8 @@ fn take<'a, D: Disk>(
 fn take_free<'a, D: Disk>(
     alloc: Global,
     disk: &mut D,
-    guards: &[Guard],
-    places: &mut Vec<FilePlace>,
+    guards: &Guards,
+    places: &mut Places,
     artifacts: &mut Vec<Artifact>,
     lines: &mut Vec<u8>,
     kind: Kind,
@@ -379,13 +410,14 @@ fn take_free<'a, D: Disk>(
     requires path { path.now ≡ name.now }
     requires name { IsFileName name.now }
     requires unguarded { is_name_guarded name.now guards.now ≡ false }
+    requires readable { done.can_be_read kind text.now ≡ true }
     ensures taken { OnOk result (
-        Takes (D.known disk.old) (D.known disk.new) guards.now places.old.items places.new.items
+        Takes (D.known disk.old) (D.known disk.new) guards.now places.old places.new
         artifacts.old.items lines.old.items artifacts.new.items lines.new.items
         (record { kind = kind; name = name.now; text = text.now })) }
     ensures unchanged { OnErr result
         (AreSame artifacts.old.items lines.old.items artifacts.new.items lines.new.items) }
-    ensures unplaced { OnErr result (places.new.items ≡ places.old.items) }
+    ensures unplaced { OnErr result (places.new ≡ places.old) }
     ensures undone { OnErr result
         (Does (D.known disk.old) (D.known disk.new) (λ k deeds. IsRefused k name.now kind deeds)) }
 {
@@ -418,8 +450,8 @@ impl<D: Disk> FileOutputs<D> {
         FileOutputs {
             alloc,
             disk,
-            guards: Vec::new(alloc),
-            places: Vec::new(alloc),
+            guards: Guards::new(alloc),
+            places: Places::new(alloc),
             artifacts: Vec::new(alloc),
             failures: 0,
             lines: Vec::new(alloc),
@@ -439,6 +471,13 @@ impl<D: Disk> FileOutputs<D> {
     /// or with words of the receiver's own. If none was refused, or memory ran out, it is empty.
     pub fn cause(&self) -> &[u8] {
         self.cause.as_slice()
+    }
+
+    /// Returns what it took, in order.
+    pub fn handed(&self) -> &[Artifact]
+        ensures { result.now ≡ self.now.handed }
+    {
+        self.artifacts.as_slice()
     }
 
     /// Returns a line for each file and header that was taken, in order: `config.status: creating
@@ -483,7 +522,7 @@ impl<D: Disk> FileOutputs<D> {
             return Ok(());
         };
         let guard = guard_of(self.alloc, &self.disk, name)?;
-        self.guards.push(guard)?;
+        self.guards.push(self.alloc, guard)?;
         Ok(())
     }
 
@@ -535,6 +574,9 @@ impl<D: Disk> Outputs for FileOutputs<D> {
         ensures unclosed { OnOk result (self.old.closed ≡ false) }
         // Nothing is put to a name that is guarded, whether anything is known of the files or not.
         ensures unguarded { OnOk result (is_name_guarded name.now self.old.guards ≡ false) }
+        // A record that couldn't be read again is refused, whether anything is known of the files or
+        // not.
+        ensures readable { OnOk result (done.can_be_read kind text.now ≡ true) }
         // A put to a guarded name, to its place, or to that of another artifact does nothing.
         ensures held { is_held (D.known self.old.disk) name.now self.old.guards self.old.places
             ≡ true → (is_err result ≡ true) × (self.new.disk ≡ self.old.disk) }
@@ -555,7 +597,7 @@ impl<D: Disk> Outputs for FileOutputs<D> {
         match take(
             self.alloc,
             &mut self.disk,
-            self.guards.as_slice(),
+            &self.guards,
             &mut self.places,
             &mut self.artifacts,
             &mut self.lines,

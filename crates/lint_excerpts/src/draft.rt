@@ -58,13 +58,19 @@ impl Draft {
         }
     }
 
+    /// Writes the last hexadecimal digit of a number.
+    fn put_digit(&mut self, number: u32) {
+        self.put(&[DIGITS[(number & 15) as usize]]);
+    }
+
     /// Writes `\uNNNN` for a character below U+10000.
     pub(crate) fn put_code(&mut self, c: char) {
         let code = c as u32;
         self.put(b"\\u");
-        for shift in [12, 8, 4, 0] {
-            self.put(&[DIGITS[((code >> shift) & 15) as usize]]);
-        }
+        self.put_digit(code >> 12);
+        self.put_digit(code >> 8);
+        self.put_digit(code >> 4);
+        self.put_digit(code);
     }
 
     pub(crate) fn put_number(&mut self, number: usize) {

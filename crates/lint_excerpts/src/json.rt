@@ -2,7 +2,7 @@
 
 use crate::draft::Draft;
 use crate::excerpt::word_of;
-use crate::marked::is_mark;
+use crate::marked::{before, from, is_mark};
 use bstr::ByteSlice;
 use deftable::Bytes;
 use lint_findings::Finding;
@@ -22,7 +22,7 @@ fn put_quoted(draft: &mut Draft, quoted: &[u8]) {
         if is_mark(c) {
             draft.put_code(c);
         } else {
-            draft.put(&quoted[start.min(end)..end.min(quoted.len())]);
+            draft.put(from(before(quoted, end), start));
         }
     }
 }

@@ -18,12 +18,12 @@ pub(crate) struct Marked<'a> {
 }
 
 /// Returns the text from an offset on, which is empty if the offset is after its end.
-fn from(text: &[u8], at: usize) -> &[u8] {
+pub(crate) fn from(text: &[u8], at: usize) -> &[u8] {
     &text[at.min(text.len())..]
 }
 
 /// Returns the text before an offset.
-fn before(text: &[u8], at: usize) -> &[u8] {
+pub(crate) fn before(text: &[u8], at: usize) -> &[u8] {
     &text[..at.min(text.len())]
 }
 

@@ -224,27 +224,7 @@ fn idiom_text(
     filled(alloc, idiom, args.as_slice(), indent)
 }
 
-/// Returns whether m4 drops the rest of the line after a call, and so joins what is put in its
-/// place to the next line.
-fn joins_next_line(text: &[u8], call: &CallAt) -> bool {
-    let after = call.end.saturating_add(space_len(from(text, call.end)));
-    from(text, after).starts_with(b"dnl")
-}
-
-/// Returns whether the last call of an idiom is one of which Autoconf makes a text that ends in
-/// `fi` or `esac`, without a newline.
-fn ends_in_word(idiom: &[u8]) -> bool {
-    let mut is_choice = false;
-    for line in idiom.split(|byte| *byte == b'\n') {
-        if !line.starts_with(b" ") {
-            is_choice = line.starts_with(b"AS_IF(") || line.starts_with(b"AS_CASE(");
-        }
-    }
-    is_choice
-}
-
-/// Returns the change of a call to an idiom, unless an argument can't be put into it, or the shell
-/// text of the idiom would be joined to the next line.
+/// Returns the change of a call to an idiom, unless an argument can't be put into it.
 fn to_idiom(
     alloc: Global,
     text: &[u8],
@@ -256,9 +236,6 @@ fn to_idiom(
     ensures { IfOk result (λ o.
         IfSome o (λ change. specs.IsPut text.now (macro_call_of call.now) change.put.items)) }
 {
-    if joins_next_line(text, call) && ends_in_word(idiom) {
-        return Ok(None);
-    }
     match idiom_text(alloc, text, spot, call, idiom)? {
         Some(text_put) => {
             let put = put_apart(text, line_indent(text, spot), call, idiom, text_put)?;

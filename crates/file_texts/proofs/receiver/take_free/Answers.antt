@@ -25,10 +25,10 @@ returns-clause-taken g c =
     let path = c.args.path.now in
     let file = file_of (option_map string_bytes c.in_ok-end.end) path in
     let named : List ℕ → Artifact = λ n. record { kind = c.args.kind; name = n; text = c.args.text.now } in
-    subst (λ n. OnOk c.keep_written.result (Takes known after c.args.guards.now c.args.places.now.items c.keep_written.new.places.items c.args.artifacts.now.items c.args.lines.now.items c.keep_written.new.artifacts.items c.keep_written.new.lines.items (named n))) c.requires.path
+    subst (λ n. OnOk c.keep_written.result (Takes known after c.args.guards.now c.args.places.now c.keep_written.new.places c.args.artifacts.now.items c.args.lines.now.items c.keep_written.new.artifacts.items c.keep_written.new.lines.items (named n))) c.requires.path
     (takes_is c.keep_written.result known _ _ _ _ _ _ _ _ c.args.kind c.in-Ok.unchanged path file c.args.text.now c.in-Ok-from_slices.artifact c.saying_of-saying.result
     (c.in-Ok-from_slices.ensures ∙ ap named (sym c.requires.path)) c.saying_of-saying.ensures
-    (subst (λ n. is_name_guarded n c.args.guards.now ≡ false) (sym c.requires.path) c.requires.unguarded) c.in-Ok.ensures c.in_ok-end.ensures
+    (subst (λ n. is_name_guarded n c.args.guards.now ≡ false) (sym c.requires.path) c.requires.unguarded) c.requires.readable c.in-Ok.ensures c.in_ok-end.ensures
     c.keep_written.ensures.ok c.keep_written.ensures.stepped)
 
 pub returns-clause-undone : goal.returns-clause-undone

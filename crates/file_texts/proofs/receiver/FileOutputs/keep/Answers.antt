@@ -14,17 +14,17 @@ invariant_of-self-2 g c = (
 pub returns-clause-guarded : goal.returns-clause-guarded
 returns-clause-guarded g c _ =
     let inside = c.self.inside in
-    let old : Held _ = record { handed = inside.artifacts.items; failures = inside.failures; lines = inside.lines.items; guards = inside.guards.items; places = inside.places.items; closed = inside.is_closed; disk = inside.disk } in
-    (guards_all g.D.Disk.known c.args.self.now old c.args.name.now c.in-Some.name.now c.in_ok-guard.guard c.push.new.self.items c.self.view_is c.in-Some.ensures.text c.in_ok-guard.ensures.name c.in_ok-guard.ensures.place c.in_ok-push.ensures.items).0
+    let old : Held _ = record { handed = inside.artifacts.items; failures = inside.failures; lines = inside.lines.items; guards = inside.guards; places = inside.places; closed = inside.is_closed; disk = inside.disk } in
+    (guards_all g.D.Disk.known c.args.self.now old c.args.name.now c.in-Some.name.now c.in_ok-guard.guard c.push.new.self c.self.view_is c.in-Some.ensures.text c.in_ok-guard.ensures.name c.in_ok-guard.ensures.place c.in_ok-push.ensures.ok).0
 
 pub returns-clause-named : goal.returns-clause-named
 returns-clause-named g c _ =
     let inside = c.self.inside in
-    let old : Held _ = record { handed = inside.artifacts.items; failures = inside.failures; lines = inside.lines.items; guards = inside.guards.items; places = inside.places.items; closed = inside.is_closed; disk = inside.disk } in
-    (guards_all g.D.Disk.known c.args.self.now old c.args.name.now c.in-Some.name.now c.in_ok-guard.guard c.push.new.self.items c.self.view_is c.in-Some.ensures.text c.in_ok-guard.ensures.name c.in_ok-guard.ensures.place c.in_ok-push.ensures.items).1
+    let old : Held _ = record { handed = inside.artifacts.items; failures = inside.failures; lines = inside.lines.items; guards = inside.guards; places = inside.places; closed = inside.is_closed; disk = inside.disk } in
+    (guards_all g.D.Disk.known c.args.self.now old c.args.name.now c.in-Some.name.now c.in_ok-guard.guard c.push.new.self c.self.view_is c.in-Some.ensures.text c.in_ok-guard.ensures.name c.in_ok-guard.ensures.place c.in_ok-push.ensures.ok).1
 
 pub returns-clause-more : goal.returns-clause-more
 returns-clause-more g c =
     let inside = c.self.inside in
-    let old : Held _ = record { handed = inside.artifacts.items; failures = inside.failures; lines = inside.lines.items; guards = inside.guards.items; places = inside.places.items; closed = inside.is_closed; disk = inside.disk } in
-    (guards_all g.D.Disk.known c.args.self.now old c.args.name.now c.in-Some.name.now c.in_ok-guard.guard c.push.new.self.items c.self.view_is c.in-Some.ensures.text c.in_ok-guard.ensures.name c.in_ok-guard.ensures.place c.in_ok-push.ensures.items).2
+    let old : Held _ = record { handed = inside.artifacts.items; failures = inside.failures; lines = inside.lines.items; guards = inside.guards; places = inside.places; closed = inside.is_closed; disk = inside.disk } in
+    (guards_all g.D.Disk.known c.args.self.now old c.args.name.now c.in-Some.name.now c.in_ok-guard.guard c.push.new.self c.self.view_is c.in-Some.ensures.text c.in_ok-guard.ensures.name c.in_ok-guard.ensures.place c.in_ok-push.ensures.ok).2

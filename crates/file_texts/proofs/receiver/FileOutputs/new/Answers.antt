@@ -5,4 +5,4 @@ use Rattle.file_texts.proofs.receiver.FileOutputs.new.Goals as goal
 
 pub invariant_of-result : goal.invariant_of-result
 invariant_of-result g c =
-    rw (c.new.ensures.items, c.new-2.ensures.items, c.new-3.ensures.items, c.new-4.ensures.items) (none, All-nil _, λ _. begun _ c.requires)
+    rw (c.new.ensures, c.new-2.ensures, c.new-3.ensures.items, c.new-4.ensures.items) (none, All-nil _, λ _. begun _ c.requires)
