@@ -350,6 +350,10 @@ OF_JOINTS = (
 # What docs/running.md states of an unquoted variable in a test, so that no source with idioms that differ has one.
 OF_WORDS = ("running", "a shell makes no word of it if it is empty, and several if it has blanks")
 
+# What docs/language.md states of a test whose unquoted variable is empty, which may be an error for a shell, as its lines say.
+OF_TESTS = ("language", "If an unquoted variable is empty, it is an empty word of a test. A shell drops it.")
+TEST_ERROR = re.compile(r"\b(test|\[): .*(unexpected operator|argument expected|unknown operand|too many arguments)")
+
 # What docs/running.md states of a source without AC_PROG_CC, so that acrun is given none.
 OF_COMPILER = ("running", "linked and CC has no word, the run prints `configure: error: no acceptable C compiler found in $PATH`")
 
@@ -426,7 +430,8 @@ def compared(room, text, ported, settings, switches, program=""):
             return "refused"
         if differs:
             found.append((setting, differs))
-        if by_acrun:
+        said(*OF_TESTS)
+        if by_acrun and not any(TEST_ERROR.search(it) for it in runs[1]["standard error"]):
             differs = beside_acrun(room, program, ported, setting, names, defined, runs[1])
             if differs:
                 found.append((dataclasses.replace(setting, by="acrun"), differs))
@@ -676,7 +681,8 @@ class Maker:
         if kind < 3:
             return f"{word()} {self.one(['=', '=', '!='])} {self.one([*VALUES, word()])}"
         if kind < 5:
-            return f"{self.one(['-n', '-z'])} {word()}"
+            said(*OF_TESTS)
+            return f"{self.one(['-n', '-z'])} {self.one_word()}"
         return word()
 
     def joint(self):
