@@ -1,6 +1,16 @@
-//! What was done to a disk in memory.
+//! What is on a disk in memory at first, and what was done to it.
 
 use deftable::Bytes;
+
+/// A regular file on a disk in memory: its name, its permission bits, the user id of its owner, and its
+/// text.
+#[derive(Drop)]
+pub struct Placed {
+    pub name: Bytes,
+    pub mode: u32,
+    pub owner: u32,
+    pub text: Bytes,
+}
 
 /// Something that was done to a disk in memory.
 #[derive(Drop)]

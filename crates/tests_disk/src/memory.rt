@@ -1,45 +1,41 @@
 //! A disk in memory.
 
-ghost use Rattle.std.specs.Prelude.{◌≡◌, ◌∷◌, ◌++◌, [], Some, IfOk, bytes_eq, map};
+ghost use Rattle.std.specs.Prelude.{◌≡◌, ◌∷◌, ◌++◌, [], Some, None, IfOk, bytes_eq, map, option_map, reverse, if◌then◌else◌};
+ghost use Rattle.std.specs.Option.{option_copied};
 ghost use Rattle.file_disk.specs.Known.{limited};
+ghost use Rattle.file_texts.specs.Names as names;
 ghost use Rattle.tests_disk.specs.Memory as meant;
 
-use crate::done::Step;
+use crate::done::{Placed, Step};
 use deftable::Bytes;
 use file_disk::{Disk, Found, LARGEST_TEXT};
 use std::alloc::{AllocError, Global};
 use std::io::{self, ErrorKind};
 use std::process::Abort;
-use test_rows::cut;
 
-/// A disk in memory of user 0 on which one file is found, a program, until it is removed, and a new
-/// file until something else is done. It keeps what is done. If it is full, no file can be filled.
+/// A disk in memory of user 0, of one directory without links, on which each name is that of its
+/// last part. It keeps what is done to it, and what is written can be read again. A file that did
+/// not get all of its text has none. If the disk is full, no file can be filled.
 #[derive(Drop)]
 pub struct MemoryDisk<'a, R: Abort> {
     rt: &'a R,
     alloc: Global,
-    name: Bytes,
-    text: Bytes,
-    owner: u32,
+    files: &'a [Placed],
     is_full: bool,
     steps: Vec<Step>,
 }
 
 impl<'a, R: Abort> MemoryDisk<'a, R> {
-    /// Returns a disk to which nothing was done, on which this file is found: its name, a blank,
-    /// and its text. If the word is `full`, no file can be filled. If it is `strange`, the file is
-    /// that of user 1.
-    pub fn new(rt: &'a R, alloc: Global, file: &[u8], word: &[u8]) -> MemoryDisk<'a, R>
+    /// Returns a disk to which nothing was done, on which these files are. If `is_full` is true, no
+    /// file can be filled.
+    pub fn new(rt: &'a R, alloc: Global, files: &'a [Placed], is_full: bool) -> MemoryDisk<'a, R>
         ensures { result.steps.items ≡ [] }
     {
-        let (name, text) = cut(file, b" ");
         MemoryDisk {
             rt,
             alloc,
-            name: copied(rt, alloc, name),
-            text: copied(rt, alloc, text),
-            owner: u32::from(word == b"strange".as_slice()),
-            is_full: word == b"full".as_slice(),
+            files,
+            is_full,
             steps: Vec::new(alloc),
         }
     }
@@ -49,84 +45,158 @@ impl<'a, R: Abort> MemoryDisk<'a, R> {
         self.steps.as_slice()
     }
 
-    /// Returns whether this is the name of the file, and the file was not removed.
-    fn is_there(&self, name: &str) -> bool
-        ensures { result
-            ≡ meant.is_there self.now.name (map meant.deed_of self.now.steps.items) name.now }
+    /// Returns the text under a name, or `None` if nothing is under it.
+    pub fn text(&self, name: &[u8]) -> Option<&[u8]>
+        ensures { option_copied result ≡ option_map (λ f. f.text)
+            (meant.file_after self.now.files.now
+            (reverse (map meant.deed_of self.now.steps.items)) (names.last_of name.now)) }
     {
-        is_named(&self.name, name) && !is_removed(&self.name, self.steps.as_slice())
+        text_after(self.files, self.steps.as_slice(), last_of(name))
     }
 
     /// Returns what is under this name.
-    fn found(&self, name: &str) -> Found
-        ensures { result ≡ meant.kind_in self.now.name self.now.owner
-            (map meant.deed_of self.now.steps.items) name.now }
+    fn found(&self, name: &[u8]) -> Found
+        ensures { result ≡ meant.kind_of
+            (meant.file_after self.now.files.now
+            (reverse (map meant.deed_of self.now.steps.items)) (names.last_of name.now)) }
     {
-        if self.is_there(name) {
-            return Found::File {
-                mode: 0o100755,
-                owner: self.owner,
-            };
-        }
-        if is_new(self.steps.as_slice(), name) {
-            return Found::File {
-                mode: 0o100644,
-                owner: 0,
-            };
-        }
-        Found::Nothing
+        kind_after(self.files, self.steps.as_slice(), last_of(name))
     }
 }
 
-/// Returns whether a step removes a file.
-fn removes(file: &Bytes, step: &Step) -> bool
-    ensures { result ≡ meant.removes file.now (meant.deed_of step.now) }
+/// Returns what is after the last slash of a name, or the whole of it.
+fn last_of(name: &[u8]) -> &[u8]
+    ensures { result.now ≡ names.last_of name.now }
+{
+    let mut end = name.len();
+    while end > 0 {
+        if name[end - 1] == b'/' {
+            return &name[end..];
+        }
+        end -= 1;
+    }
+    name
+}
+
+/// Returns a name in the directory, unless it is the last part of the other one.
+fn unless_last<'a>(own: &'a [u8], name: &Bytes) -> Option<&'a [u8]>
+    ensures { option_copied result
+        ≡ (if bytes_eq own.now (names.last_of name.now) then None else Some own.now) }
+{
+    if own == last_of(name.as_slice()) {
+        return None;
+    }
+    Some(own)
+}
+
+/// Returns the name under which a step that renames a file finds what it leaves under this one.
+fn before_renaming<'a>(own: &'a [u8], from: &'a Bytes, to: &Bytes) -> Option<&'a [u8]>
+    ensures { option_copied result ≡ (if bytes_eq own.now (names.last_of to.now)
+        then Some (names.last_of from.now)
+        else (if bytes_eq own.now (names.last_of from.now) then None else Some own.now)) }
+{
+    if own == last_of(to.as_slice()) {
+        return Some(last_of(from.as_slice()));
+    }
+    unless_last(own, from)
+}
+
+/// Returns the name under which a step finds what it leaves under this one, or `None` if it makes
+/// it or takes it away.
+fn source_of<'a>(step: &'a Step, own: &'a [u8]) -> Option<&'a [u8]>
+    ensures { option_copied result ≡ meant.source_of (meant.deed_of step.now) own.now }
 {
     match step {
-        Step::MadeDirectories(_) => false,
-        Step::Made(_) => false,
-        Step::Filled(_, _, _) => false,
-        Step::Failed(_) => false,
-        Step::Renamed(_, _) => false,
-        Step::Removed(name) => name.as_slice() == file.as_slice(),
+        Step::MadeDirectories(_) => Some(own),
+        Step::Made(name) => unless_last(own, name),
+        Step::Filled(name, _, _) => unless_last(own, name),
+        Step::Failed(name) => unless_last(own, name),
+        Step::Renamed(from, to) => before_renaming(own, from, to),
+        Step::Removed(name) => unless_last(own, name),
     }
 }
 
-/// Returns whether a step of these removes a file.
-fn is_removed(file: &Bytes, steps: &[Step]) -> bool
-    ensures { result ≡ meant.is_removed file.now (map meant.deed_of steps.now) }
-{
-    for step in steps {
-        if removes(file, step) {
-            return true;
-        }
-    }
-    false
-}
-
-/// Returns whether a step makes a new file of this name.
-fn makes(name: &str, step: &Step) -> bool
-    ensures { result ≡ meant.makes name.now (meant.deed_of step.now) }
+/// Returns the text that a step gives to the file that it makes or fills.
+fn text_by(step: &Step) -> Option<&[u8]>
+    ensures { option_copied result ≡ meant.text_by (meant.deed_of step.now) }
 {
     match step {
-        Step::MadeDirectories(_) => false,
-        Step::Made(new) => new.as_slice() == name.as_bytes(),
-        Step::Filled(_, _, _) => false,
-        Step::Failed(_) => false,
-        Step::Renamed(_, _) => false,
-        Step::Removed(_) => false,
+        Step::MadeDirectories(_) => None,
+        Step::Made(_) => Some(b""),
+        Step::Filled(_, _, text) => Some(text.as_slice()),
+        Step::Failed(_) => Some(b""),
+        Step::Renamed(_, _) => None,
+        Step::Removed(_) => None,
     }
 }
 
-/// Returns whether the last of the steps makes a new file of this name.
-fn is_new(steps: &[Step], name: &str) -> bool
-    ensures { result ≡ meant.is_new (map meant.deed_of steps.now) name.now }
+/// Returns the text of the file of this name in the directory, if it is one of these.
+fn text_among<'a>(files: &'a [Placed], own: &[u8]) -> Option<&'a [u8]>
+    ensures { option_copied result
+        ≡ option_map (λ f. f.text) (meant.file_among files.now own.now) }
 {
-    let mut is = false;
-    for step in steps {
-        is = makes(name, step);
+    for file in files {
+        if own == last_of(file.name.as_slice()) {
+            return Some(file.text.as_slice());
+        }
     }
-    is
+    None
+}
+
+/// Returns what is found of the file of this name in the directory.
+fn kind_among(files: &[Placed], own: &[u8]) -> Found
+    ensures { result ≡ meant.kind_of (meant.file_among files.now own.now) }
+{
+    for file in files {
+        if own == last_of(file.name.as_slice()) {
+            return Found::File {
+                mode: file.mode,
+                owner: file.owner,
+            };
+        }
+    }
+    Found::Nothing
+}
+
+/// Returns the text under a name in the directory after these steps.
+fn text_after<'a>(files: &'a [Placed], steps: &'a [Step], own: &[u8]) -> Option<&'a [u8]>
+    ensures { option_copied result ≡ option_map (λ f. f.text)
+        (meant.file_after files.now (reverse (map meant.deed_of steps.now)) own.now) }
+{
+    match steps.split_last() {
+        Some((last, earlier)) => match source_of(last, own) {
+            Some(before) => text_after(files, earlier, before),
+            None => text_by(last),
+        },
+        None => text_among(files, own),
+    }
+}
+
+/// Returns what is found of a file that a step makes, if it makes one.
+fn new_kind(text: Option<&[u8]>) -> Found
+    ensures { result ≡ meant.kind_of (option_map meant.new_file (option_copied text.entry)) }
+{
+    match text {
+        Some(_) => Found::File {
+            mode: 0o100644,
+            owner: 0,
+        },
+        None => Found::Nothing,
+    }
+}
+
+/// Returns what is found under a name in the directory after these steps.
+fn kind_after(files: &[Placed], steps: &[Step], own: &[u8]) -> Found
+    ensures { result ≡ meant.kind_of
+        (meant.file_after files.now (reverse (map meant.deed_of steps.now)) own.now) }
+{
+    match steps.split_last() {
+        Some((last, earlier)) => match source_of(last, own) {
+            Some(before) => kind_after(files, earlier, before),
+            None => new_kind(text_by(last)),
+        },
+        None => kind_among(files, own),
+    }
 }
 
 /// Returns a text, or its first 64 MiB and one byte more.
@@ -148,15 +218,8 @@ fn front_of(alloc: Global, text: &[u8]) -> Result<Option<Bytes>, AllocError>
     Ok(Some(front))
 }
 
-/// Returns whether this is the name of a file.
-fn is_named(file: &Bytes, name: &str) -> bool
-    ensures { result ≡ bytes_eq name.now file.now }
-{
-    name.as_bytes() == file.as_slice()
-}
-
 /// Returns a copy of a name or of a text. If memory runs out, ends the test.
-fn copied<R: Abort>(rt: &R, alloc: Global, text: &[u8]) -> Bytes
+pub fn copied<R: Abort>(rt: &R, alloc: Global, text: &[u8]) -> Bytes
     ensures { result ≡ text.now }
 {
     Bytes::from_slice(alloc, text).expect(rt, "memory")
@@ -173,13 +236,13 @@ fn add<R: Abort>(rt: &R, steps: &mut Vec<Step>, step: Step)
 impl<'a, R: Abort> Disk for MemoryDisk<'a, R> {
     type File = ();
 
-    ghost known = { λ m. Some (meant.known_of m.name m.text m.owner m.steps.items) };
+    ghost known = { λ m. Some (meant.known_of m.files.now m.steps.items) };
 
     fn read(&self, alloc: Global, name: &str) -> Result<Option<Bytes>, AllocError> {
-        if self.is_there(name) {
-            return front_of(alloc, self.text.as_slice());
+        match self.text(name.as_bytes()) {
+            Some(text) => front_of(alloc, text),
+            None => Ok(None),
         }
-        Ok(None)
     }
 
     fn cause(&self, _name: &str) -> Option<io::Error> {
@@ -187,7 +250,7 @@ impl<'a, R: Abort> Disk for MemoryDisk<'a, R> {
     }
 
     fn look(&self, name: &str) -> io::Result<Found> {
-        Ok(self.found(name))
+        Ok(self.found(name.as_bytes()))
     }
 
     fn link_target(&self, _alloc: Global, _name: &str) -> io::Result<String> {
@@ -205,7 +268,7 @@ impl<'a, R: Abort> Disk for MemoryDisk<'a, R> {
     }
 
     fn create(&mut self, name: &str) -> io::Result<()> {
-        let Found::Nothing = self.found(name) else {
+        let Found::Nothing = self.found(name.as_bytes()) else {
             return Err(io::Error::from(ErrorKind::AlreadyExists));
         };
         let name = copied(self.rt, self.alloc, name.as_bytes());
@@ -214,7 +277,7 @@ impl<'a, R: Abort> Disk for MemoryDisk<'a, R> {
     }
 
     fn owner(&self, name: &str, _file: &()) -> io::Result<u32> {
-        match self.found(name) {
+        match self.found(name.as_bytes()) {
             Found::File { owner, .. } => Ok(owner),
             _ => Err(io::Error::from(ErrorKind::NotFound)),
         }

@@ -2,8 +2,8 @@
 
 ghost use Rattle.std.specs.Prelude.{◌≡◌, []};
 
-use crate::done::Step;
-use crate::memory::MemoryDisk;
+use crate::done::{Placed, Step};
+use crate::memory::{MemoryDisk, copied};
 use crate::of_file_texts::artifacts_of;
 use deftable::Bytes;
 use file_texts::FileOutputs;
@@ -97,8 +97,25 @@ fn put_after<R: Abort>(
     put_receiver(page, &outputs);
 }
 
-/// A row has four parts, with bars between them: the name of the one file that is found, a blank
-/// and its text; `full`, if no file can be filled, `strange`, if the file is another user's, or
+/// Returns a file, a program: its name, a blank, and its text. If the word is `strange`, it is that
+/// of user 1.
+fn file_of<R: Abort>(rt: &R, page: &mut Page, file: &[u8], word: &[u8]) -> Vec<Placed> {
+    let (name, text) = cut(file, b" ");
+    let placed = Placed {
+        name: copied(rt, page.alloc(), name),
+        mode: 0o100755,
+        owner: u32::from(word == b"strange".as_slice()),
+        text: copied(rt, page.alloc(), text),
+    };
+    let mut files = Vec::new(page.alloc());
+    if files.push(placed).is_err() {
+        page.cut();
+    }
+    files
+}
+
+/// A row has four parts, with bars between them: the name of the one file that is there at first, a
+/// blank and its text; `full`, if no file can be filled, `strange`, if the file is another user's, or
 /// `closed`, if the receiver is closed first; the artifacts, with semicolons between them; and the last file.
 #[derive(Drop)]
 struct Deeds<'a, R: Abort> {
@@ -111,7 +128,9 @@ impl<R: Abort> RowCall for Deeds<'_, R> {
         let (word, rest) = cut(rest, b"|");
         let (words, last) = cut(rest, b"|");
         let artifacts = artifacts_of(page, words);
-        let disk = MemoryDisk::new(self.rt, page.alloc(), file, word);
+        let files = file_of(self.rt, page, file, word);
+        let is_full = word == b"full".as_slice();
+        let disk = MemoryDisk::new(self.rt, page.alloc(), files.as_slice(), is_full);
         match word {
             b"closed" => put_after(page, disk, artifacts.as_slice(), last),
             _ => put_before(page, disk, artifacts.as_slice(), last),
