@@ -109,12 +109,14 @@ noted comment indent it calls = comment ++ flat_map (below indent it) calls
 
 -- What may be put in the place of a call below a comment: the idiom that the table has for it, though it differs from the macro, with
 -- the call's own arguments and some blanks as the indent; it is empty if the table puts nothing there. The comment says in what it
--- differs. What the call says to readers may follow, as a comment, and so may a newline and blanks. (own)
+-- differs. What the call says to readers may follow, as a comment, and so may a newline and blanks. If the table puts nothing there, the
+-- command `:` may follow. (own)
 pub data IsNoted (text : List ℕ) (c : MacroCall) : List ℕ → Type 0 where
   idiom : (it indent said : List ℕ) → put_for text c ≡ Some it → list_all is_space indent ≡ true → Differs (row_name text c) (count_of text c.args) said
       → IsNoted text c (noted (difference (row_name text c) said) indent it (written_as (writes_each_word (row_name text c)) (takes_list (row_name text c)) (map (arg_text text) c.args)))
   kept : (put said indent : List ℕ) → IsNoted text c put → put_for text c ≡ Some [] → Says text c said → list_all is_space indent ≡ true → IsNoted text c (put ++ comment_of indent said)
   lined : (put indent : List ℕ) → IsNoted text c put → list_all is_space indent ≡ true → IsNoted text c (put ++ 10 ∷ indent)
+  idle : (put : List ℕ) → IsNoted text c put → put_for text c ≡ Some [] → IsNoted text c (put ++ 58 ∷ [])
 
 -- What may be put in the place of a call: what is exact, and if all idioms are wanted, also an idiom that differs, below its comment.
 -- (own)

@@ -185,20 +185,20 @@ fn put_apart(
     }
 }
 
-/// Returns what is put in the place of a call below a comment, with a newline after an idiom that
-/// would be joined to the next line.
+/// Returns what is put in the place of a call below a comment, with a newline after it if it would be
+/// joined to the next line.
 fn noted_apart(
     text: &[u8],
     indent: &[u8],
     call: &CallAt,
-    idiom: &[u8],
+    is_joined: bool,
     put: Vec<u8>,
 ) -> Result<Vec<u8>, AllocError>
     requires indent { list_all specs.is_space indent.now ≡ true }
     requires put { specs.IsNoted text.now (macro_call_of call.now) put.items }
     ensures { IfOk result (λ v. specs.IsNoted text.now (macro_call_of call.now) v.items) }
 {
-    if is_joined(text, call, idiom) {
+    if is_joined {
         let mut out = put;
         end_line(&mut out, indent)?;
         Ok(out)
@@ -545,6 +545,55 @@ fn with_comment(
     Ok(out)
 }
 
+/// Returns what is put in the place of a call below a comment, with the command `:` after it.
+fn with_colon(text: &[u8], call: &CallAt, put: Vec<u8>) -> Result<Vec<u8>, AllocError>
+    requires dropped { specs.put_for text.now (macro_call_of call.now) ≡ Some [] }
+    requires put { specs.IsNoted text.now (macro_call_of call.now) put.items }
+    ensures { IfOk result (λ v. specs.IsNoted text.now (macro_call_of call.now) v.items) }
+{
+    let mut out = put;
+    out.push(b':')?;
+    Ok(out)
+}
+
+/// Returns what is put in the place of a call below a comment, with the command `:` on a line of its
+/// own after it.
+fn with_command(
+    text: &[u8],
+    indent: &[u8],
+    call: &CallAt,
+    put: Vec<u8>,
+) -> Result<Vec<u8>, AllocError>
+    requires dropped { specs.put_for text.now (macro_call_of call.now) ≡ Some [] }
+    requires indent { list_all specs.is_space indent.now ≡ true }
+    requires put { specs.IsNoted text.now (macro_call_of call.now) put.items }
+    ensures { IfOk result (λ v. specs.IsNoted text.now (macro_call_of call.now) v.items) }
+{
+    let command = with_colon(text, call, put)?;
+    noted_apart(text, indent, call, joins_next_line(text, call), command)
+}
+
+/// Returns what is put in the place of a call below a comment, with the command `:` after it unless
+/// the list of commands may become empty.
+fn with_idle(
+    text: &[u8],
+    indent: &[u8],
+    call: &CallAt,
+    is_idle: bool,
+    put: Vec<u8>,
+) -> Result<Vec<u8>, AllocError>
+    requires dropped { specs.put_for text.now (macro_call_of call.now) ≡ Some [] }
+    requires indent { list_all specs.is_space indent.now ≡ true }
+    requires put { specs.IsNoted text.now (macro_call_of call.now) put.items }
+    ensures { IfOk result (λ v. specs.IsNoted text.now (macro_call_of call.now) v.items) }
+{
+    if is_idle {
+        Ok(put)
+    } else {
+        with_command(text, indent, call, put)
+    }
+}
+
 /// Returns what is put in the place of a call below a comment, with what the call says to readers
 /// after it, as a comment, or with a newline after an idiom that would be joined to the next line.
 fn with_said(
@@ -553,6 +602,7 @@ fn with_said(
     indent: &[u8],
     call: &CallAt,
     other: &Other,
+    is_idle: bool,
     put: Vec<u8>,
 ) -> Result<Vec<u8>, AllocError>
     requires idiom { specs.put_for text.now (macro_call_of call.now) ≡ Some other.now.idiom.now }
@@ -561,11 +611,14 @@ fn with_said(
     ensures { IfOk result (λ v. specs.IsNoted text.now (macro_call_of call.now) v.items) }
 {
     if !other.idiom.is_empty() {
-        return noted_apart(text, indent, call, other.idiom, put);
+        return noted_apart(text, indent, call, is_joined(text, call, other.idiom), put);
     }
     match said_by(text, call) {
-        Some(said) => with_comment(alloc, text, indent, call, said, put),
-        None => Ok(put),
+        Some(said) => {
+            let kept = with_comment(alloc, text, indent, call, said, put)?;
+            with_idle(text, indent, call, is_idle, kept)
+        }
+        None => with_idle(text, indent, call, is_idle, put),
     }
 }
 
@@ -577,6 +630,7 @@ fn noted_until(
     indent: &[u8],
     call: &CallAt,
     other: &Other,
+    is_idle: bool,
     end: usize,
 ) -> Result<Option<Change>, AllocError>
     requires idiom { specs.put_for text.now (macro_call_of call.now) ≡ Some other.now.idiom.now }
@@ -588,7 +642,7 @@ fn noted_until(
 {
     match noted_text(alloc, text, indent, call, other)? {
         Some(noted) => {
-            let put = with_said(alloc, text, indent, call, other, noted)?;
+            let put = with_said(alloc, text, indent, call, other, is_idle, noted)?;
             Ok(Some(Change {
                 start: call.start,
                 end,
@@ -599,10 +653,10 @@ fn noted_until(
     }
 }
 
-/// Returns the offset of the next line, if nothing is written in place of the call and nothing
-/// follows it on its line.
-fn line_after(text: &[u8], call: &CallAt, other: &Other) -> Option<usize> {
-    if other.idiom.is_empty() {
+/// Returns the offset of the next line, if nothing is written in place of the call, the list of
+/// commands may become empty, and nothing follows the call on its line.
+fn line_after(text: &[u8], call: &CallAt, other: &Other, is_idle: bool) -> Option<usize> {
+    if other.idiom.is_empty() && is_idle {
         next_line(text, call)
     } else {
         None
@@ -613,6 +667,7 @@ fn line_after(text: &[u8], call: &CallAt, other: &Other) -> Option<usize> {
 /// gets the line of the call.
 fn to_noted(
     alloc: Global,
+    known: &Known,
     text: &[u8],
     spot: Spot,
     call: &CallAt,
@@ -624,9 +679,13 @@ fn to_noted(
     ensures { IfOk result (λ o.
         IfSome o (λ change. specs.IsNoted text.now (macro_call_of call.now) change.put.items)) }
 {
-    match line_after(text, call, other) {
-        Some(end) => noted_until(alloc, text, b"", call, other, end),
-        None => noted_until(alloc, text, line_indent(text, spot), call, other, call.end),
+    let is_idle = can_be_left_out(known, text, spot);
+    match line_after(text, call, other, is_idle) {
+        Some(end) => noted_until(alloc, text, b"", call, other, is_idle, end),
+        None => {
+            let indent = line_indent(text, spot);
+            noted_until(alloc, text, indent, call, other, is_idle, call.end)
+        }
     }
 }
 
@@ -646,7 +705,7 @@ fn noted_change(
         return Ok(None);
     }
     match other_for(alloc, known, text, call)? {
-        Some(other) => to_noted(alloc, text, spot, call, &other),
+        Some(other) => to_noted(alloc, known, text, spot, call, &other),
         None => Ok(None),
     }
 }
