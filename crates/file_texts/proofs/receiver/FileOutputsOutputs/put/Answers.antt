@@ -5,7 +5,7 @@ use Rattle.file_texts.proofs.receiver.FileOutputsOutputs.put.Goals as goal
 pub invariant_of-self : goal.invariant_of-self
 invariant_of-self g c = (
   lines_after _ _ _ _ _ _ _ _ _ _ c.self.invariant.0 c.in-Ok.ensures.taken,
-  one_unguarded _ _ _ _ _ c.as_slice.ensures.value c.in-Ok.ensures.taken.kept.artifact_kept c.in-Ok.ensures.unguarded c.self.invariant.1,
+  one_unguarded _ _ _ _ _ refl c.in-Ok.ensures.taken.kept.artifact_kept c.in-Ok.ensures.unguarded c.self.invariant.1,
   λ unclosed. done_after _ _ _ _ _ _ _ _ _ _ _ _ refl (c.self.invariant.2 unclosed) c.in-Ok.ensures.taken,
 )
 
