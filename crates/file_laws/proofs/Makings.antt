@@ -1,5 +1,5 @@
 -- The package is configured, and its outputs are made again: all premises of the law hold together.
-use Rattle.std.proofs.Common.{◌≡◌, ◌≢◌, ℕ, length, map, true, false, List, [], ◌∷◌, ◌++◌, Option, Some, None, Ok, refl, sym, ap, subst, ◌∙◌, arith}
+use Rattle.std.proofs.Common.{◌≡◌, ◌≢◌, ℕ, length, map, true, false, List, [], ◌∷◌, ◌++◌, Some, None, Ok, refl, sym, ap, subst, ◌∙◌, arith}
 use Rattle.std.specs.Prelude.{◌^◌, All, codes, filter, nat_le, if◌then◌else◌}
 use Rattle.std.specs.List.{Contains}
 use Rattle.std.proofs.lemmas.List.Elements.{All-nil, All-cons, All-head, All-tail, All-contains_itself}
@@ -24,10 +24,10 @@ use Rattle.engine_frame.specs.Remade.{made_again, remade, present}
 use Rattle.engine_frame.specs.declared.report.Report.{Report}
 use Rattle.engine_frame.specs.declared.starting.Start.{Start}
 use Rattle.file_disk.specs.Known.{Known, text_under}
-use Rattle.file_laws.specs.Again.{AreApartFrom, HasPlainFiles, IsApartFrom, StatusMakesTheSame, handed_on}
+use Rattle.file_laws.specs.Again.{HasPlainFiles, IsApartFrom, StatusMakesTheSame, handed_on}
 use Rattle.file_laws.specs.Example.{disk, link, start as begun}
 use Rattle.file_laws.specs.Package as the
-use Rattle.file_laws.specs.Rerun.{AreNeverLinks, IsNeverLink}
+use Rattle.file_laws.specs.Rerun.{IsNeverLink}
 use Rattle.file_laws.proofs.Examples.{example_is_coherent}
 use Rattle.file_laws.proofs.Agains.{plain_name}
 use Rattle.file_laws.proofs.Packages as disks
@@ -43,7 +43,7 @@ use Rattle.file_texts.specs.declared.places.Guard.{Guard}
 use Rattle.meaning.specs.Meaning.{effect, meaning}
 use Rattle.meaning.specs.Package.{escaped, initialised}
 use Rattle.meaning.specs.Play.{Played, play, whole}
-use Rattle.meaning.specs.State.{State, How, opened, Completed}
+use Rattle.meaning.specs.State.{How, opened, Completed}
 use Rattle.options.specs.Opening.{cache_named, finished, is_declared, opened_by, opening, run_settings, set_by, setters, source_directory, with_marks, with_unslashed}
 use Rattle.options.specs.Precious.{checked, restored_from}
 use Rattle.options.specs.Unrecognized.{notes_of}
@@ -54,7 +54,7 @@ use Rattle.options_line.specs.Directories.{default_of, directories, directory_na
 use Rattle.options_line.specs.Kept.{kept_from}
 use Rattle.options_line.specs.Slashes.{unslashed, without_slashes}
 use Rattle.options_line.specs.declared.argument.Switch.TheVariants.{ConfigCache}
-use Rattle.output_make.specs.Making.{file_table, header_text, made, made_file, made_header, record_of_run, with_place}
+use Rattle.output_make.specs.Making.{file_table, made, made_file, made_header, record_of_run, with_place}
 use Rattle.output_make.specs.Variables.{header_names, output_names_of, output_value, output_variables, package_names, preset_names}
 use Rattle.output_list.specs.declared.output.Output.{Output}
 use Rattle.output_put.specs.declared.artifact.Artifact.{Artifact}
@@ -69,7 +69,7 @@ use Rattle.output_list.specs.Path.{is_path}
 use Rattle.template.specs.Fill.{before_at, filled, filled_after, key_at_front}
 use Rattle.template.specs.Header.{directive_after, directive_of, headed_line, keyword_at, name_after, name_at, newline_of, rest_after as text_after}
 use Rattle.template.specs.Place.{configure_input_of, header_note_of, place_of, seen_from, sources_beside, up}
-use Rattle.text_cut.specs.Cuts.{fields, parts, parts_by}
+use Rattle.text_cut.specs.Cuts.{parts, parts_by}
 
 -- ---- the settings and the start
 

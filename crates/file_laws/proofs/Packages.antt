@@ -1,15 +1,15 @@
 -- What a run of the package leaves on the disk, and what is made of it again, whatever the texts are.
-use Rattle.std.proofs.Common.{◌≡◌, ◌≢◌, ℕ, true, false, List, [], ◌∷◌, ◌++◌, Option, Some, None, refl, ap, arith}
+use Rattle.std.proofs.Common.{◌≡◌, ◌≢◌, ℕ, List, [], ◌∷◌, ◌++◌, Some, None, refl}
 use Rattle.std.specs.Prelude.{All, codes, bit_and}
 use Rattle.std.specs.Fmt.{digits}
 use Rattle.std.proofs.lemmas.List.Elements.{All-nil, All-cons}
 use Rattle.file_disk.specs.Clearing.{filling}
 use Rattle.file_disk.specs.Known.{Known, Deed, text_under}
-use Rattle.file_texts.specs.Coherent.{after, IsCoherent}
+use Rattle.file_texts.specs.Coherent.{after}
 use Rattle.file_texts.specs.Done.{AreDone, none, taken, IsOther, cache_put, record_put, file_put, header_put, header_same, made}
 use Rattle.file_texts.specs.Lines.{creating_line, unchanged_line}
 use Rattle.file_texts.specs.Links.{itself}
-use Rattle.file_texts.specs.Places.{alone, place_under, is_place_guarded}
+use Rattle.file_texts.specs.Places.{alone, place_under}
 use Rattle.file_texts.specs.Steps.{written, of_nothing, of_own, directories_for, writing, IsReplaced, replaced}
 use Rattle.file_texts.specs.declared.places.Guard.{Guard}
 use Rattle.file_texts.specs.declared.places.FilePlace.{FilePlace}

@@ -1,5 +1,5 @@
 -- A run that makes a directory, on a disk that lacks it.
-use Rattle.std.specs.Prelude.{ℕ, true, List, [], ◌∷◌, ◌++◌, Option, Some, None, bytes_eq, codes, if◌then◌else◌}
+use Rattle.std.specs.Prelude.{ℕ, true, List, [], ◌∷◌, ◌++◌, Some, None, bytes_eq, codes, if◌then◌else◌}
 use Rattle.file_disk.specs.Known.{Files, Deed}
 use Rattle.file_texts.specs.Steps.{directories_for, writing}
 use Rattle.file_texts.specs.declared.places.Guard.{Guard}

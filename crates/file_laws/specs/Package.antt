@@ -1,5 +1,5 @@
 -- A package that is configured, and whose outputs are then made again.
-use Rattle.std.specs.Prelude.{◌≡◌, ℕ, false, List, [], ◌∷◌, Option, Some, Ok, codes}
+use Rattle.std.specs.Prelude.{◌≡◌, ℕ, false, List, [], ◌∷◌, Some, Ok, codes}
 use Rattle.ac_tree.specs.Script.{Script, Done, Then}
 use Rattle.ac_tree.specs.declared.statement.Declares.TheVariants as declares
 use Rattle.ac_tree.specs.declared.statement.Effect.TheVariants.{Nothing, Package, Complete}
