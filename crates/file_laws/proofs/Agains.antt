@@ -100,7 +100,7 @@ below [] e = All-nil (λ b. b < 128)
 below (b ∷ bs) e =
     let p = and_parts (nat_lt b 128) (list_all (λ x. nat_lt x 128) bs) e in All-cons (λ x. x < 128) b bs ((Decides-ltb b 128).0 p.0) (below bs p.1)
 
-plain_name : (name : List ℕ) → list_all (λ b. nat_lt b 128) name ≡ true → has_nul name ≡ false → IsFileName name
+pub plain_name : (name : List ℕ) → list_all (λ b. nat_lt b 128) name ≡ true → has_nul name ≡ false → IsFileName name
 plain_name name ascii whole = record { text = IsUtf8-from_ascii name (IsAscii-from_all name (below name ascii)); whole = whole }
 
 log_name : IsFileName (codes "config.log")

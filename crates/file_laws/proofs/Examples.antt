@@ -1,5 +1,5 @@
 -- The premises of the laws of a run hold together.
-use Rattle.std.proofs.Common.{◌≡◌, ◌≢◌, ℕ, true, List, [], ◌∷◌, ◌++◌, Option, Some, None, refl, ap, arith}
+use Rattle.std.proofs.Common.{◌≡◌, ◌≢◌, ℕ, true, List, [], ◌∷◌, ◌++◌, Some, None, refl, ap, arith}
 use Rattle.std.specs.Prelude.{All, codes}
 use Rattle.std.specs.Fmt.{digits}
 use Rattle.std.proofs.lemmas.List.Elements.{All-nil, All-cons}
@@ -117,7 +117,7 @@ example_is_over = record {
 }
 
 -- The template is read, at its place, which is guarded, and is not that of the log.
-pub example_input : ReadsAt (after the.disk []) the.template the.template_place (codes "t")
+pub example_input : ReadsAt (after the.disk []) the.template the.template_place (codes "NAME = @PACKAGE_NAME@\n")
 example_input = record { end = the.template; leads = itself refl; at = refl; read = refl }
 
 pub example_guarded : is_place_guarded the.template_place the.guards ≡ true
@@ -143,8 +143,8 @@ unfolding LastIsRead
 example_last law =
     law the.disk the.guards the.handed the.log (codes "l") the.log_place the.all_deeds example_is_coherent example_is_plain example_log example_is_over
 
-pub example_keeps : InputsAreKept → text_under (after the.disk the.all_deeds) the.template ≡ Some (codes "t")
+pub example_keeps : InputsAreKept → text_under (after the.disk the.all_deeds) the.template ≡ Some (codes "NAME = @PACKAGE_NAME@\n")
 unfolding InputsAreKept
 example_keeps law =
-    law the.disk the.guards the.handed the.log (codes "l") the.log_place the.all_deeds the.template the.template_place (codes "t")
+    law the.disk the.guards the.handed the.log (codes "l") the.log_place the.all_deeds the.template the.template_place (codes "NAME = @PACKAGE_NAME@\n")
     example_is_coherent example_is_plain example_log example_is_over example_guarded example_apart example_input

@@ -7,3 +7,5 @@ mod Runs
 mod Trees
 mod Lookups
 mod Agains
+mod Packages
+mod Makings

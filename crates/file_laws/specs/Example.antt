@@ -1,5 +1,5 @@
 -- A run that makes a directory, on a disk that lacks it.
-use Rattle.std.specs.Prelude.{ℕ, true, List, [], ◌∷◌, ◌++◌, Option, Some, None, bytes_eq, codes, if◌then◌else◌}
+use Rattle.std.specs.Prelude.{ℕ, true, List, [], ◌∷◌, ◌++◌, Some, None, bytes_eq, codes, if◌then◌else◌}
 use Rattle.file_disk.specs.Known.{Files, Deed}
 use Rattle.file_texts.specs.Steps.{directories_for, writing}
 use Rattle.file_texts.specs.declared.places.Guard.{Guard}
@@ -8,6 +8,7 @@ use Rattle.file_disk.specs.Clearing.{filling}
 use Rattle.file_texts.specs.Coherent.{after}
 use Rattle.output_put.specs.declared.artifact.Artifact.{Artifact}
 use Rattle.output_put.specs.declared.artifact.Kind.TheVariants.{File, Header, Record}
+use Rattle.file_laws.specs.Flat.{Texts}
 use Rattle.file_laws.specs.Tree.{Link, State, tree}
 
 -- A link in the directory of the run, to a header of the package.
@@ -17,11 +18,21 @@ link = record { name = codes "old.h"; target = codes "../pkg/old.h" }
 abbrev pub template : List ℕ
 template = codes "../pkg/src/Makefile.in"
 
+-- The text of a file in this list, which has a name and a text for each.
+abbrev pub text_of : List (List ℕ × List ℕ) → Texts
+text_of [] name = None
+text_of (e ∷ es) name = if bytes_eq name e.0 then Some e.1 else text_of es name
+
 -- On the disk are the sources of a package, in `../pkg`, and the directory of the run, in which there is
 -- the link alone. There is no directory `src`.
 abbrev pub start : State
 start = record {
-  texts = λ name. if bytes_eq name template then Some (codes "t") else (if bytes_eq name (codes "../pkg/old.h") then Some (codes "o") else None);
+  texts = text_of (
+      (template, codes "NAME = @PACKAGE_NAME@\n")
+      ∷ (codes "../pkg/config.h.in", codes "#undef PACKAGE_NAME\n")
+      ∷ (codes "../pkg/old.h", codes "o")
+      ∷ []
+      );
   homes = codes "." ∷ codes "../pkg/" ∷ codes "../pkg/src/" ∷ [];
   linked = true;
 }

@@ -4,3 +4,4 @@ pub mod Flat
 pub mod Tree
 pub mod Rerun
 pub mod Again
+pub mod Package

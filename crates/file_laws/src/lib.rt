@@ -12,7 +12,7 @@
 //! `Makefile.in` as the run left them, and makes the same `Makefile`.
 //!
 //! Read `specs/Rerun.antt`, `specs/Tree.antt`, a disk to which the laws apply, `specs/Example.antt`,
-//! and then `specs/Again.antt`.
+//! and then `specs/Again.antt` and `specs/Package.antt`.
 #![tactic(auto)]
 
 mod again;
@@ -20,7 +20,7 @@ mod example;
 mod rerun;
 
 pub use again::status_makes_the_same;
-pub use example::premises_can_be_met;
+pub use example::{packages_can_be_made_again, premises_can_be_met};
 pub use rerun::{
     flat_disks_are_coherent, inputs_are_kept, outputs_are_read, real_disks_need_premises,
     trees_are_coherent,
