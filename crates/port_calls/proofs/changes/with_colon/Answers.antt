@@ -6,4 +6,4 @@ use Rattle.port_calls.proofs.changes.with_colon.Goals as goal
 
 pub returns : goal.returns
 returns c =
-    subst (IsNoted c.args.text.now (macro_call_of c.args.call.now)) (sym c.in_ok-push.ensures) (specs.IsNoted.idle _ c.requires.put c.requires.dropped)
+    subst (IsNoted c.args.text.now (macro_call_of c.args.call.now)) (sym c.in_ok-push.ensures.items) (specs.IsNoted.idle _ c.requires.put c.requires.dropped)
