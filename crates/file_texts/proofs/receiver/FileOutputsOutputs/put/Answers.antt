@@ -1,3 +1,4 @@
+use Rattle.std.proofs.Common.{refl}
 use Rattle.file_texts.proofs.Guarded.{one_unguarded}
 use Rattle.file_texts.proofs.Puts.{lines_after, same_lines_after, done_after, done_refused, same_unguarded}
 use Rattle.file_texts.proofs.receiver.FileOutputsOutputs.put.Goals as goal
