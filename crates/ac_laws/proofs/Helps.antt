@@ -124,7 +124,7 @@ module _ (arg : Span) where
         by : (l r : Span) → c.args ≡ l ∷ r ∷ [] → (text (arg_at c.args 0) >>= λ left. text (arg_at c.args 1) >>= λ right. Ok (Columns left right)) ≡ Ok given → IsHelp arg given
         by l r is h =
             let both : (text l >>= λ left. text r >>= λ right. Ok (Columns left right)) ≡ Ok given =
-                ap (λ args. text (arg_at args 0) >>= λ left. text (arg_at args 1) >>= λ right. Ok (Columns left right)) (sym is) ∙ h in
+            ap (λ args. text (arg_at args 0) >>= λ left. text (arg_at args 1) >>= λ right. Ok (Columns left right)) (sym is) ∙ h in
             let first = bind_ok (text l) (λ left. text r >>= λ right. Ok (Columns left right)) given both in
             let second = bind_ok (text r) (λ right. Ok (Columns first.0 right)) given first.2 in
             subst (IsHelp arg) (ok_is (Columns first.0 second.0) given second.2)

@@ -109,7 +109,7 @@ module _ (arg : Span) where
   run_is : (inside : Span) (r : IsQuotedRun arg inside) → inside_of (only_text r.items) ≡ Some inside
   run_is inside r =
       let only : only_text r.items ≡ Some r.text =
-          ap only_text r.alone.parts ∙ all_but_only r.alone.before r.alone.after r.text.text r.text.at r.alone.blank_before r.alone.blank_after (run_not_blank r.text inside r.run) in
+      ap only_text r.alone.parts ∙ all_but_only r.alone.before r.alone.after r.text.text r.text.at r.alone.blank_before r.alone.blank_after (run_not_blank r.text inside r.run) in
       ap inside_of only ∙ IsRun-inside r.text inside r.run
 
   no_run : (items : List ItemValue) → IsSpelling arg.at arg.text items → inside_of (only_text items) ≡ None → (inside : Span) → IsQuotedRun arg inside → ⊥

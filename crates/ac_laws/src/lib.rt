@@ -13,7 +13,12 @@
 #![tactic(auto)]
 
 ghost use Rattle.ac_laws.specs.Holding.{
-    CallsAreAlone, HelpIsGiven, ItemsAreHeld, ItemsAreRefused, ProgramIsGiven, UnreadHelpIsRefused,
+  CallsAreAlone,
+  HelpIsGiven,
+  ItemsAreHeld,
+  ItemsAreRefused,
+  ProgramIsGiven,
+  UnreadHelpIsRefused,
 };
 ghost use Rattle.ac_laws.specs.Idle.{IdleHasNoEffect};
 ghost use Rattle.ac_laws.specs.OutputList.{OutputsAreListed, OutputsAreRefused};

@@ -56,8 +56,7 @@ all_marked (name ∷ more) vars base =
     let set = set_mark (value_of vars name) in
     let value = unwrap_or (value_of vars name) [] in
     let first = with_entry base (set_name name) set in
-    let next = with_entry first (value_name name) value in
-    (
+    let next = with_entry first (value_name name) value in (
       (
         fold_there (flat_map (marks_of vars) more) next (set_name name) (stays first (value_name name) value (set_name name) (comes base (set_name name) set)),
         fold_there (flat_map (marks_of vars) more) next (value_name name) (comes first (value_name name) value),
