@@ -104,5 +104,8 @@ status_after first second wanted is went same ne = same ne ∙ is went
 pub put_after : {A : Type 0} (first : ℕ) → (first ≢ 2 → A) → (first ≡ 2 → ⊥) → A
 put_after first put went = put went
 
-pub warned_after : {S : Type 0} {P : S → Type 0} (first second : ℕ) (old mid new : S) → (first ≢ 2 → mid ≡ old) → (first ≡ 2 → ⊥) → (second ≢ 2 → (new ≡ mid) ⊎ P mid) → second ≢ 2 → (new ≡ old) ⊎ P old
-warned_after {S} {P} first second old mid new silent went warned ne = subst (λ s. (new ≡ s) ⊎ P s) (silent went) (warned ne)
+pub warned_after : {S : Type 0} (contents : S → Option (List ℕ)) (first second : ℕ) (old mid new : S) → (first ≢ 2 → mid ≡ old) → (first ≡ 2 → ⊥)
+    → (second ≢ 2 → (new ≡ mid) ⊎ ((page : List ℕ) × Appends (contents mid) (contents new) page))
+    → second ≢ 2 → (new ≡ old) ⊎ ((page : List ℕ) × Appends (contents old) (contents new) page)
+warned_after contents first second old mid new silent went warned ne =
+    subst (λ s. (new ≡ s) ⊎ ((page : List ℕ) × Appends (contents s) (contents new) page)) (silent went) (warned ne)
