@@ -4,7 +4,7 @@ use Rattle.std.specs.Prelude.{OnOk, Result}
 use Rattle.std.proofs.lemmas.List.{map-append, take-map, drop-map}
 use Rattle.cmd_why.specs.Lines.{Line}
 use Rattle.cmd_why.specs.declared.seen.Seen.{Seen}
-use Rattle.cmd_why.specs.Shown.{chosen, printed, text_for}
+use Rattle.cmd_why.specs.Shown.{chosen, matched_text, text_for}
 use Rattle.cmd_why.specs.Views.{check_seen, near_seen}
 use Rattle.cmd_why.specs.declared.lines.Check.{Check}
 use Rattle.cmd_why.specs.declared.nearest.Near.{Near as Lent}
@@ -24,12 +24,12 @@ messages_are [] = refl
 messages_are (check ∷ more) = ap (λ list. check.message.now ∷ list) (messages_are more)
 
 -- What is printed of the checks that are taken.
-pub printed_is : {A E : Type 0} (r : Result A E) (new old word : List ℕ) (seen : Seen) (log : List Line) (whole items taken : List Check) → taken ≡ items → map check_seen items ≡ chosen word (map check_seen whole)
+pub matched_is : {A E : Type 0} (r : Result A E) (new old word : List ℕ) (seen : Seen) (log : List Line) (whole items taken : List Check) → taken ≡ items → map check_seen items ≡ chosen word (map check_seen whole)
     → OnOk r (new ≡ old ++ text_for seen log word (map (λ check. check.message.now) whole) (map check_seen taken))
-    → OnOk r (new ≡ old ++ printed seen log word (map check_seen whole))
-unfolding printed
-printed_is r new old word seen log whole items taken lent is put =
-    let same : text_for seen log word (map (λ check. check.message.now) whole) (map check_seen taken) ≡ printed seen log word (map check_seen whole) =
+    → OnOk r (new ≡ old ++ matched_text seen log word (map check_seen whole))
+unfolding matched_text
+matched_is r new old word seen log whole items taken lent is put =
+    let same : text_for seen log word (map (λ check. check.message.now) whole) (map check_seen taken) ≡ matched_text seen log word (map check_seen whole) =
     ap (λ list. text_for seen log word (map (λ check. check.message.now) whole) list) (ap (λ list. map check_seen list) lent ∙ is)
     ∙ ap (λ list. text_for seen log word list (chosen word (map check_seen whole))) (sym (messages_are whole)) in
     subst (λ text. OnOk r (new ≡ old ++ text)) same put

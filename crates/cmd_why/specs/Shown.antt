@@ -129,11 +129,14 @@ text_for seen log word messages taken = if length taken == 0 then none_text word
 abbrev pub status_for : List Check → ℕ
 status_for taken = if length taken == 0 then 1 else 0
 
+-- What is printed of the checks that the word is about among these of a log, or of those that are nearest to it. (own)
+unfoldable pub matched_text : Seen → List Line → List ℕ → List Check → List ℕ
+matched_text seen log word all = text_for seen log word (map (λ check. check.message) all) (chosen word all)
+
 -- What is printed for a word of a log with these checks, by what is seen of where answers may be from: what is chosen, what the record
 -- has of a definition of this name, and that the log can be read in two ways, if that is so. (own)
 unfoldable pub printed : Seen → List Line → List ℕ → List Check → List ℕ
-printed seen log word all =
-    text_for seen log word (map (λ check. check.message) all) (chosen word all) ++ (defined_text seen word ++ doubt_text log)
+printed seen log word all = matched_text seen log word all ++ (defined_text seen word ++ doubt_text log)
 
 -- The exit status for a word and these checks. (own)
 unfoldable pub status_of : List ℕ → List Check → ℕ

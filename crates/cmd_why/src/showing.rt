@@ -410,8 +410,32 @@ fn put_chosen(
     Ok(FOUND)
 }
 
-/// Appends what is printed for a word of a log with these checks, and returns the exit status.
+/// Appends what is chosen for a word among these checks of a log, or else those that are nearest to
+/// it, and returns the exit status.
 #[tactic(auto, unfolding(crate::specs::Shown::status_of))]
+fn put_matched(
+    alloc: Global,
+    out: &mut Vec<u8>,
+    seen: &Seen,
+    log: &[LogLine<'_>],
+    word: &[u8],
+    checks: &[Check<'_>],
+) -> Result<u8, AllocError>
+    ensures text { OnOk result (
+        out.new.items
+        ≡ out.old.items
+        ++ specs.matched_text seen.now (map line_seen log.now) word.now
+        (map check_seen checks.now)) }
+    ensures status { IfOk result (λ status.
+        status ≡ specs.status_of word.now (map check_seen checks.now)) }
+    ensures bound { IfOk result (λ status. status ≤ 1) }
+{
+    let chosen = chosen(alloc, word, checks)?;
+    put_chosen(alloc, out, seen, log, word, checks, chosen.as_slice())
+}
+
+/// Appends what is printed for a word of a log with these checks, and returns the exit status.
+#[tactic(auto, unfolding(crate::specs::Shown::printed))]
 pub(crate) fn put_printed(
     alloc: Global,
     out: &mut Vec<u8>,
@@ -429,8 +453,7 @@ pub(crate) fn put_printed(
         status ≡ specs.status_of word.now (map check_seen checks.now)) }
     ensures bound { IfOk result (λ status. status ≤ 1) }
 {
-    let chosen = chosen(alloc, word, checks)?;
-    let status = put_chosen(alloc, out, seen, log, word, checks, chosen.as_slice())?;
+    let status = put_matched(alloc, out, seen, log, word, checks)?;
     put_defined(out, seen, word)?;
     put_doubt(out, log)?;
     Ok(status)
