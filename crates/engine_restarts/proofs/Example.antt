@@ -2,15 +2,15 @@
 -- cut at the test of a function. Of its two precious variables one is a mark of the other.
 use Rattle.acparse.specs.Profile.{source_of}
 use Rattle.cachefile.proofs.Orders.{Entries}
-use Rattle.cachefile.specs.Cache.{entry_of, lines_from, cache_of, vars_after, limit}
-use Rattle.cachefile.specs.Line.{rest_after, before_brace, sets_nothing, front_word, default_setting, assigned_setting, assignment, guarded_setting, setting_of as setting_in, line_of}
+use Rattle.cachefile.specs.Cache.{vars_after, limit}
+use Rattle.cachefile.specs.Line.{Setting}
 use Rattle.cachefile.specs.Name.{is_mark}
-use Rattle.cachefile.specs.Text.{line_for, saved_entries, cache_text_of}
-use Rattle.cachefile.specs.Word.{step, value_from, word_of}
+use Rattle.cachefile.specs.Text.{is_saved, saved_value, line_for, saved_entries, cache_text_of}
+use Rattle.cachefile.specs.Word.{word_of}
 use Rattle.options_line.specs.Arguments.{value_in, rest_after as rest_of, switch_of, switches, install_directory_of, target_of, package_of, choice_of, said_with_value, dashed_of, read_argument, settings_from}
 use Rattle.options_line.specs.CommandLine.{key_of, Switched}
 use Rattle.options_line.specs.Directories.{directories, variable_of, default_of, directory_named}
-use Rattle.options_line.specs.Kept.{kept_from}
+use Rattle.options_line.specs.Kept.{kept_from, kept_args}
 use Rattle.options_line.specs.Slashes.{unslashed, without_slashes}
 use Rattle.options_line.specs.declared.argument.Switch.TheVariants.{ConfigCache}
 use Rattle.crew_trait.specs.declared.reply.Reply.{Reply}
@@ -18,10 +18,12 @@ use Rattle.crew_trait.specs.declared.reply.Reply.TheVariants.{Answer, StartRefus
 use Rattle.conftest_source.specs.Sources.{ended, default_includes, header_source, function_source}
 use Rattle.deftable.specs.CacheName.{has_cv, is_cache_name}
 use Rattle.deftable.specs.NameList.{with_name, has_name}
-use Rattle.deftable.specs.Table.{value_of, with_entry, without_entry}
+use Rattle.deftable.specs.Table.{HasDistinctNames, value_of, with_entry, without_entry}
 use Rattle.engine.specs.Judged.{acceptance}
-use Rattle.engine_frame.specs.Faults.{of_parse, named, ◌>>=◌}
-use Rattle.engine_frame.specs.Given.{accepted_after, source_settings, present, started, Starts}
+use Rattle.engine_frame.specs.Faults.{of_parse, of_precious, named, ◌>>=◌, wants}
+use Rattle.engine_frame.specs.Given.{Accepted, accepted_after, source_settings, old_of, present, started, Starts}
+use Rattle.engine_frame.specs.declared.fault.Fault.{Fault}
+use Rattle.engine_frame.specs.declared.fault.Fault.TheVariants.{Plan}
 use Rattle.engine_frame.specs.declared.starting.Start.{Start}
 use Rattle.crew_jobs.specs.Probe.{out_name, file_name, words_of, compile_words, link_words_with, conftest_text, run_of, job_of}
 use Rattle.meaning.specs.Directories.{directories_of}
@@ -29,20 +31,33 @@ use Rattle.meaning.specs.Meaning.{effect, after_subject, is_taken, meaning, chos
 use Rattle.meaning.specs.Package.{escaped, initialised}
 use Rattle.meaning.specs.Play.{Played, play, whole}
 use Rattle.meaning.specs.State.{State, How, opened, Goes_on, Completed, Cut, Run}
-use Rattle.options.specs.Opening.{cache_named, source_directory, setters, set_by, with_unslashed, with_marks, marks_of, unmarked, marks_one, finished, is_declared, run_settings, opened_by, opening}
+use Rattle.options.specs.Opening.{set_name, value_name, cache_named, source_directory, setters, set_by, with_unslashed, with_marks, marks_of, unmarked, marks_one, finished, is_declared, run_settings, opened_by, opening}
 use Rattle.options.specs.Precious.{old_value, value_before, blanks_note, restored, restored_variable, restored_from, checked}
+use Rattle.options.specs.declared.settings.Settings.{Settings}
+use Rattle.options.proofs.Fresh.{fresh_runs_agree}
+use Rattle.plan.specs.Weight.{heaviest, weight}
+use Rattle.plan.specs.declared.fault.PlanFault.TheVariants.{TooLong}
 use Rattle.options.specs.Unrecognized.{after_comma, listed, warning, notes_of}
-use Rattle.cachefile.proofs.Texts.{setting_of}
+use Rattle.cachefile.proofs.Texts.{setting_of, values_saved}
 use Rattle.engine_restarts.specs.Calls.{replies_to, Given, follows, no_cache, Saved}
 use Rattle.engine_restarts.specs.Law.{Again, joined, WasCut}
+use Rattle.engine_restarts.proofs.Judging.{settled, comparison, start_of, AreThere, follows_so}
+use Rattle.engine_restarts.proofs.Distinct.{finished_distinct, played_distinct}
+use Rattle.engine_restarts.proofs.Settings.{over, value_over}
+use Rattle.engine_restarts.proofs.Sorting.{saved_distinct}
+use Rattle.engine_restarts.proofs.Marks.{SameMarks, same_checked}
+use Rattle.engine_restarts.proofs.Starting.{old_again}
 use Rattle.meaning_resumption.specs.Joint.{joint_plain, begins, scope_at, joint, joint_cases}
 use Rattle.meaning_resumption.specs.Plays.{played}
 use Rattle.shellword.specs.Truth.{truth}
 use Rattle.shellword.specs.Value.{word_value}
 use Rattle.shellword.specs.declared.part.Part.{Part}
-use Rattle.std.proofs.Common.{false, ◌≡◌, ℕ, List, [], ◌∷◌, map, Some, None, Ok, inl, refl, ap, ◌<◌, length, arith, Bool, true}
+use Rattle.std.proofs.Common.{false, ◌≡◌, ℕ, List, [], ◌∷◌, map, Some, None, Result, Ok, inl, refl, sym, ap, ◌∙◌, ◌<◌, length, arith, Bool, true}
+use Rattle.std.specs.Prelude.{nat_le, if◌then◌else◌}
+use Rattle.std.specs.List.{AllByRecursion}
 use Rattle.std.specs.Prelude.{codes}
 use Rattle.ac_tree.specs.Lists.{after}
+use Rattle.ac_tree.specs.Resumable.{IsResumable}
 use Rattle.ac_tree.specs.Script.{Script, Done, Then, Choice, No_case, Case}
 use Rattle.ac_tree.specs.declared.listed.Listed.TheVariants.{Header, Function}
 use Rattle.ac_tree.specs.declared.listed.Sought.TheVariants.{ListEntry}
@@ -230,9 +245,93 @@ was_cut source read = record {
 abbrev second : Start
 second = record start { vars = vars_after (map setting_of (saved_entries first_run.state.vars)) begin_vars }
 
+abbrev settings : Settings
+settings = record {
+  vars = begin_vars;
+  notes = [];
+  cache_name = Some (codes "config.cache");
+  srcdir = codes ".";
+  quiet = false;
+  no_create = false;
+  help = false;
+  version = false;
+}
+
+abbrev saved_settings : List Setting
+saved_settings = map setting_of (saved_entries first_run.state.vars)
+
+second_light : wants (nat_le (weight example) heaviest) (Plan TooLong) ≡ Ok tt
+second_light = refl
+
+second_settles : (source : List ℕ) → settled example (call source) ≡ Ok settings
+unfolding cache_named source_directory setters set_by is_declared run_settings opened_by opening after_comma listed warning notes_of value_in rest_of switch_of switches install_directory_of target_of package_of choice_of said_with_value dashed_of read_argument settings_from key_of directories variable_of default_of directory_named after value_of with_entry with_name has_name unslashed without_slashes
+second_settles source = refl
+
+second_there : (source : List ℕ) → AreThere (call source) example settings
+unfolding present after
+second_there source = refl
+
+second_reads : old_of settings.cache_name (Some (cache_text_of first_run.state.vars)) ≡ Ok saved_settings
+second_reads = old_again settings.cache_name first_run.state.vars refl (let few = small in omega (arith, few))
+
+-- A value that is as it was at first also is so after the settings of saved entries.
+own_over : (is_mark is_saved : Bool) (value : List ℕ) → over is_mark (if is_saved then Some value else None) (Some value) ≡ Some value
+own_over true true value = refl
+own_over true false value = refl
+own_over false true value = refl
+own_over false false value = refl
+
+stays : (vars below : Entries) (name value : List ℕ) → HasDistinctNames vars → value_of vars name ≡ Some value → value_of below name ≡ Some value → value_of (vars_after (map setting_of (saved_entries vars)) below) name ≡ value_of below name
+stays vars below name value distinct now before =
+    value_over (saved_entries vars) below name (saved_distinct vars)
+    ∙ ap (λ x. over (is_mark name) x (value_of below name)) (values_saved vars name distinct ∙ ap (saved_value name) now) ∙ ap (over (is_mark name) (saved_value name (Some value))) before
+    ∙ own_over (is_mark name) (is_saved (name, value)) value ∙ sym before
+
+-- The four marks have these values.
+abbrev AreSet : Entries → Type 0
+AreSet vars = ((value_of vars (set_name (codes "ac_cv_env_X_value")) ≡ Some (codes "set")) × (value_of vars (value_name (codes "ac_cv_env_X_value")) ≡ Some (codes "p  q")))
+    × ((value_of vars (set_name (codes "X")) ≡ Some []) × (value_of vars (value_name (codes "X")) ≡ Some []))
+
+set_before : AreSet begin_vars
+unfolding on_values
+set_before = ((refl, refl), (refl, refl))
+
+set_after : AreSet first_run.state.vars
+unfolding on_values
+set_after = ((refl, refl), (refl, refl))
+
+all_stay : (vars below : Entries) → HasDistinctNames vars → AreSet vars → AreSet below → AllByRecursion (SameMarks (vars_after (map setting_of (saved_entries vars)) below) below) (codes "ac_cv_env_X_value" ∷ codes "X" ∷ [])
+all_stay vars below distinct now before =
+    let marked = codes "ac_cv_env_X_value" in
+    let plain = codes "X" in (
+      (stays vars below (set_name marked) (codes "set") distinct now.0.0 before.0.0, stays vars below (value_name marked) (codes "p  q") distinct now.0.1 before.0.1),
+      ((stays vars below (set_name plain) [] distinct now.1.0 before.1.0, stays vars below (value_name plain) [] distinct now.1.1 before.1.1), tt),
+    )
+
+first_distinct : HasDistinctNames first_run.state.vars
+first_distinct = played_distinct example begin_vars replies (finished_distinct (codes "ac_cv_env_X_value" ∷ codes "X" ∷ []) (setters environment (Switched ConfigCache ∷ [])))
+
+same_marks : AllByRecursion (SameMarks (vars_after saved_settings begin_vars) begin_vars) (codes "ac_cv_env_X_value" ∷ codes "X" ∷ [])
+same_marks = all_stay first_run.state.vars begin_vars first_distinct set_after set_before
+
+second_compares : comparison example settings saved_settings ≡ Ok (begin_vars, [])
+unfolding after with_name has_name
+second_compares =
+    let precious : List (List ℕ) = codes "ac_cv_env_X_value" ∷ codes "X" ∷ [] in
+    ap (named of_precious) (same_checked precious begin_vars saved_settings [] same_marks ∙ fresh_runs_agree precious (set_by (setters environment (Switched ConfigCache ∷ []))))
+
+second_keeps : kept_args (codes "-C" ∷ []) ≡ codes "-C" ∷ []
+unfolding value_in rest_of switch_of switches install_directory_of target_of package_of choice_of said_with_value dashed_of read_argument key_of directory_named kept_from parts_by parts fields
+second_keeps = refl
+
+second_is : (source : List ℕ) → start_of (call source) settings saved_settings (begin_vars, []) ≡ second
+second_is source = let with_args : List (List ℕ) → Start = λ args. record second { args = args } in ap with_args second_keeps
+
 second_accepted : (source : List ℕ) → source_of source ≡ Ok example → follows (call source) (Some (cache_text_of first_run.state.vars)) ≡ Ok (Starts example second)
-unfolding on_values acceptance accepted_after source_settings present started value_before marks_one old_value blanks_note restored restored_variable restored_from checked after_comma listed warning notes_of value_in rest_of switch_of switches install_directory_of target_of package_of choice_of said_with_value dashed_of read_argument settings_from key_of kept_from unslashed without_slashes after with_name has_name entry_of lines_from cache_of rest_after before_brace sets_nothing front_word default_setting assigned_setting assignment guarded_setting setting_in line_of step value_from
-second_accepted source read = ap (λ r. named of_parse r >>= λ script. source_settings (call source).arguments (call source).environment script >>= accepted_after (call source).arguments (Some (cache_text_of first_run.state.vars)) [] script) read
+second_accepted source read =
+    let answer : Start → Result Accepted Fault = λ begins. Ok (Starts example begins) in
+    follows_so (call source) (Some (cache_text_of first_run.state.vars)) example settings saved_settings (begin_vars, []) read second_light (second_settles source) refl (second_there source) second_reads second_compares
+    ∙ ap answer (second_is source)
 
 abbrev second_run : Played
 second_run = played example (opened second.vars) (good ∷ [])

@@ -1,5 +1,5 @@
 -- A call without a cache has no fault of a precious variable.
-use Rattle.std.proofs.Common.{◌≡◌, ℕ, Bool, true, false, List, [], ◌∷◌, ◌++◌, Option, Some, None, Result, Ok, Err, refl, sym, ap, ◌∙◌, subst}
+use Rattle.std.proofs.Common.{◌≡◌, ℕ, Bool, true, false, List, [], ◌++◌, Option, Some, None, Result, Ok, Err, refl, sym, ap, subst}
 use Rattle.std.specs.Prelude.{nat_le, if◌then◌else◌}
 use Rattle.acparse.specs.Profile.{source_of}
 use Rattle.ac_statement.specs.declared.fault.ParseFault as parse
@@ -13,11 +13,11 @@ use Rattle.options_line.specs.declared.fault.OptionFault.TheVariants as options
 use Rattle.deftable.specs.declared.note.Note.{Note}
 use Rattle.engine.specs.Judged.{acceptance}
 use Rattle.engine_frame.specs.Faults.{of_parse, of_option, of_precious, named, ◌>>=◌, wants}
-use Rattle.engine_frame.specs.Given.{Accepted, Shows, Starts, accepted_after, none_missing, source_settings, old_of, present, shows, started}
+use Rattle.engine_frame.specs.Given.{Shows, Starts, accepted_after, none_missing, source_settings, old_of, present, shows, started}
 use Rattle.engine_frame.specs.declared.starting.Start.{Start}
 use Rattle.engine_frame.specs.declared.fault.Fault.{Fault}
 use Rattle.engine_frame.specs.declared.fault.Fault.TheVariants.{Plan, Precious}
-use Rattle.options.specs.Opening.{opening, set_by, finished}
+use Rattle.options.specs.Opening.{opening, set_by}
 use Rattle.options.specs.Precious.{checked}
 use Rattle.options.specs.declared.settings.Settings.{Settings}
 use Rattle.options.proofs.Fresh.{fresh_runs_agree}

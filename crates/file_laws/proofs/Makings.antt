@@ -44,7 +44,7 @@ use Rattle.meaning.specs.Meaning.{effect, meaning}
 use Rattle.meaning.specs.Package.{escaped, initialised}
 use Rattle.meaning.specs.Play.{Played, play, whole}
 use Rattle.meaning.specs.State.{How, opened, Completed}
-use Rattle.options.specs.Opening.{cache_named, finished, is_declared, opened_by, opening, run_settings, set_by, setters, source_directory, with_marks, with_unslashed}
+use Rattle.options.specs.Opening.{cache_named, finished, is_declared, opened_by, opening, run_settings, set_by, setters, source_directory, unmarked, with_marks, with_unslashed}
 use Rattle.options.specs.Precious.{checked, restored_from}
 use Rattle.options.specs.Unrecognized.{notes_of}
 use Rattle.options.specs.declared.settings.Settings.{Settings}
@@ -90,7 +90,7 @@ settings = record {
 
 -- What the options compute with.
 on_options : Unit {0}
-unfolding cache_named finished is_declared opened_by opening run_settings set_by setters source_directory with_marks with_unslashed notes_of choice_of dashed_of install_directory_of package_of read_argument rest_after said_with_value settings_from switch_of switches target_of value_in key_of default_of directories directory_named option_of variable_of kept_from unslashed without_slashes value_of with_entry has_name with_name
+unfolding cache_named finished is_declared opened_by opening run_settings set_by setters source_directory unmarked with_marks with_unslashed notes_of choice_of dashed_of install_directory_of package_of read_argument rest_after said_with_value settings_from switch_of switches target_of value_in key_of default_of directories directory_named option_of variable_of kept_from unslashed without_slashes value_of with_entry has_name with_name
 on_options = tt
 
 asked : given.source_settings the.arguments [] the.source ≡ Ok settings
@@ -182,6 +182,11 @@ on_records = tt
 reads_back : record_in (record_text recorded) ≡ Ok recorded
 unfolding on_records record_text record_in lines_in version_in srcdir_in body_in ending several last_of front_of parts parts_by entry_in output_in after_prefix unescaped_from with_byte byte_after_backslash escaped_byte is_path
 reads_back = refl
+
+-- A record of this length can be read again.
+small : nat_le (length (record_text recorded)) (2 ^ 26) ≡ true
+unfolding on_records record_text escaped_byte
+small = refl
 
 -- ---- what is handed over
 
@@ -343,13 +348,13 @@ log_text = log_of report.log
 abbrev left : Known
 left = disks.left cache_text (record_text recorded) makefile_text header_text_made log_text
 
-is_left : (c r m h l : List ℕ) → IsLeft (disks.left c r m h l) disks.guards (disks.handed c r m h l) disks.lines l
-is_left c r m h l = record {
+is_left : (c r m h l : List ℕ) → nat_le (length r) (2 ^ 26) ≡ true → IsLeft (disks.left c r m h l) disks.guards (disks.handed c r m h l) disks.lines l
+is_left c r m h l small = record {
   places = disks.four;
   before = disks.after_header c r m h l;
   logged = _;
   deeds = refl;
-  done = disks.all_done c r m h l;
+  done = disks.all_done c r m h l small;
   written = disks.log_done c r m h l;
 }
 
@@ -373,7 +378,7 @@ run_is law = record {
   unguarded = subst (AreUnguarded disks.guards) (sym handed_is) (unguarded cache_text (record_text recorded) makefile_text header_text_made log_text);
   remakes = makes law;
   same = refl;
-  left = subst (λ a. IsLeft left disks.guards a disks.lines log_text) (sym handed_is) (is_left cache_text (record_text recorded) makefile_text header_text_made log_text);
+  left = subst (λ a. IsLeft left disks.guards a disks.lines log_text) (sym handed_is) (is_left cache_text (record_text recorded) makefile_text header_text_made log_text small);
   prints = refl;
   says = silent;
   exits = refl;
@@ -383,10 +388,6 @@ run_is law = record {
 
 abbrev next : Known
 next = record { deeds = disks.again_file cache_text (record_text recorded) makefile_text header_text_made log_text; files = (handed_on left).files }
-
-small : nat_le (length (record_text recorded)) (2 ^ 26) ≡ true
-unfolding on_records record_text escaped_byte
-small = refl
 
 found : IsReadWhole (handed_on left) (codes "config.status") (Some (record_text recorded))
 found =

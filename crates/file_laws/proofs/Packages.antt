@@ -1,6 +1,6 @@
 -- What a run of the package leaves on the disk, and what is made of it again, whatever the texts are.
-use Rattle.std.proofs.Common.{◌≡◌, ◌≢◌, ℕ, List, [], ◌∷◌, ◌++◌, Some, None, refl}
-use Rattle.std.specs.Prelude.{All, codes, bit_and}
+use Rattle.std.proofs.Common.{◌≡◌, ◌≢◌, ℕ, length, true, List, [], ◌∷◌, ◌++◌, Some, None, refl}
+use Rattle.std.specs.Prelude.{◌^◌, All, codes, bit_and, nat_le}
 use Rattle.std.specs.Fmt.{digits}
 use Rattle.std.proofs.lemmas.List.Elements.{All-nil, All-cons}
 use Rattle.file_disk.specs.Clearing.{filling}
@@ -143,30 +143,33 @@ module _ (c r m h l : List ℕ) where
         file = codes "config.cache";
         ends = itself refl;
         named = refl;
+        readable = refl;
         placed = made (alone (record { place = place 0 (codes "config.cache"); at = refl; free = refl; added = refl }));
         put = cache_put _ other_cache (written 1 None refl of_nothing);
       })
 
-  record_done : AreDone disk guards (cached ∷ recorded ∷ []) 0 [] two after_record
+  record_done : nat_le (length r) (2 ^ 26) ≡ true → AreDone disk guards (cached ∷ recorded ∷ []) 0 [] two after_record
   unfolding digits
-  record_done =
+  record_done small =
       taken (cached ∷ []) 0 [] one two after_cache recorded [] _ cache_done
       (record {
         file = codes "config.status";
         ends = refl;
         named = refl;
+        readable = small;
         placed = made (alone (record { place = place 0 (codes "config.status"); at = refl; free = refl; added = refl }));
         put = record_put _ (written 1 None refl of_nothing);
       })
 
-  file_done : AreDone disk guards (cached ∷ recorded ∷ makefile ∷ []) 0 (creating_line (codes "src/Makefile")) three after_file
+  file_done : nat_le (length r) (2 ^ 26) ≡ true → AreDone disk guards (cached ∷ recorded ∷ makefile ∷ []) 0 (creating_line (codes "src/Makefile")) three after_file
   unfolding digits
-  file_done =
-      taken (cached ∷ recorded ∷ []) 0 [] two three after_record makefile (creating_line (codes "src/Makefile")) _ record_done
+  file_done small =
+      taken (cached ∷ recorded ∷ []) 0 [] two three after_record makefile (creating_line (codes "src/Makefile")) _ (record_done small)
       (record {
         file = codes "src/Makefile";
         ends = refl;
         named = refl;
+        readable = refl;
         placed = made (alone (record { place = place 3 (codes "Makefile"); at = refl; free = refl; added = refl }));
         put = file_put _ (written 1 None refl of_nothing);
       })
@@ -175,14 +178,15 @@ module _ (c r m h l : List ℕ) where
   unfolding digits
   other_header same = absurd (none_is h same)
 
-  pub all_done : AreDone disk guards handed 0 lines four after_header
+  pub all_done : nat_le (length r) (2 ^ 26) ≡ true → AreDone disk guards handed 0 lines four after_header
   unfolding digits
-  all_done =
-      taken (cached ∷ recorded ∷ makefile ∷ []) 0 _ three four after_file header (creating_line (codes "config.h")) _ file_done
+  all_done small =
+      taken (cached ∷ recorded ∷ makefile ∷ []) 0 _ three four after_file header (creating_line (codes "config.h")) _ (file_done small)
       (record {
         file = codes "config.h";
         ends = refl;
         named = refl;
+        readable = refl;
         placed = made (alone (record { place = place 0 (codes "config.h"); at = refl; free = refl; added = refl }));
         put = header_put _ other_header (written 1 None refl of_nothing);
       })
@@ -207,6 +211,7 @@ module _ (c r m h l : List ℕ) where
         file = codes "src/Makefile";
         ends = refl;
         named = refl;
+        readable = refl;
         placed = made (alone (record { place = place 3 (codes "Makefile"); at = refl; free = refl; added = refl }));
         put = file_put _ (written 1 (Some (bit_and 0o100644 0o777)) refl (of_own _ _ refl));
       })
@@ -219,6 +224,7 @@ module _ (c r m h l : List ℕ) where
         file = codes "config.h";
         ends = refl;
         named = refl;
+        readable = refl;
         placed = made (alone (record { place = place 0 (codes "config.h"); at = refl; free = refl; added = refl }));
         put = header_same refl;
       })
