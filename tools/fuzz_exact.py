@@ -879,7 +879,7 @@ def joined(first, blocks, last):
 
 
 # Errors about what a source has itself, which port may leave on another line.
-OF_SOURCE = re.compile(r"not read|does not know|no macro that acrun knows|other text beside it")
+OF_SOURCE = re.compile(r"not read|not run|is no statement|does not know|no macro that acrun knows|other text beside it")
 
 
 def without_excerpts(message):
