@@ -74,7 +74,7 @@ const CACHED: &[u8] = b"
 // what the record has of a definition
 HAVE_A_H;acrun-record 2^Jsrcdir .^Jdef HAVE_A_H 1^Jend^J;;checking for a.h... ^J$ cc^Jstatus 0^Jyes^J => 0[checking for a.h... yes^Jchild 1:^J$ cc^Jstatus 0^Jconfig.status has this definition: HAVE_A_H 1^J][]
 HAVE_A_H;acrun-record 2^Jsrcdir .^Jdef HAVE_A_HX 1^Jend^J;;checking for a.h... ^J$ cc^Jstatus 0^Jyes^J => 0[checking for a.h... yes^Jchild 1:^J$ cc^Jstatus 0^Jconfig.status has no definition of HAVE_A_H.^J][]
-OTHER;acrun-record 2^Jsrcdir .^Jdef OTHER a b^Jend^J;;checking for a.h... ^Jyes^J => 1[No check in the log is about OTHER.^Jconfig.status has this definition: OTHER a b^J][]
+OTHER;acrun-record 2^Jsrcdir .^Jdef OTHER a b^Jend^J;;checking for a.h... ^Jyes^J => 1[No check in the log is about OTHER.^JThe nearest are:^J  checking for a.h^Jconfig.status has this definition: OTHER a b^J][]
 a.h;acrun-record 2^Jsrcdir .^Jdef HAVE_A_H 1^Jend^J;;checking for a.h... ^J$ cc^Jstatus 0^Jyes^J => 0[checking for a.h... yes^Jchild 1:^J$ cc^Jstatus 0^J][]
 HAVE_A_H;acrun-record 1^Jsrcdir .^Jdef HAVE_A_H 1^Jend^J;;checking for a.h... ^Jyes^J => 0[checking for a.h... yes^J][]
 // a cache that the arguments name
