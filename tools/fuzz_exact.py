@@ -541,8 +541,8 @@ LAST = (
     "AC_OUTPUT(values \\\n src/values)",
     "AC_CONFIG_FILES([values])\nAC_OUTPUT()",
 )
-# Variables that acrun does not set, as docs/language.md states.
-UNSET = ("OBJEXT", "EXEEXT", "SHELL")
+# Variables that acrun does not set, or not where Autoconf's checks look for them on their way, as docs/language.md states.
+UNSET = ("OBJEXT", "EXEEXT", "SHELL", "CPP", "GREP", "EGREP")
 READ = ("prefix", "exec_prefix", "bindir", "LIBS", "CFLAGS", "CPPFLAGS", "CC", "enable_foo", "with_bar", "PACKAGE_NAME")
 GIVEN = {
     "INSTALL": ("myinstall", "myinstall -c"), "INSTALL_DATA": ("myinstall -m 600",), "INSTALL_PROGRAM": ("myinstall -s",),
