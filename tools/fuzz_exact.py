@@ -208,7 +208,7 @@ def left(room, body, setting, names, assigned, defined, creates=True):
         put_templates(folder, names, defined)
         made = run(room, ["/bin/sh", "./configure", *([] if creates else ["--no-create"])], folder, setting)
         log = (folder / "config.log").read_text(errors="replace") if (folder / "config.log").exists() else ""
-        printed = re.sub(r"(\.\.\. |^\(cached\) )(?=checking |configure: |config\.status: )", r"\1\n", made.stdout, flags=re.M)
+        printed = re.sub(r"(\.\.\. |^\(cached\) |(?<=\(cached\) )\(cached\) )(?=checking |configure: |config\.status: |\(cached\) )", r"\1\n", made.stdout, flags=re.M)
         found = {"status": made.returncode, "standard output": printed.splitlines()}
         found["standard error"] = [re.sub(r"^\./configure: (line )?\d+: ", "", it) for it in made.stderr.splitlines()]
         cached, values = values_in(section(log, "Cache variables.")), values_in(section(log, "Output variables."))
@@ -357,8 +357,12 @@ TEST_ERROR = re.compile(r"\b(test|\[): .*(unexpected operator|argument expected|
 # What docs/running.md states of a source without AC_PROG_CC, so that acrun is given none.
 OF_COMPILER = ("running", "linked and CC has no word, the run prints `configure: error: no acceptable C compiler found in $PATH`")
 
-# What docs/language.md states of `dnl`, so that it follows calls alone, whose text ends in a newline.
+# What docs/language.md states of `dnl`. So it follows calls alone, and acrun is given no source in which it follows one whose text doesn't
+# end in a newline.
 OF_DNL = ("language", "A line that `dnl` drops counts as a newline. Autoconf joins what is before it with the next line")
+
+# What docs/language.md states of variables that the check of a compiler sets in Autoconf.
+OF_GIVEN = ("language", "If an argument or the environment gives OBJEXT or EXEEXT a value, AC_SUBST writes that value")
 
 
 @functools.lru_cache
@@ -390,7 +394,26 @@ def beside_acrun(room, program, text, setting, names, defined, before):
         return {}
     kept["standard error"] = mine["standard error"] if mine["status"] == kept["status"] else before["standard error"]
     found = differences(kept, mine)
-    return {name: it for name, it in found.items() if not (of_language().match(name.removeprefix("src/")) and is_missing(it[1]))}
+    said(*OF_GIVEN)
+    given = {f"values {name}" for name in ("OBJEXT", "EXEEXT") for it in (*setting.arguments, *dict(setting.environment)) if it.partition("=")[0] == name}
+
+    def is_told(name, value):
+        plain = name.removeprefix("src/")
+        return plain in given or of_language().match(plain) and is_missing(value)
+
+    return {name: it for name, it in found.items() if not is_told(name, it[1])}
+
+
+def joins_dnl(text):
+    """Returns whether a `dnl` follows a call that makes Autoconf write a command without a newline after it."""
+    for call in re.finditer(r"\bAC_(?:COMPILE|LINK|PREPROC|RUN)_IFELSE\(|\bAC_TRY_\w+\(|\bAC_TEST_PROGRAM\(", text):
+        depth, at = 1, call.end()
+        while depth and at < len(text):
+            depth += {"(": 1, ")": -1}.get(text[at], 0)
+            at += 1
+        if re.match(r"[ \t]*dnl\b", text[at:]):
+            return True
+    return False
 
 
 def is_for_acrun(setting):
@@ -417,7 +440,7 @@ def compared(room, text, ported, settings, switches, program=""):
     patterns, found, defined = stated(text, switches == IDIOMS), [], candidates(bodies, ported)
     has_other_idiom = switches == IDIOMS and any(is_word(name, text) for name, *_ in others())
     for setting in settings:
-        by_acrun = program and is_for_acrun(setting)
+        by_acrun = program and is_for_acrun(setting) and not joins_dnl(text)
         creates = bool(by_acrun) or setting.seed % 4 == 0
         if bodies[0] == bodies[1] and not by_acrun:
             continue
