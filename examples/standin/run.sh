@@ -81,4 +81,38 @@ if [ "$found" != 0 ] || [ "$said" != 'checking for sys/stat.h... no' ] || ! cmp 
     cat config.log
 fi
 
+# The program starts its children by another crew than `ProcessCrew`, which `tests_cases` has. So it is the compiler of a run of that one
+# too, and answers 1 and 0.
+cases=$(dirname "$acrun")/../../tests_cases/out/tests_cases
+if [ -x "$cases" ]; then
+    cd "$folder" || exit 2
+    cat > process.cases <<END
+=== a compiler that answers 1 and 0
+--- init
+AC_INIT([demo],[1.0])
+--- children
+--- lines
+AC_CHECK_HEADERS([sys/stat.h unistd.h])
+--- write standin.txt
+sys/stat.h
+
+--- environment
+CC=$acrun standin
+--- run
+configure
+--- status
+0
+--- output
+checking for sys/stat.h... no
+checking for unistd.h... yes
+
+END
+    if ! said=$("$cases" process.cases 2>&1); then
+        wrong=1
+        echo "standin: over the other crew: $said"
+    fi
+else
+    echo "standin: not tried over the other crew: there is no $cases"
+fi
+
 [ "$wrong" -eq 0 ] && echo "standin: as it should be"

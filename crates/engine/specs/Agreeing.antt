@@ -1,26 +1,12 @@
 -- Two runs of one source, over crews with the same replies.
-use Rattle.std.specs.Prelude.{◌≡◌, ℕ, ◌+◌, ◌-◌, List, [], ◌∷◌, ◌⊎◌, length}
-use Rattle.crew_trait.specs.declared.event.CrewEvent.{CrewEvent}
-use Rattle.crew_trait.specs.declared.event.CrewEvent.TheVariants.{Started, Ended}
+use Rattle.std.specs.Prelude.{◌≡◌, ℕ, ◌-◌, List, length}
 use Rattle.crew_trait.specs.Events.{Account, replies_in}
-use Rattle.crew_jobs.specs.declared.job.Job.{Job}
 use Rattle.meaning.specs.Play.{all_jobs}
-use Rattle.proberun.specs.Agreeing.{Agree}
+use Rattle.proberun.specs.Agreeing.{Agree, SameJobs}
 use Rattle.ac_tree.specs.Script.{Script}
 use Rattle.engine.specs.Configured.{IsMeant, artifacts}
 use Rattle.engine_frame.specs.declared.starting.Start.{Start}
 use Rattle.engine_frame.specs.declared.report.Report.{Report}
-
--- Of the starts after the first `base`, the n-th one was taken, and has this job. (own)
-abbrev pub HasStart : ℕ → Job → ℕ → List CrewEvent → Type 0
-HasStart n job base [] = ⊥
-HasStart n job base (Started slot its number ∷ events) = ((number ≡ base + n) × (its ≡ job)) ⊎ HasStart n job base events
-HasStart n job base (Ended slot reply number ∷ events) = HasStart n job base events
-
--- Starts of one number have the same job, if both were taken. (own)
-abbrev pub SameJobs : ℕ → List CrewEvent → ℕ → List CrewEvent → Type 0
-SameJobs base events other_base other_events =
-    (n : ℕ) (job other : Job) → HasStart n job base events → HasStart n other other_base other_events → job ≡ other
 
 -- Two runs of one source from one opening, whose n-th replies are the same for every n that both have, ask for the same groups of
 -- jobs, have the same report but for how much was handed over, and hand over the same, whatever their windows and the orders in

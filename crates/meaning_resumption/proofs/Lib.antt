@@ -16,6 +16,7 @@ mod Shares
 mod EachShare
 mod OfTests
 mod TheirJobs
+mod Renamed
 mod Unasked
 mod Counter
 mod Example

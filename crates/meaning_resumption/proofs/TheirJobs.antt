@@ -1,5 +1,5 @@
 -- Each share has the jobs of its own test.
-use Rattle.std.proofs.Common.{◌≡◌, ℕ, suc, List, [], ◌∷◌, ◌++◌, true, false, cond, Option, Some, None, refl, sym, ap, ◌∙◌, subst, append_assoc}
+use Rattle.std.proofs.Common.{◌≡◌, ℕ, suc, List, [], ◌∷◌, ◌++◌, true, false, cond, Option, Some, None, inl, inr, refl, sym, ap, ◌∙◌, subst, append_assoc}
 use Rattle.std.specs.Prelude.{is_some}
 use Rattle.std.proofs.lemmas.List.{append-nil}
 use Rattle.crew_jobs.specs.declared.job.Job.{Job}
@@ -19,6 +19,7 @@ use Rattle.ac_tree.specs.declared.statement.Question.TheVariants.{Given, Tries, 
 use Rattle.ac_tree.specs.declared.tree.Subject.{Subject}
 use Rattle.ac_tree.specs.declared.tree.Subject.TheVariants as subjects
 use Rattle.ac_tree.specs.Commands.{AssignsAlone, TriesAlone, AreCommands, AreCommandsIn, HasCommands, HasCommandsIn}
+use Rattle.ac_tree.specs.Resumable.{Among}
 use Rattle.ac_tree.specs.Script.{Script, Done, Then, Choice, Check, Cases, No_case, Case}
 use Rattle.ac_tree.specs.TestNames.{entry_name, program_name, search_name}
 use Rattle.ac_tree.specs.Uses.{uses_asked}
@@ -30,38 +31,44 @@ use Rattle.meaning.specs.Meaning.{effect, after_question, found_by, after_subjec
 use Rattle.meaning_laws.specs.Questions.{yes_or_no}
 use Rattle.meaning_laws.proofs.CommandLemmas.{one_round}
 use Rattle.meaning_resumption.specs.Joint.{test_in, checks}
-use Rattle.meaning_resumption.specs.Asked.{Share, jobs_asked, made, use_shares, entry_shares, effect_shares, shares_after, shares_answered, subject_shares, turn_shares, owned, shares, case_shares, shared_jobs, HasItsJobs, of_statement, of_question, of_entry, of_check, of_try, SharesHaveTheirJobs}
+use Rattle.meaning_resumption.specs.Asked.{Share, jobs_asked, made, use_shares, entry_shares, effect_shares, shares_after, shares_answered, subject_shares, turn_shares, owned, shares, case_shares, shared_jobs, Asker, a_statement, a_question, a_check, IsAskedIn, Has, HasWithin, HasItsJobs, of_statement, of_question, of_entry, of_check, of_try, SharesHaveTheirJobs}
 use Rattle.meaning_resumption.proofs.EachShare.{Each, each_both, each_either, each_after, each_answered, Always, always}
 use Rattle.meaning_resumption.proofs.Shares.{shared_owned, asked_ended, asked_until, check_covered, shares_are_jobs}
 
-their_made : (o : Option (List ℕ)) (share : Share) → HasItsJobs share → Each HasItsJobs (made o (share ∷ []))
-their_made None share h = (h, tt)
-their_made (Some value) share h = tt
+their_made : (whole : Script) (o : Option (List ℕ)) (share : Share) → HasItsJobs whole share → Each (HasItsJobs whole) (made o (share ∷ []))
+their_made whole None share h = (h, tt)
+their_made whole (Some value) share h = tt
 
 -- ---- statements
 
-their_entry : (batch : Batch) (place : ℕ) (earlier : List (List ℕ)) (entry : List ℕ) (st : State) (job : Option Job) (tail : List (List ℕ × Option Job)) → job_for batch place earlier entry st ≡ job → Each HasItsJobs (entry_shares batch tail)
-    → Each HasItsJobs (entry_shares batch ((entry, job) ∷ tail))
-their_entry batch place earlier entry st None tail e h = h
-their_entry batch place earlier entry st (Some job) tail e h = (of_entry batch place earlier entry st job e, h)
+their_entry : (whole : Script) (batch : Batch) (entry : List ℕ) (job : Option Job) (tail : List (List ℕ × Option Job))
+    → ((own : Job) → job ≡ Some own → HasItsJobs whole (record { name = Some (entry_name batch.listed entry); jobs = own ∷ [] }))
+    → Each (HasItsJobs whole) (entry_shares batch tail) → Each (HasItsJobs whole) (entry_shares batch ((entry, job) ∷ tail))
+their_entry whole batch entry None tail own h = h
+their_entry whole batch entry (Some job) tail own h = (own job refl, h)
 
-their_entries : (batch : Batch) (entries : List (List ℕ)) (place : ℕ) (earlier : List (List ℕ)) (st : State) → Each HasItsJobs (entry_shares batch (asking batch place earlier entries st))
-their_entries batch [] place earlier st = tt
-their_entries batch (entry ∷ more) place earlier st =
+their_entries : (whole : Script) (d : Declares) (batch : Batch) → Has (a_statement d (effects.Batch batch.listed batch.entries batch.includes)) whole
+    → (entries : List (List ℕ)) → ((entry : List ℕ) → Among entry entries → Among entry batch.entries)
+    → (place : ℕ) (earlier : List (List ℕ)) (st : State) → Each (HasItsJobs whole) (entry_shares batch (asking batch place earlier entries st))
+their_entries whole d batch there [] among place earlier st = tt
+their_entries whole d batch there (entry ∷ more) among place earlier st =
     let seen = entry_name batch.listed entry ∷ earlier in
-    their_entry batch place earlier entry st (job_for batch place earlier entry st) (asking batch (suc place) seen more st) refl (their_entries batch more (suc place) seen st)
+    their_entry whole batch entry (job_for batch place earlier entry st) (asking batch (suc place) seen more st)
+    (λ own is. of_entry whole d batch place earlier entry st own there (among entry (inl refl)) is)
+    (their_entries whole d batch there more (λ other a. among other (inr a)) (suc place) seen st)
 
-their_effect : (d : Declares) (e : Effect) (st : State) (rs : List Reply) → Each HasItsJobs (effect_shares d e st rs)
-their_effect d (effects.Batch listed entries includes) st rs = their_entries (record { listed = listed; entries = entries; includes = includes }) entries 1 [] st
-their_effect d (Search variable program value otherwise) st rs =
+their_effect : (whole : Script) (d : Declares) (e : Effect) → Has (a_statement d e) whole → (st : State) (rs : List Reply) → Each (HasItsJobs whole) (effect_shares d e st rs)
+their_effect whole d (effects.Batch listed entries includes) there st rs =
+    their_entries whole d (record { listed = listed; entries = entries; includes = includes }) there entries (λ entry a. a) 1 [] st
+their_effect whole d (Search variable program value otherwise) there st rs =
     let name = search_name value variable in
-    their_made (value_of st.vars name) _ (of_statement d (Search variable program value otherwise) st rs name refl)
-their_effect d (Searches variable programs otherwise) st rs =
+    their_made whole (value_of st.vars name) _ (of_statement whole d (Search variable program value otherwise) st rs name there refl)
+their_effect whole d (Searches variable programs otherwise) there st rs =
     let name = program_name variable in
-    their_made (value_of st.vars name) _ (of_statement d (Searches variable programs otherwise) st rs name refl)
-their_effect (declares.Variable name) Nothing st rs = tt
-their_effect _ Nothing st rs = tt
-their_effect d _ st rs = tt
+    their_made whole (value_of st.vars name) _ (of_statement whole d (Searches variable programs otherwise) st rs name there refl)
+their_effect whole (declares.Variable name) Nothing there st rs = tt
+their_effect whole _ Nothing there st rs = tt
+their_effect whole d _ there st rs = tt
 
 -- ---- questions
 
@@ -70,33 +77,41 @@ found_jobs kind st rs =
     let run = tested (row_of kind st) st in
     sym (asked_until (ended as_is run) _ rs (λ now. tt) ∙ asked_ended as_is run rs)
 
-their_kind : (q : Question) (kind : TestKind) (st : State) (rs : List Reply) → test_in q ≡ Some kind → Each HasItsJobs (made (value_of st.vars (name_of kind)) (record { name = Some (name_of kind); jobs = jobs_asked (found_by as_is kind st yes_or_no) rs } ∷ []))
-their_kind q kind st rs e =
-    their_made (value_of st.vars (name_of kind)) _ (subst (λ l. HasItsJobs (record { name = Some (name_of kind); jobs = l })) (found_jobs kind st rs) (of_question q kind st rs e))
+their_kind : (whole : Script) (q : Question) (kind : TestKind) → Has (a_question q) whole → (st : State) (rs : List Reply) → test_in q ≡ Some kind
+    → Each (HasItsJobs whole) (made (value_of st.vars (name_of kind)) (record { name = Some (name_of kind); jobs = jobs_asked (found_by as_is kind st yes_or_no) rs } ∷ []))
+their_kind whole q kind there st rs e =
+    their_made whole (value_of st.vars (name_of kind)) _
+    (subst (λ l. HasItsJobs whole (record { name = Some (name_of kind); jobs = l })) (found_jobs kind st rs) (of_question whole q kind st rs there e))
 
-their_question : (q : Question) (st : State) (rs : List Reply) → Each HasItsJobs (use_shares (uses_asked q) st (after_question as_is q st yes_or_no) rs)
-their_question (Given kind variable) st rs = tt
-their_question (Tries kind program) st rs = (of_try kind program st rs, tt)
-their_question (Checks (seeks.ListEntry listed) entry includes) st rs = their_kind (Checks (seeks.ListEntry listed) entry includes) (kind_for (seeks.ListEntry listed) entry includes false) st rs refl
-their_question (Checks seeks.«Type» entry includes) st rs = their_kind (Checks seeks.«Type» entry includes) (kind_for seeks.«Type» entry includes false) st rs refl
-their_question (ChecksEach sought [] includes) st rs = tt
-their_question (ChecksEach (seeks.ListEntry listed) (entry ∷ more) includes) st rs = their_kind (ChecksEach (seeks.ListEntry listed) (entry ∷ more) includes) (kind_for (seeks.ListEntry listed) entry includes true) st rs refl
-their_question (ChecksEach seeks.«Type» (entry ∷ more) includes) st rs = their_kind (ChecksEach seeks.«Type» (entry ∷ more) includes) (kind_for seeks.«Type» entry includes true) st rs refl
-their_question (questions.Library library function others adds) st rs = their_kind (questions.Library library function others adds) (Library library function others adds) st rs refl
-their_question (questions.Libraries function libraries others) st rs = their_kind (questions.Libraries function libraries others) (Libraries function libraries others) st rs refl
+their_question : (whole : Script) (q : Question) → Has (a_question q) whole → (st : State) (rs : List Reply)
+    → Each (HasItsJobs whole) (use_shares (uses_asked q) st (after_question as_is q st yes_or_no) rs)
+their_question whole (Given kind variable) there st rs = tt
+their_question whole (Tries kind program) there st rs = (of_try whole kind program st rs there, tt)
+their_question whole (Checks (seeks.ListEntry listed) entry includes) there st rs = their_kind whole (Checks (seeks.ListEntry listed) entry includes) (kind_for (seeks.ListEntry listed) entry includes false) there st rs refl
+their_question whole (Checks seeks.«Type» entry includes) there st rs = their_kind whole (Checks seeks.«Type» entry includes) (kind_for seeks.«Type» entry includes false) there st rs refl
+their_question whole (ChecksEach sought [] includes) there st rs = tt
+their_question whole (ChecksEach (seeks.ListEntry listed) (entry ∷ more) includes) there st rs = their_kind whole (ChecksEach (seeks.ListEntry listed) (entry ∷ more) includes) (kind_for (seeks.ListEntry listed) entry includes true) there st rs refl
+their_question whole (ChecksEach seeks.«Type» (entry ∷ more) includes) there st rs = their_kind whole (ChecksEach seeks.«Type» (entry ∷ more) includes) (kind_for seeks.«Type» entry includes true) there st rs refl
+their_question whole (questions.Library library function others adds) there st rs = their_kind whole (questions.Library library function others adds) (Library library function others adds) there st rs refl
+their_question whole (questions.Libraries function libraries others) there st rs = their_kind whole (questions.Libraries function libraries others) (Libraries function libraries others) there st rs refl
 
-their_subject : (r : Subject) (st : State) (rs : List Reply) (rest : Scope → State → List Reply → List Share) → ((c : Scope) (now : State) (left : List Reply) → Each HasItsJobs (rest c now left)) → Each HasItsJobs (subject_shares r st rs rest)
-their_subject subjects.Nothing st rs rest h = h no_choice st rs
-their_subject (subjects.Word word) st rs rest h = h (about (word_value word st.vars)) st rs
-their_subject (subjects.Asked q) st rs rest h =
+their_subject : (whole : Script) (r : Subject) → ((q : Question) → r ≡ subjects.Asked q → Has (a_question q) whole) → (st : State) (rs : List Reply) (rest : Scope → State → List Reply → List Share)
+    → ((c : Scope) (now : State) (left : List Reply) → Each (HasItsJobs whole) (rest c now left)) → Each (HasItsJobs whole) (subject_shares r st rs rest)
+their_subject whole subjects.Nothing there st rs rest h = h no_choice st rs
+their_subject whole (subjects.Word word) there st rs rest h = h (about (word_value word st.vars)) st rs
+their_subject whole (subjects.Asked q) there st rs rest h =
     let run = after_question as_is q st yes_or_no in
-    each_both HasItsJobs (use_shares (uses_asked q) st run rs) (shares_answered run rs rest) (their_question q st rs) (each_answered HasItsJobs Always run rs rest (always run) (λ c now left k. h c now left))
+    each_both (HasItsJobs whole) (use_shares (uses_asked q) st run rs) (shares_answered run rs rest) (their_question whole q (there q refl) st rs)
+    (each_answered (HasItsJobs whole) Always run rs rest (always run) (λ c now left k. h c now left))
 
-their_turns : (rounds : List Subject) (go : Scope → State → Run) (inside : Scope → State → List Reply → List Share) → ((c : Scope) (now : State) (left : List Reply) → Each HasItsJobs (inside c now left)) → (st : State) (rs : List Reply) → Each HasItsJobs (turn_shares rounds go inside st rs)
-their_turns [] go inside h st rs = tt
-their_turns (r ∷ more) go inside h st rs =
-    each_both HasItsJobs (subject_shares r st rs inside) _ (their_subject r st rs inside h)
-    (each_after HasItsJobs Always (after_subject as_is r st go) rs (turn_shares more go inside) (always (after_subject as_is r st go)) (λ now left k. their_turns more go inside h now left))
+their_turns : (whole : Script) (rounds : List Subject) → ((q : Question) → IsAskedIn q rounds → Has (a_question q) whole)
+    → (go : Scope → State → Run) (inside : Scope → State → List Reply → List Share) → ((c : Scope) (now : State) (left : List Reply) → Each (HasItsJobs whole) (inside c now left))
+    → (st : State) (rs : List Reply) → Each (HasItsJobs whole) (turn_shares rounds go inside st rs)
+their_turns whole [] there go inside h st rs = tt
+their_turns whole (r ∷ more) there go inside h st rs =
+    each_both (HasItsJobs whole) (subject_shares r st rs inside) _ (their_subject whole r (λ q e. there q (inl e)) st rs inside h)
+    (each_after (HasItsJobs whole) Always (after_subject as_is r st go) rs (turn_shares more go inside) (always (after_subject as_is r st go))
+    (λ now left k. their_turns whole more (λ q a. there q (inr a)) go inside h now left))
 
 -- ---- commands ask for nothing in tests
 
@@ -148,10 +163,10 @@ one_share name jobs (share ∷ l) h =
     ∙ one_share name (jobs ++ share.jobs) l h.1
     ∙ ap (λ own. record { name = Some name; jobs = own } ∷ []) (append_assoc jobs share.jobs (shared_jobs l))
 
-their_check : (message : List Part) (name : List ℕ) (commands : Script) (st : State) (rs : List Reply) → AreCommands name commands
-    → Each HasItsJobs (made (value_of st.vars name) (owned name [] (shares commands (checking (word_value message st.vars) st) rs)))
-their_check message name commands st rs a =
-    subst (λ l. Each HasItsJobs (made (value_of st.vars name) l)) (sym (one_share name [] inner (unnamed name commands begins rs a))) (by_value (value_of st.vars name) refl)
+their_check : (whole : Script) (message : List Part) (name : List ℕ) (commands : Script) (st : State) (rs : List Reply) → AreCommands name commands → Has (a_check message name commands) whole
+    → Each (HasItsJobs whole) (made (value_of st.vars name) (owned name [] (shares commands (checking (word_value message st.vars) st) rs)))
+their_check whole message name commands st rs a there =
+    subst (λ l. Each (HasItsJobs whole) (made (value_of st.vars name) l)) (sym (one_share name [] inner (unnamed name commands begins rs a))) (by_value (value_of st.vars name) refl)
   where
     begins : State
     begins = checking (word_value message st.vars) st
@@ -164,31 +179,39 @@ their_check message name commands st rs a =
         sym (check_covered message name (meaning commands) inner st rs (shares_are_jobs commands begins rs))
         ∙ ap (λ o. shared_jobs (made o (owned name [] inner))) e ∙ shared_owned name [] inner
 
-    by_value : (o : Option (List ℕ)) → value_of st.vars name ≡ o → Each HasItsJobs (made o (record { name = Some name; jobs = shared_jobs inner } ∷ []))
-    by_value None e = (subst (λ l. HasItsJobs (record { name = Some name; jobs = l })) (its_jobs e) (of_check message name commands st rs), tt)
+    by_value : (o : Option (List ℕ)) → value_of st.vars name ≡ o → Each (HasItsJobs whole) (made o (record { name = Some name; jobs = shared_jobs inner } ∷ []))
+    by_value None e = (subst (λ l. HasItsJobs whole (record { name = Some name; jobs = l })) (its_jobs e) (of_check whole message name commands st rs there), tt)
     by_value (Some value) e = tt
 
 -- ---- all statements
 
 mutual
-  unfolding shares case_shares
+  unfolding shares case_shares Has HasWithin
 
-  all_their : (script : Script) (st : State) (rs : List Reply) → HasCommands script → Each HasItsJobs (shares script st rs)
-  all_their Done st rs h = tt
-  all_their (Then d e rest) st rs h =
-      each_both HasItsJobs (effect_shares d e st rs) _ (their_effect d e st rs) (each_after HasItsJobs Always (effect e st) rs (shares rest) (always (effect e st)) (λ now left k. all_their rest now left h))
-  all_their (Choice d subject cases rest) st rs h =
-      each_both HasItsJobs (turn_shares (rounds_of subject) (chosen cases) (case_shares cases) st rs) _
-      (their_turns (rounds_of subject) (chosen cases) (case_shares cases) (λ c now left. cases_their cases c now left h.0) st rs)
-      (each_after HasItsJobs Always (in_turn (rounds_of subject) (chosen cases) st) rs (shares rest) (always (in_turn (rounds_of subject) (chosen cases) st)) (λ now left k. all_their rest now left h.1))
-  all_their (Check message name commands rest) st rs h =
-      each_both HasItsJobs (made (value_of st.vars name) (owned name [] (shares commands (checking (word_value message st.vars) st) rs))) _ (their_check message name commands st rs h.1.0)
-      (each_after HasItsJobs Always (checks message name (meaning commands) st) rs (shares rest) (always (checks message name (meaning commands) st)) (λ now left k. all_their rest now left h.1.1))
+  -- Of a part of a script, each of whose askers the whole script has.
+  all_their : (whole script : Script) → ((asker : Asker) → Has asker script → Has asker whole) → (st : State) (rs : List Reply) → HasCommands script → Each (HasItsJobs whole) (shares script st rs)
+  all_their whole Done there st rs h = tt
+  all_their whole (Then d e rest) there st rs h =
+      each_both (HasItsJobs whole) (effect_shares d e st rs) _ (their_effect whole d e (there (a_statement d e) (inl refl)) st rs)
+      (each_after (HasItsJobs whole) Always (effect e st) rs (shares rest) (always (effect e st)) (λ now left k. all_their whole rest (λ asker a. there asker (inr a)) now left h))
+  all_their whole (Choice d subject cases rest) there st rs h =
+      each_both (HasItsJobs whole) (turn_shares (rounds_of subject) (chosen cases) (case_shares cases) st rs) _
+      (their_turns whole (rounds_of subject) (λ q a. there (a_question q) (inl (q, (refl, a)))) (chosen cases) (case_shares cases)
+      (λ c now left. cases_their whole cases (λ asker a. there asker (inr (inl a))) c now left h.0) st rs)
+      (each_after (HasItsJobs whole) Always (in_turn (rounds_of subject) (chosen cases) st) rs (shares rest) (always (in_turn (rounds_of subject) (chosen cases) st))
+      (λ now left k. all_their whole rest (λ asker a. there asker (inr (inr a))) now left h.1))
+  all_their whole (Check message name commands rest) there st rs h =
+      each_both (HasItsJobs whole) (made (value_of st.vars name) (owned name [] (shares commands (checking (word_value message st.vars) st) rs))) _
+      (their_check whole message name commands st rs h.1.0 (there (a_check message name commands) (inl refl)))
+      (each_after (HasItsJobs whole) Always (checks message name (meaning commands) st) rs (shares rest) (always (checks message name (meaning commands) st))
+      (λ now left k. all_their whole rest (λ asker a. there asker (inr a)) now left h.1.1))
 
-  cases_their : (cases : Cases) (scope : Scope) (st : State) (rs : List Reply) → HasCommandsIn cases → Each HasItsJobs (case_shares cases scope st rs)
-  cases_their No_case scope st rs h = tt
-  cases_their (Case when body more) scope st rs h =
-      each_either HasItsJobs (is_taken when scope st.vars) (shares body st rs) (case_shares more scope st rs) (all_their body st rs h.0) (cases_their more scope st rs h.1)
+  cases_their : (whole : Script) (cases : Cases) → ((asker : Asker) → HasWithin asker cases → Has asker whole) → (scope : Scope) (st : State) (rs : List Reply) → HasCommandsIn cases
+      → Each (HasItsJobs whole) (case_shares cases scope st rs)
+  cases_their whole No_case there scope st rs h = tt
+  cases_their whole (Case when body more) there scope st rs h =
+      each_either (HasItsJobs whole) (is_taken when scope st.vars) (shares body st rs) (case_shares more scope st rs)
+      (all_their whole body (λ asker a. there asker (inl a)) st rs h.0) (cases_their whole more (λ asker a. there asker (inr a)) scope st rs h.1)
 
 pub shares_have_their_jobs : SharesHaveTheirJobs
-shares_have_their_jobs script st rs h = all_their script st rs h
+shares_have_their_jobs script st rs h = all_their script script (λ asker a. a) st rs h

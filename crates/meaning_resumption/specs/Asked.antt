@@ -1,5 +1,5 @@
 -- Which jobs a run asks for, and in which tests. All of this is own.
-use Rattle.std.specs.Prelude.{◌≡◌, ℕ, List, [], ◌∷◌, ◌++◌, true, false, Option, Some, None, is_some, option_to_list, flat_map, length, take, drop, if◌then◌else◌}
+use Rattle.std.specs.Prelude.{◌≡◌, ℕ, List, [], ◌∷◌, ◌++◌, true, false, Option, Some, None, is_some, option_to_list, flat_map, length, take, drop, if◌then◌else◌, ◌⊎◌}
 use Rattle.std.specs.List.{AllByRecursion}
 use Rattle.cachefile.specs.Text.{saved_value}
 use Rattle.crew_jobs.specs.declared.job.Job.{Job}
@@ -143,23 +143,54 @@ SharesAreJobs = (script : Script) (st : State) (replies : List Reply) → shared
 abbrev pub SharesArePlayed : Type 0
 SharesArePlayed = (script : Script) (st : State) (replies : List Reply) → shared_jobs (shares script st replies) ≡ all_jobs (played script st replies).groups
 
+-- What asks for jobs: a statement, a question, or AC_CACHE_CHECK with its commands.
+pub data Asker : Type 0 where
+  a_statement : (declares : Declares) (e : Effect) → Asker
+  a_question : (q : Question) → Asker
+  a_check : (message : List Part) (name : List ℕ) (commands : Script) → Asker
+
+-- One of the rounds of a choice asks this.
+abbrev pub IsAskedIn : Question → List Subject → Type 0
+IsAskedIn q [] = ⊥
+IsAskedIn q (round ∷ more) = (round ≡ Asked q) ⊎ IsAskedIn q more
+
+unfoldable mutual
+  -- A script has this: as its first statement, in a round of a choice, in one of the cases, or after.
+  pub Has : Asker → Script → Type 0
+  Has asker Done = ⊥
+  Has asker (Then declares e rest) = (asker ≡ a_statement declares e) ⊎ Has asker rest
+  Has asker (Choice declares subject cases rest) =
+      ((q : Question) × ((asker ≡ a_question q) × IsAskedIn q (rounds_of subject))) ⊎ (HasWithin asker cases ⊎ Has asker rest)
+  Has asker (Check message name commands rest) = (asker ≡ a_check message name commands) ⊎ Has asker rest
+
+  -- One of the cases has it.
+  pub HasWithin : Asker → Cases → Type 0
+  HasWithin asker No_case = ⊥
+  HasWithin asker (Case when body more) = Has asker body ⊎ HasWithin asker more
+
 -- A share has the jobs that the meaning's own test of its name asks for: that of a statement, of a question, of an entry, or
--- AC_CACHE_CHECK. One without a name has those of a program that is tried.
-pub data HasItsJobs : Share → Type 0 where
-  of_statement : (declares : Declares) (e : Effect) (st : State) (replies : List Reply) (name : List ℕ) → (uses_of declares e).tests ≡ name ∷ []
-      → HasItsJobs (record { name = Some name; jobs = jobs_asked (effect e st) replies })
-  of_question : (q : Question) (kind : TestKind) (st : State) (replies : List Reply) → test_in q ≡ Some kind
-      → HasItsJobs (record { name = Some (name_of kind); jobs = jobs_asked (tested (row_of kind st) st) replies })
-  of_entry : (batch : Batch) (place : ℕ) (earlier : List (List ℕ)) (entry : List ℕ) (st : State) (job : Job) → job_for batch place earlier entry st ≡ Some job
-      → HasItsJobs (record { name = Some (entry_name batch.listed entry); jobs = job ∷ [] })
-  of_check : (message : List Part) (name : List ℕ) (commands : Script) (st : State) (replies : List Reply)
-      → HasItsJobs (record { name = Some name; jobs = jobs_asked (checks message name (meaning commands) st) replies })
-  of_try : (kind : Try) (program : Program) (st : State) (replies : List Reply)
-      → HasItsJobs (record { name = None; jobs = jobs_asked (after_question as_is (Tries kind program) st yes_or_no) replies })
+-- AC_CACHE_CHECK. One without a name has those of a program that is tried. The script has what asks.
+pub data HasItsJobs : Script → Share → Type 0 where
+  of_statement : (script : Script) (declares : Declares) (e : Effect) (st : State) (replies : List Reply) (name : List ℕ)
+      → Has (a_statement declares e) script → (uses_of declares e).tests ≡ name ∷ []
+      → HasItsJobs script (record { name = Some name; jobs = jobs_asked (effect e st) replies })
+  of_question : (script : Script) (q : Question) (kind : TestKind) (st : State) (replies : List Reply)
+      → Has (a_question q) script → test_in q ≡ Some kind
+      → HasItsJobs script (record { name = Some (name_of kind); jobs = jobs_asked (tested (row_of kind st) st) replies })
+  of_entry : (script : Script) (declares : Declares) (batch : Batch) (place : ℕ) (earlier : List (List ℕ)) (entry : List ℕ) (st : State) (job : Job)
+      → Has (a_statement declares (effects.Batch batch.listed batch.entries batch.includes)) script → Among entry batch.entries
+      → job_for batch place earlier entry st ≡ Some job
+      → HasItsJobs script (record { name = Some (entry_name batch.listed entry); jobs = job ∷ [] })
+  of_check : (script : Script) (message : List Part) (name : List ℕ) (commands : Script) (st : State) (replies : List Reply)
+      → Has (a_check message name commands) script
+      → HasItsJobs script (record { name = Some name; jobs = jobs_asked (checks message name (meaning commands) st) replies })
+  of_try : (script : Script) (kind : Try) (program : Program) (st : State) (replies : List Reply)
+      → Has (a_question (Tries kind program)) script
+      → HasItsJobs script (record { name = None; jobs = jobs_asked (after_question as_is (Tries kind program) st yes_or_no) replies })
 
 -- So has each, if the source has the form that the parser gives it.
 abbrev pub SharesHaveTheirJobs : Type 0
-SharesHaveTheirJobs = (script : Script) (st : State) (replies : List Reply) → HasCommands script → AllByRecursion HasItsJobs (shares script st replies)
+SharesHaveTheirJobs = (script : Script) (st : State) (replies : List Reply) → HasCommands script → AllByRecursion (HasItsJobs script) (shares script st replies)
 
 -- A share is of a test.
 abbrev pub IsOfTest : Share → Type 0

@@ -1,14 +1,18 @@
 -- A run reads no reply past those to the jobs that it asks for.
-use Rattle.std.proofs.Common.{◌≡◌, ℕ, zero, suc, ◌≤◌, List, [], ◌∷◌, length, take, drop, Some, refl, sym, ap, ◌∙◌, subst, arith, length-append}
+use Rattle.std.proofs.Common.{◌≡◌, ℕ, zero, suc, ◌+◌, ◌-◌, ◌≤◌, List, [], ◌∷◌, length, take, drop, Some, refl, sym, ap, ◌∙◌, subst, ⊎_elim, arith, length-append}
+use Rattle.std.specs.Prelude.{slice_get}
 use Rattle.std.proofs.lemmas.List.{length-drop}
 use Rattle.crew_jobs.specs.declared.job.Job.{Job}
+use Rattle.crew_trait.specs.declared.event.CrewEvent.{CrewEvent}
+use Rattle.crew_trait.specs.declared.event.CrewEvent.TheVariants.{Started, Ended}
 use Rattle.crew_trait.specs.declared.reply.Reply.{Reply}
 use Rattle.crew_trait.specs.Events.{replies_in}
 use Rattle.meaning.specs.State.{Run, Ends, Asks}
 use Rattle.meaning.specs.Play.{Played, play, after, all_jobs, first_refused}
 use Rattle.run_machine.specs.declared.machine.RunEnd.{RunEnd}
 use Rattle.proberun.specs.Ran.{outcome_from, state_of}
-use Rattle.proberun.specs.Agreeing.{Agree, RunsAgree}
+use Rattle.proberun.specs.Starts.{StartsAre}
+use Rattle.proberun.specs.Agreeing.{Agree, HasStart, RunsAgree}
 use Rattle.proberun.proofs.RunLemmas.{length-replies}
 use Rattle.proberun.proofs.WholeLemmas.{end_of}
 
@@ -63,6 +67,23 @@ same_end end other o s =
     let b : end_of other.outcome (state_of end) ≡ end_of other.outcome (state_of other) = ap (end_of other.outcome) s in
     a ∙ b
 
+-- The n-th start has the n-th job.
+start_is : (jobs : List Job) (n base : ℕ) (job : Job) (events : List CrewEvent) → StartsAre jobs base events → HasStart n job base events → slice_get jobs (n - 1) ≡ Some job
+start_is jobs n base job [] all h = absurd h
+start_is jobs n base job (Started slot its number ∷ events) all h =
+    ⊎_elim
+    (λ k. let at : n - 1 ≡ number - (base + 1) = omega (arith, k.0) in ap (slice_get jobs) at ∙ all.1 ∙ ap Some k.1)
+    (λ k. start_is jobs n base job events all.2 k)
+    h
+start_is jobs n base job (Ended slot reply number ∷ events) all h = start_is jobs n base job events all h
+
+one_job : (a b : Job) → Some a ≡ Some b → a ≡ b
+one_job a b e = cc
+
+-- As many starts as jobs.
+as_many : (count other before now other_before other_now : ℕ) → count ≡ other → now ≡ before + count → other_now ≡ other_before + other → now - before ≡ other_now - other_before
+as_many count other before now other_before other_now same one two = omega (arith, same, one, two)
+
 pub runs_agree : RunsAgree
 runs_agree run window other_window before now other_before other_now end other_end one other g =
     let xs = replies_in before.attempts (length (all_jobs one.groups)) one.since in
@@ -77,5 +98,11 @@ runs_agree run window other_window before now other_before other_now end other_e
     ∙ sym (length-replies other_before.attempts (length (all_jobs other.groups)) other.since) in
     let replies : xs ≡ ys = agree_all xs ys count g in
     let outcomes : Some end.outcome ≡ Some other_end.outcome =
-    sym one.outcome ∙ ap (λ h. outcome_from h (first_refused xs)) how ∙ ap (λ l. outcome_from other.how (first_refused l)) replies ∙ other.outcome in
-    (groups, same_end end other_end (cc) (ap (λ p. p.state) same))
+    sym one.outcome ∙ ap (λ h. outcome_from h (first_refused xs)) how ∙ ap (λ l. outcome_from other.how (first_refused l)) replies ∙ other.outcome in (
+      groups,
+      same_end end other_end (cc) (ap (λ p. p.state) same),
+      as_many (length (all_jobs one.groups)) (length (all_jobs other.groups)) before.attempts now.attempts other_before.attempts other_now.attempts (ap (λ g. length (all_jobs g)) groups) one.attempts other.attempts,
+      λ n job its h k. one_job job its
+          (sym (start_is (all_jobs one.groups) n before.attempts job one.since one.starts h)
+          ∙ ap (λ g. slice_get (all_jobs g) (n - 1)) groups ∙ start_is (all_jobs other.groups) n other_before.attempts its other.since other.starts k),
+    )

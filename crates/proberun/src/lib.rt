@@ -10,8 +10,8 @@
 //!
 //! Read `specs/Ran` (a run over a crew) with `specs/Starts` (the events of one), then `running`,
 //! then `serving` with `specs/Serving` (the jobs of one group, in slots). `specs/Progress` says how
-//! far a run is between two groups of jobs. `slots` and `queue` are small, and `agreeing` has a
-//! law.
+//! far a run is between two groups of jobs. `slots` and `queue` are small, `agreeing` has a law of
+//! two runs, and `laws` has those of runs that are cut and started again.
 //!
 //! What a run leaves is the meaning of the statements under the replies of the crew: the plan's
 //! walk is that meaning (`plan::compile`), a machine follows that walk from its beginning to its
@@ -22,6 +22,7 @@
 #![tactic(auto)]
 
 mod agreeing;
+pub mod laws;
 mod queue;
 mod running;
 mod serving;
