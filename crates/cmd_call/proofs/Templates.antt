@@ -47,8 +47,8 @@ read_next files srcdir before output ts new read a r is =
 -- ---- with the names that were looked for
 
 by_name : {P : Type 0} (same : Bool) (v : List ℕ) (rest : Option (List ℕ)) → (same ≡ true → P) → (is_some rest ≡ true → P) → is_some (cond same (Some v) rest) ≡ true → P
-by_name true v rest yes no found = yes refl
-by_name false v rest yes no found = no found
+by_name true v rest if_same if_kept found = if_same refl
+by_name false v rest if_same if_kept found = if_kept found
 
 -- A template that was just looked for is there if it was read.
 looked_now : (files : Option Known) (srcdir name : List ℕ) (ts : List (List ℕ × List ℕ)) (read : Option (List ℕ)) → ReadsTemplate files srcdir name read → HasTemplate files srcdir (ts ++ entry_of name read) name
@@ -104,17 +104,18 @@ pub whole : (files : Option Known) (srcdir : List ℕ) (before outputs : List Ou
     → AreLookedFor files srcdir (before ++ take i outputs) names ts → AreLookedFor files srcdir (before ++ outputs) names ts
 whole files srcdir before outputs i names ts past a = subst (λ l. AreLookedFor files srcdir (before ++ l) names ts) (take_all i outputs past) a
 
-no_names : is_some {A = List ℕ} None ≡ true → ⊥
-no_names e = cc
+no_names : (o : Option (List ℕ)) → o ≡ None → is_some o ≡ true → ⊥
+no_names None is found = cc
+no_names (Some v) is found = cc
 
 -- Two lists of outputs, one after the other, from none.
 pub both : (files : Option Known) (srcdir : List ℕ) (first second : List Output) (none names later empty mid ts : List (List ℕ × List ℕ)) → none ≡ [] → empty ≡ []
     → ((before : List Output) → AreLookedFor files srcdir before none empty → AreLookedFor files srcdir (before ++ first) names mid)
     → ((before : List Output) → AreLookedFor files srcdir before names mid → AreLookedFor files srcdir (before ++ second) later ts)
     → AreTemplates files srcdir (first ++ second) ts
-both files srcdir first second none names later empty mid ts no is one two =
+both files srcdir first second none names later empty mid ts nameless is one two =
     let start : AreLookedFor files srcdir [] none empty = record {
       read = subst (λ l. AreTemplates files srcdir [] l) (sym is) (none_yet files srcdir);
-      looked = λ q found. absurd (no_names (sym (ap is_some (ap (λ l. value_of l q) no ∙ value_of-[] q)) ∙ found));
+      looked = λ q found. absurd (no_names (value_of none q) (ap (λ l. value_of l q) nameless ∙ value_of-[] q) found);
     } in
     (two first (one [] start)).read
