@@ -1,7 +1,7 @@
 #!/usr/bin/env python3
 """Runs the program on mutated inputs, and reports each run that does not end as docs/running.md says.
 
-    tools/fuzz.py PROGRAM [--from N] [--count N] [--seconds N] [--jobs N] [--memory MB] [--slowest SECONDS]
+    tools/fuzz.py PROGRAM [--from N] [--count N] [--seconds N] [--jobs N] [--memory MB] [--slowest SECONDS] [--other PROGRAM]
     tools/fuzz.py PROGRAM --replay N        runs input N again, and shows what it is and what comes of it
     tools/fuzz.py PROGRAM --minimize N      makes input N shorter while what is wrong stays the same, and shows it
 
@@ -12,7 +12,8 @@ words of a command line.
 A run is wrong if a signal ends it, its exit status or what it prints on standard error is not as documented, it takes over a
 second of processor time or over 512 MB, it leaves a child or a file that it should not leave, or it changes anything outside the
 directory in which it is started. Some runs of `configure` are made a second time with another window, and some are followed by
-`status`: then the outputs have to be the same.
+`status`: then the outputs have to be the same. With --other that program is run on the same inputs, and has to do the same: its
+exit status, what it prints, and its files but the log. Its children find the first program in PATH too.
 
 Each process of this script has a directory of its own with files around it that have to stay as they are. The programs in PATH
 are only sh and acrun. If root starts it, it runs as the user nobody. The exit status is 1 if a run is wrong.
@@ -369,7 +370,7 @@ def configure_input(rng, corpus):
 
 PARSE = rb"parse (?:(?:1\.[1-4]|[2-57]|6\.[123]|1[0-4]) at \d+|1\.[56]|[89])|plan 1"
 FAULTS = {
-    "filter": PARSE + rb"|precious [123] at \d+|template [^\n]+|usage",
+    "filter": PARSE + rb"|template [^\n]+|usage",
     "configure": PARSE + rb"|option [1-5] at \d+|cache [12] at \d+|cache 3|precious [123] [^\n]+|template [^\n]+|put \d+"
                  rb"|file (?s:.*)configure\.ac|file config\.log",
     "status": rb"record (?:[14]|[25] at \d+|3)|tag \d+|template [^\n]+|put \d+|file config\.status|usage",
@@ -398,8 +399,9 @@ class Wrong(Exception):
 class Room:
     """A directory to run in, with files around it, and the streams of the runs."""
 
-    def __init__(self, program, bin_directory, most_seconds):
-        self.program, self.most_seconds = program, most_seconds
+    def __init__(self, bin_directory, most_seconds):
+        self.program, self.most_seconds = os.path.join(bin_directory, "acrun"), most_seconds
+        self.other = os.path.join(bin_directory, "other") if os.path.exists(os.path.join(bin_directory, "other")) else None
         self.outer = pathlib.Path(tempfile.mkdtemp(prefix="fuzz-", dir="/dev/shm" if os.path.isdir("/dev/shm") else None))
         self.inner = self.outer / "run"
         for name, text in AROUND.items():
@@ -455,15 +457,15 @@ class Room:
         found = self.tree()
         self.known = {name: found[name] for name in FIXED}
 
-    def run(self, words, given):
-        """Runs the program, and returns its status, output, errors, processor seconds and peak memory in MB."""
+    def run(self, words, given, program=None):
+        """Runs the program, or another one, and returns its status, output, errors, processor seconds and peak memory in MB."""
         for stream in (self.input, self.output, self.errors):
             os.ftruncate(stream, 0)
             os.lseek(stream, 0, os.SEEK_SET)
         os.write(self.input, given)
         os.lseek(self.input, 0, os.SEEK_SET)
         actions = [(os.POSIX_SPAWN_DUP2, stream, to) for to, stream in enumerate((self.input, self.output, self.errors))]
-        child = os.posix_spawn(self.program, [b"acrun"] + words, self.env, file_actions=actions, setpgroup=0)
+        child = os.posix_spawn(program or self.program, [b"acrun"] + words, self.env, file_actions=actions, setpgroup=0)
         late = []
         signal.signal(signal.SIGALRM, lambda *_: (late.append(child), os.killpg(child, signal.SIGKILL)))
         signal.setitimer(signal.ITIMER_REAL, LONGEST_WAIT)
@@ -603,7 +605,7 @@ def words_of(it, window):
 
 def judge(room, it):
     """Runs an input. Returns its exit status, and raises Wrong if anything is not as documented."""
-    if it.files or it.kind != "filter":
+    if it.files or it.kind != "filter" or room.other:
         prepare(room, it)
     before = room.tree()
     status, output, errors, seconds, megabytes = room.run(words_of(it, it.window), it.given)
@@ -613,9 +615,25 @@ def judge(room, it):
         raise Wrong(f"over {room.most_seconds} seconds")
     if megabytes > MOST_MEGABYTES:
         raise Wrong(f"over {MOST_MEGABYTES} MB")
+    if room.other:
+        judge_other(room, it, status, output, errors)
     if it.again:
         judge_again(room, it, status, output, errors)
     return status
+
+
+def judge_other(room, it, status, output, errors):
+    """Raises Wrong if the other program has another result. Leaves what that one made."""
+    first = outputs(room)
+    found, printed, said = rerun(room, it, room.other)[:3]
+    if found != status:
+        raise Wrong(f"the other program ends with status {found}, and not {status}")
+    if printed != output:
+        raise Wrong("the other program prints something else")
+    if said != errors:
+        raise Wrong("the other program prints something else on standard error")
+    if outputs(room) != first:
+        raise Wrong("the other program makes other files")
 
 
 def judge_again(room, it, status, output, errors):
@@ -652,7 +670,7 @@ def drop_rights(memory):
 def work(arguments, bin_directory, corpus, worker, workers, report):
     """Runs every `workers`th input, and writes lines of counts and of what is wrong."""
     drop_rights(arguments.memory)
-    room = Room(os.path.join(bin_directory, "acrun"), bin_directory, arguments.slowest)
+    room = Room(bin_directory, arguments.slowest)
     counts, done, number, until = {}, 0, arguments.start + worker, time.time() + arguments.seconds
     while time.time() < until and number < arguments.start + arguments.count:
         it = make_input(number, corpus)
@@ -756,14 +774,16 @@ def minimized(room, it):
 def show(arguments, bin_directory, corpus, number):
     """Runs one input again, shows it and what comes of it, and returns 1 if that is wrong."""
     drop_rights(arguments.memory)
-    room = Room(os.path.join(bin_directory, "acrun"), bin_directory, arguments.slowest)
+    room = Room(bin_directory, arguments.slowest)
     it = make_input(number, corpus)
     if arguments.minimize is not None:
         it = minimized(room, it)
     print(it.shown())
     wrong = same_wrong(room, it)
-    status, output, errors, seconds, megabytes = rerun(room, it)
-    print(f"--- status {status}, {seconds:.3f} s, {megabytes:.0f} MB\n--- output\n{output[:2000]!r}\n--- errors\n{errors[:2000]!r}")
+    for program in [room.program] + ([room.other] if room.other else []):
+        status, output, errors, seconds, megabytes = rerun(room, it, program)
+        print(f"--- {os.path.basename(program)}: status {status}, {seconds:.3f} s, {megabytes:.0f} MB\n"
+              f"--- output\n{output[:2000]!r}\n--- errors\n{errors[:2000]!r}")
     print(f"--- {wrong or 'as it should be'}")
     os.chdir("/")
     shutil.rmtree(room.outer)
@@ -771,9 +791,9 @@ def show(arguments, bin_directory, corpus, number):
     return 1 if wrong else 0
 
 
-def rerun(room, it):
+def rerun(room, it, program):
     prepare(room, it)
-    return room.run(words_of(it, it.window), it.given)
+    return room.run(words_of(it, it.window), it.given, program)
 
 
 def main():
@@ -785,14 +805,17 @@ def main():
     parser.add_argument("--jobs", type=int, default=os.cpu_count())
     parser.add_argument("--memory", type=int, default=2048, help="MB that a run may have; 0 sets no limit")
     parser.add_argument("--slowest", type=float, default=1.0, help="processor seconds that a run may take")
+    parser.add_argument("--other", help="a program that has to do the same")
     parser.add_argument("--replay", type=int)
     parser.add_argument("--minimize", type=int)
     arguments = parser.parse_args()
     corpus = Corpus()
     with tempfile.TemporaryDirectory() as bin_directory:
         os.chmod(bin_directory, 0o755)
-        shutil.copy(arguments.program, os.path.join(bin_directory, "acrun"))
-        os.chmod(os.path.join(bin_directory, "acrun"), 0o755)
+        for name, program in (("acrun", arguments.program), ("other", arguments.other)):
+            if program:
+                shutil.copy(program, os.path.join(bin_directory, name))
+                os.chmod(os.path.join(bin_directory, name), 0o755)
         os.symlink(os.path.realpath(shutil.which("sh")), os.path.join(bin_directory, "sh"))
         number = arguments.replay if arguments.replay is not None else arguments.minimize
         if number is not None:

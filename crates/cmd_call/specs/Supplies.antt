@@ -1,7 +1,8 @@
 -- What a run is given besides its source: the texts of its cache and of its templates, as they are
 -- in files.
-use Rattle.std.specs.Prelude.{◌≡◌, ℕ, Bool, List, [], ◌∷◌, ◌++◌, Option, Some, None, Result, Ok, Err, IfSome, All, if◌then◌else◌}
+use Rattle.std.specs.Prelude.{◌≡◌, ℕ, Bool, true, is_some, List, [], ◌∷◌, ◌++◌, Option, Some, None, Result, Ok, Err, IfSome, All, if◌then◌else◌}
 use Rattle.std.specs.List.{Contains}
+use Rattle.deftable.specs.Table.{value_of}
 use Rattle.file_disk.specs.Known.{Known}
 use Rattle.file_texts.specs.Reading.{IsReadLimited, IsReadWhole}
 use Rattle.output_list.specs.declared.output.Output.{Output}
@@ -45,6 +46,11 @@ HasTemplate files srcdir templates name =
 pub record AreTemplates (files : Option Known) (srcdir : List ℕ) (outputs : List Output) (templates : List (List ℕ × List ℕ)) : Type 0 where
   pub sound : All (λ t. ReadsTemplate files srcdir t.0 (Some t.1)) templates
   pub complete : All (λ output. HasTemplate files srcdir templates output.template) outputs
+
+-- The same while they are read: the template of each of these names, which have values here, was looked for. (own)
+pub record AreLookedFor (files : Option Known) (srcdir : List ℕ) (outputs : List Output) (names templates : List (List ℕ × List ℕ)) : Type 0 where
+  pub read : AreTemplates files srcdir outputs templates
+  pub looked : (name : List ℕ) → is_some (value_of names name) ≡ true → HasTemplate files srcdir templates name
 
 -- The outputs whose templates a run needs: its files and headers, or none. (own)
 abbrev pub needed : Bool → Script → List Output

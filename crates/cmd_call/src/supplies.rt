@@ -1,7 +1,7 @@
 //! What a run is given besides its source: the texts of its cache and of its templates.
 
-ghost use Rattle.std.specs.Prelude.{◌≡◌, ℕ, List, [], ◌∷◌, ◌++◌, Option, IfOk, OnOk, option_copied, bytes_eq};
-ghost use Rattle.std.specs.List.{list_any};
+ghost use Rattle.std.specs.Prelude.{◌≡◌, ℕ, List, [], ◌∷◌, ◌++◌, Option, IfOk, OnOk, option_copied, is_some};
+ghost use Rattle.deftable.specs.Table.{value_of};
 ghost use Rattle.file_texts.specs.Held.{GuardsMore, IsUnused};
 ghost use Rattle.cmd_call.specs.Guarded.{AreGuarded, IsGuardedNow, inputs_of, paths_of};
 ghost use Rattle.cmd_call.specs.Supplies as given;
@@ -10,7 +10,7 @@ ghost use Rattle.ac_tree.specs.Script.{script_of};
 
 use crate::printing::LOG;
 use ac_tree::Source;
-use deftable::Bytes;
+use deftable::{Bytes, Vars};
 use file_disk::Disk;
 use file_texts::{FileOutputs, path_in, read_limited, read_text};
 use options::Settings;
@@ -48,34 +48,35 @@ fn add_template<D: Disk>(
     Ok(())
 }
 
-/// Returns whether there is a template of this name.
-fn has_template(templates: &[(Bytes, Bytes)], name: &[u8]) -> bool
-    ensures { result ≡ list_any (λ template. bytes_eq template.0 name.now) templates.now }
+/// Returns whether a name is among these.
+fn has(names: &Vars, name: &[u8]) -> bool
+    ensures { result ≡ is_some (value_of names.now name.now) }
 {
-    templates
-        .iter()
-        .any(|template| template.0.as_slice() == name)
+    names.get(name).is_some()
 }
 
-/// Reads the template of this output, unless it was read before.
+/// Reads the template of this output, unless it was looked for before, and adds its name to those
+/// that were looked for. The value of each of these names is empty.
 fn add_needed<D: Disk>(
     alloc: Global,
     disk: &D,
     srcdir: &[u8],
     output: &Output,
+    names: &mut Vars,
     templates: &mut Vec<(Bytes, Bytes)>,
 ) -> Result<(), AllocError>
     ensures { OnOk result (
         (before : List lists.Output)
-        → given.AreTemplates (D.known disk.now) srcdir.now before templates.old.items
-        → given.AreTemplates (D.known disk.now) srcdir.now (before ++ output.now ∷ [])
+        → given.AreLookedFor (D.known disk.now) srcdir.now before names.old templates.old.items
+        → given.AreLookedFor (D.known disk.now) srcdir.now (before ++ output.now ∷ []) names.new
         templates.new.items) }
 {
     let name = output.template.as_slice();
-    if has_template(templates.as_slice(), name) {
+    if has(names, name) {
         return Ok(());
     }
-    add_template(alloc, disk, srcdir, name, templates)
+    add_template(alloc, disk, srcdir, name, templates)?;
+    names.set(name, b"")
 }
 
 /// Reads the templates of these outputs, each once.
@@ -84,16 +85,17 @@ fn add_templates<D: Disk>(
     disk: &D,
     srcdir: &[u8],
     outputs: &[Output],
+    names: &mut Vars,
     templates: &mut Vec<(Bytes, Bytes)>,
 ) -> Result<(), AllocError>
     ensures { OnOk result (
         (before : List lists.Output)
-        → given.AreTemplates (D.known disk.now) srcdir.now before templates.old.items
-        → given.AreTemplates (D.known disk.now) srcdir.now (before ++ outputs.now)
+        → given.AreLookedFor (D.known disk.now) srcdir.now before names.old templates.old.items
+        → given.AreLookedFor (D.known disk.now) srcdir.now (before ++ outputs.now) names.new
         templates.new.items) }
 {
     'outputs: for output in outputs {
-        add_needed(alloc, disk, srcdir, output, templates)?;
+        add_needed(alloc, disk, srcdir, output, names, templates)?;
     }
     Ok(())
 }
@@ -115,9 +117,10 @@ pub fn read_templates<D: Disk>(
         given.AreTemplates (D.known disk.now) srcdir.now (outputs.now ++ headers.now)
         templates.items) }
 {
+    let mut names = Vars::new(alloc);
     let mut templates = Vec::new(alloc);
-    add_templates(alloc, disk, srcdir, outputs, &mut templates)?;
-    add_templates(alloc, disk, srcdir, headers, &mut templates)?;
+    add_templates(alloc, disk, srcdir, outputs, &mut names, &mut templates)?;
+    add_templates(alloc, disk, srcdir, headers, &mut names, &mut templates)?;
     Ok(templates)
 }
 

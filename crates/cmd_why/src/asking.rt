@@ -231,8 +231,16 @@ fn tell_record<E: Write>(errors: &mut E, fault: RecordFault) -> u8
     }
 }
 
+/// Reports that the record has no arguments, and returns the exit status.
+fn tell_no_arguments<E: Write>(errors: &mut E) -> u8
+    ensures { result ≡ 2 }
+{
+    let _ = write!(errors, "acrun: record has no arguments\n");
+    FAULT
+}
+
 /// Shows the run that the record in this text is of, and returns the exit status. If the record has
-/// no arguments, a word is missing. If the text is no record, says so.
+/// no arguments, or the text is no record, says so.
 #[tactic(auto, using(crate::proofs::Explained::line_written))]
 fn show_record<W: Write, E: Write>(alloc: Global, text: &[u8], output: &mut W, errors: &mut E) -> u8
     ensures status { result ≤ 2 }
@@ -243,13 +251,13 @@ fn show_record<W: Write, E: Write>(alloc: Global, text: &[u8], output: &mut W, e
 {
     match line_in(alloc, text) {
         Ok(Some(line)) => put_text(line.as_slice(), FOUND, output, errors),
-        Ok(None) => tell_usage(errors),
+        Ok(None) => tell_no_arguments(errors),
         Err(fault) => tell_record(errors, fault),
     }
 }
 
-/// Shows the run that the record is of, and returns the exit status. If there is no record with
-/// arguments, a word is missing.
+/// Shows the run that the record is of, and returns the exit status. If the record can't be read, a
+/// word is missing.
 fn show_run<D: Disk, W: Write, E: Write>(
     alloc: Global,
     disk: &D,

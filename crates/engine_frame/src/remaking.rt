@@ -56,14 +56,10 @@ fn check_templates(
 ) -> Result<(), RemakeFault>
     ensures { GivesAgain (λ _. tt) result (words.present recorded.now templates.now tags.now) }
 {
-    check_found(
-        alloc,
-        find_missing(templates, recorded.files.as_slice(), tags),
-    )?;
-    check_found(
-        alloc,
-        find_missing(templates, recorded.headers.as_slice(), tags),
-    )
+    let file = find_missing(alloc, templates, recorded.files.as_slice(), tags)?;
+    check_found(alloc, file)?;
+    let header = find_missing(alloc, templates, recorded.headers.as_slice(), tags)?;
+    check_found(alloc, header)
 }
 
 /// Returns the outputs of a record that are chosen.

@@ -51,14 +51,10 @@ fn check_templates(
     if no_create {
         return Ok(());
     }
-    check_found(
-        alloc,
-        find_missing(templates, source.files().as_slice(), &[]),
-    )?;
-    check_found(
-        alloc,
-        find_missing(templates, source.headers().as_slice(), &[]),
-    )
+    let file = find_missing(alloc, templates, source.files().as_slice(), &[])?;
+    check_found(alloc, file)?;
+    let header = find_missing(alloc, templates, source.headers().as_slice(), &[])?;
+    check_found(alloc, header)
 }
 
 /// Reads a cache.

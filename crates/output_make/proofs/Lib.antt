@@ -1,3 +1,4 @@
 mod Choices
+mod Lookups
 mod Outputs
 mod Turns

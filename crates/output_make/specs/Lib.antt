@@ -1,3 +1,4 @@
 pub mod Choice
+pub mod Lookup
 pub mod Making
 pub mod Variables

@@ -36,13 +36,13 @@ unfoldable pub file_table : Record → Output → List (List ℕ × List ℕ)
 file_table r o =
     with_place (with_entry r.vars (codes "configure_input") (configure_input_of o.name o.template)) (place_of o.name r.srcdir)
 
+-- The file that is made of this template. (Autoconf's manual, "Configuration Files")
+abbrev pub file_of : Record → List ℕ → Output → Artifact
+file_of r template o = record { kind = kind.File; name = o.name; text = filled (file_table r o) template }
+
 -- The file that is made of its template. (Autoconf's manual, "Configuration Files")
 unfoldable pub made_file : Record → List (List ℕ × List ℕ) → Output → Artifact
-made_file r templates o = record {
-  kind = kind.File;
-  name = o.name;
-  text = filled (file_table r o) (template_of templates o.template);
-}
+made_file r templates o = file_of r (template_of templates o.template) o
 
 -- The text of a header: a first line that says what it is made of, and then what is made of its template. (Autoconf's manual,
 -- "Configuration Header Files")

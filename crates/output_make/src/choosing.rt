@@ -1,14 +1,26 @@
 //! Templates by name, and outputs by tags.
 
-ghost use Rattle.std.specs.Prelude.{◌≡◌, ◌<◌, bytes_eq, option_map, find, length, IfSome};
+ghost use Rattle.std.specs.Prelude.{◌≡◌, ◌<◌, [], unwrap_or, bytes_eq, option_map, find, length, IfOk, IfSome};
 ghost use Rattle.std.specs.List.{list_any};
 ghost use Rattle.std.specs.Option.{option_copied};
 ghost use Rattle.deftable.specs.Table.{value_of};
 ghost use Rattle.output_make.specs.Choice as words;
 
+use crate::lookup::Templates;
 use deftable::Bytes;
 use output_list::Output;
 use status_record::Record;
+use std::alloc::{AllocError, Global};
+
+/// Returns the text of a template, or the empty text if there is none.
+fn or_empty<'a>(template: Option<&'a [u8]>) -> &'a [u8]
+    ensures { result.now ≡ unwrap_or (option_map (λ t. t.now) template.entry) [] }
+{
+    match template {
+        Some(text) => text,
+        None => b"",
+    }
+}
 
 fn find_entry<'a>(templates: &'a [(Bytes, Bytes)], name: &[u8]) -> Option<&'a (Bytes, Bytes)>
     ensures { option_copied result ≡ find (λ template. bytes_eq name.now template.0) templates.now }
@@ -31,10 +43,14 @@ fn find_template<'a>(templates: &'a [(Bytes, Bytes)], name: &[u8]) -> Option<&'a
 pub(crate) fn template_of<'a>(templates: &'a [(Bytes, Bytes)], name: &[u8]) -> &'a [u8]
     ensures { result.now ≡ words.template_of templates.now name.now }
 {
-    match find_template(templates, name) {
-        Some(text) => text,
-        None => b"",
-    }
+    or_empty(find_template(templates, name))
+}
+
+/// Returns the same of templates that were made ready.
+pub(crate) fn text_of<'a>(templates: &Templates<'a>, name: &[u8]) -> &'a [u8]
+    ensures { result.now ≡ words.template_of templates.now name.now }
+{
+    or_empty(templates.get(name))
 }
 
 /// Returns whether a name is a tag.
@@ -52,24 +68,21 @@ pub(crate) fn is_chosen(tags: &[Bytes], output: &Output) -> bool
     tags.is_empty() || is_tag(tags, output.name.as_slice())
 }
 
-fn has_template(templates: &[(Bytes, Bytes)], output: &Output) -> bool
+fn has_template(templates: &Templates<'_>, output: &Output) -> bool
     ensures { result ≡ words.has_template templates.now output.now.template }
 {
-    find_template(templates, output.template.as_slice()).is_some()
+    templates.get(output.template.as_slice()).is_some()
 }
 
-fn is_missing(templates: &[(Bytes, Bytes)], tags: &[Bytes], output: &Output) -> bool
+fn is_missing(templates: &Templates<'_>, tags: &[Bytes], output: &Output) -> bool
     ensures { result ≡ words.is_missing templates.now tags.now output.now }
 {
     is_chosen(tags, output) && !has_template(templates, output)
 }
 
-/// Returns the first output whose template is missing, or `None` if there is none (own).
-///
-/// A template is a name and a text. If there are tags, looks only at the outputs whose names are
-/// tags.
-pub fn find_missing<'a>(
-    templates: &[(Bytes, Bytes)],
+/// Returns the first output whose template is missing, or `None` if there is none.
+fn first_missing<'a>(
+    templates: &Templates<'_>,
     outputs: &'a [Output],
     tags: &[Bytes],
 ) -> Option<&'a Output>
@@ -78,6 +91,27 @@ pub fn find_missing<'a>(
     outputs
         .iter()
         .find(|output| is_missing(templates, tags, output))
+}
+
+/// Returns the first output whose template is missing, or `None` if there is none (own).
+///
+/// A template is a name and a text. If there are tags, looks only at the outputs whose names are
+/// tags.
+///
+/// # Errors
+///
+/// Fails only if memory runs out.
+pub fn find_missing<'a>(
+    alloc: Global,
+    templates: &[(Bytes, Bytes)],
+    outputs: &'a [Output],
+    tags: &[Bytes],
+) -> Result<Option<&'a Output>, AllocError>
+    ensures { IfOk result (λ found.
+        option_copied found ≡ words.missing templates.now outputs.now tags.now) }
+{
+    let templates = Templates::new(alloc, templates)?;
+    Ok(first_missing(&templates, outputs, tags))
 }
 
 /// Returns whether a file or a header of the record has this name.

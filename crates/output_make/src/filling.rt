@@ -6,7 +6,8 @@ ghost use Rattle.output_make.specs.Choice.{chosen};
 ghost use Rattle.output_make.specs.Making as words;
 ghost use Rattle.template.specs.Place.{configure_input_of, place_of};
 
-use crate::choosing::{is_chosen, template_of};
+use crate::choosing::{is_chosen, template_of, text_of};
+use crate::lookup::Templates;
 use deftable::{Bytes, Defs};
 use output_list::Output;
 use output_put::{Artifact, Artifacts, Kind};
@@ -73,6 +74,26 @@ fn file_table(alloc: Global, recorded: &Record, file: &Output) -> Result<Table, 
     Ok(table)
 }
 
+/// Makes a file of the text of its template.
+fn file_of(
+    alloc: Global,
+    recorded: &Record,
+    template: &[u8],
+    file: &Output,
+) -> Result<Artifact, AllocError>
+    ensures { IfOk result (λ artifact.
+        artifact ≡ words.file_of recorded.now template.now file.now) }
+{
+    let table = file_table(alloc, recorded, file)?;
+    let name = file.name.copy(alloc)?;
+    let text = fill(alloc, template, &table)?;
+    Ok(Artifact {
+        kind: Kind::File,
+        name,
+        text: Bytes::from_vec(text),
+    })
+}
+
 /// Makes a file of its template: the first template of that name, or the empty text if there is
 /// none.
 ///
@@ -93,27 +114,35 @@ pub fn make_file(
     ensures { IfOk result (λ artifact.
         artifact ≡ words.made_file recorded.now templates.now file.now) }
 {
-    let table = file_table(alloc, recorded, file)?;
-    let name = file.name.copy(alloc)?;
     let template = template_of(templates, file.template.as_slice());
-    let text = fill(alloc, template, &table)?;
-    Ok(Artifact {
-        kind: Kind::File,
-        name,
-        text: Bytes::from_vec(text),
-    })
+    file_of(alloc, recorded, template, file)
+}
+
+/// Makes a file of its template, as [`make_file`] does.
+#[tactic(auto, unfolding(crate::specs::Making::made_file))]
+fn make_listed_file(
+    alloc: Global,
+    recorded: &Record,
+    templates: &Templates<'_>,
+    file: &Output,
+) -> Result<Artifact, AllocError>
+    ensures { IfOk result (λ artifact.
+        artifact ≡ words.made_file recorded.now templates.now file.now) }
+{
+    let template = text_of(templates, file.template.as_slice());
+    file_of(alloc, recorded, template, file)
 }
 
 /// Returns the text of a header: its first line, and then what is made of its template.
 fn header_text(
     alloc: Global,
     recorded: &Record,
-    templates: &[(Bytes, Bytes)],
+    templates: &Templates<'_>,
     header: &Output,
 ) -> Result<Bytes, AllocError>
     ensures { IfOk result (λ text. text ≡ words.header_text recorded.now templates.now header.now) }
 {
-    let template = template_of(templates, header.template.as_slice());
+    let template = text_of(templates, header.template.as_slice());
     let made = fill_header(alloc, template, &recorded.defs)?;
     let note = header_note(alloc, header.name.as_slice(), header.template.as_slice())?;
     let mut text = note.into_vec();
@@ -126,7 +155,7 @@ fn header_text(
 fn make_header(
     alloc: Global,
     recorded: &Record,
-    templates: &[(Bytes, Bytes)],
+    templates: &Templates<'_>,
     header: &Output,
 ) -> Result<Artifact, AllocError>
     ensures { IfOk result (λ artifact.
@@ -146,7 +175,7 @@ fn add_file(
     alloc: Global,
     artifacts: &mut Artifacts,
     recorded: &Record,
-    templates: &[(Bytes, Bytes)],
+    templates: &Templates<'_>,
     tags: &[Bytes],
     file: &Output,
 ) -> Result<(), AllocError>
@@ -159,7 +188,7 @@ fn add_file(
     if !is_chosen(tags, file) {
         return Ok(());
     }
-    let artifact = make_file(alloc, recorded, templates, file)?;
+    let artifact = make_listed_file(alloc, recorded, templates, file)?;
     artifacts.push(artifact)
 }
 
@@ -168,7 +197,7 @@ fn add_files(
     alloc: Global,
     artifacts: &mut Artifacts,
     recorded: &Record,
-    templates: &[(Bytes, Bytes)],
+    templates: &Templates<'_>,
     tags: &[Bytes],
     files: &[Output],
 ) -> Result<(), AllocError>
@@ -188,7 +217,7 @@ fn add_header(
     alloc: Global,
     artifacts: &mut Artifacts,
     recorded: &Record,
-    templates: &[(Bytes, Bytes)],
+    templates: &Templates<'_>,
     tags: &[Bytes],
     header: &Output,
 ) -> Result<(), AllocError>
@@ -210,7 +239,7 @@ fn add_headers(
     alloc: Global,
     artifacts: &mut Artifacts,
     recorded: &Record,
-    templates: &[(Bytes, Bytes)],
+    templates: &Templates<'_>,
     tags: &[Bytes],
     headers: &[Output],
 ) -> Result<(), AllocError>
@@ -241,10 +270,11 @@ pub fn add_outputs(
     ensures { OnOk result (
         artifacts.new ≡ artifacts.old ++ words.made recorded.now templates.now tags.now) }
 {
+    let templates = Templates::new(alloc, templates)?;
     let files = recorded.files.as_slice();
     let headers = recorded.headers.as_slice();
-    add_files(alloc, artifacts, recorded, templates, tags, files)?;
-    add_headers(alloc, artifacts, recorded, templates, tags, headers)
+    add_files(alloc, artifacts, recorded, &templates, tags, files)?;
+    add_headers(alloc, artifacts, recorded, &templates, tags, headers)
 }
 
 /// Makes the files and then the headers of a record, each of its template, in the record's order.

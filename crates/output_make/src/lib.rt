@@ -23,11 +23,13 @@
 //!
 //! In `specs`, read `Variables` for the output variables and their values, then `Making`, and
 //! `Choice` for templates and tags. In the code, read `variables`, `recording`, `choosing` and
-//! `filling`.
+//! `filling`. `lookup` finds a template by its name in the same time on average for any number of
+//! templates.
 #![tactic(auto)]
 
 mod choosing;
 mod filling;
+mod lookup;
 mod recording;
 mod variables;
 

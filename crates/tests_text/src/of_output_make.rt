@@ -14,8 +14,8 @@ use test_rows::{Page, RowCall, cut, try_rows};
 /// `../s`.
 ///
 /// `record`: the record. `make`: what is made of it. `append`: the same twice, in one list. `file`:
-/// what is made of the first file. `missing`: the output whose template is missing. `unknown`: the
-/// index of the tag that is no output. `many` alone: how many variables and definitions the record
+/// what is made of the first file. `missing`: the file whose template is missing, and the header.
+/// `unknown`: the index of the tag that is no output. `many` alone: how many variables and definitions the record
 /// has of a source with 10,000 of each.
 const MADE: &[u8] = b"
 record V=x;W=y;LIBS=-lm;DEFS=-DX;prefix=/usr|file b t;header h k||h => PACKAGE_NAME[]PACKAGE_TARNAME[]PACKAGE_VERSION[]PACKAGE_STRING[]PACKAGE_BUGREPORT[]PACKAGE_URL[]prefix[/usr]exec_prefix[]bindir[]sbindir[]libexecdir[]libdir[]datarootdir[]datadir[]sysconfdir[]sharedstatedir[]localstatedir[]runstatedir[]includedir[]oldincludedir[]docdir[]infodir[]htmldir[]dvidir[]pdfdir[]psdir[]localedir[]mandir[]LIBS[-lm]DEFS[-DHAVE_CONFIG_H]V[x]CC[]srcdir[];../s[-C][x y];X[1];b[t];h[k]
@@ -33,6 +33,7 @@ make DEFS=-DX|file a t;header h k|t @DEFS@;k x => file a[-DHAVE_CONFIG_H]header 
 // The order, templates of one name, and a missing template.
 make |header h k;file b t;file a t|t x;k y => file b[x]file a[x]header h[/* h.  Generated from k by configure.  */^Jy]
 make |file a t;file b u|t one;t two;u  => file a[one]file b[]
+make |file a t;file b u;file c v;file d t;header h u|v 5;u 1;t 2;u 3;t 4;v 6 => file a[2]file b[1]file c[5]file d[2]header h[/* h.  Generated from u by configure.  */^J1]
 make |file a t;header h k|a x => file a[]header h[/* h.  Generated from k by configure.  */^J]
 make |||a =>
 // Tags.
@@ -42,12 +43,14 @@ make |file a t;file b t|t x|t =>
 append |file a t|t x|a => file a[x]file a[x]
 file |file a t;file b t|t @V@.|b => file a[.]
 
-missing |file a t;file b u;header h k|t x => file b[u]
-missing |file a t;file b u;header h k|t x;u  => header h[k]
-missing |file a t;file b u;header h k|k ;u ;t  => none
-missing |file a t|a x => file a[t]
-missing |file a t;file b u;header h k||h => header h[k]
-missing |file a t||b => none
+missing |file a t;file b u;header h k|t x => file b[u];header h[k]
+missing |file a t;file b u;header h k|t x;u  => none;header h[k]
+missing |file a t;file b u;header h k|k ;u ;t  => none;none
+missing |file a t|a x => file a[t];none
+missing |file a t;file b u;header h k||h => none;header h[k]
+missing |file a t||b => none;none
+// Names that begin alike, and more than one template of a name.
+missing |file a t;file b tt;header h ttt|ttt x;t y;ttt z => file b[tt];none
 
 unknown |file a t;header h k||h;a;x;y;x => 2
 unknown |file a t;header h k||t;a => 0
@@ -283,14 +286,24 @@ fn put_output(page: &mut Page, kind: &[u8], output: &Output) {
     page.put_text(output.template.as_slice());
 }
 
+fn put_missing_of(
+    page: &mut Page,
+    kind: &[u8],
+    outputs: &[Output],
+    templates: &[(Bytes, Bytes)],
+    tags: &[Bytes],
+) {
+    let found = find_missing(page.alloc(), templates, outputs, tags);
+    match page.given(found) {
+        Some(Some(output)) => put_output(page, kind, output),
+        _ => page.put(b"none"),
+    }
+}
+
 fn put_missing(page: &mut Page, record: &Record, templates: &[(Bytes, Bytes)], tags: &[Bytes]) {
-    if let Some(file) = find_missing(templates, record.files.as_slice(), tags) {
-        return put_output(page, b"file ", file);
-    }
-    match find_missing(templates, record.headers.as_slice(), tags) {
-        Some(header) => put_output(page, b"header ", header),
-        None => page.put(b"none"),
-    }
+    put_missing_of(page, b"file ", record.files.as_slice(), templates, tags);
+    page.put(b";");
+    put_missing_of(page, b"header ", record.headers.as_slice(), templates, tags);
 }
 
 fn put_unknown(page: &mut Page, record: &Record, tags: &[Bytes]) {
