@@ -111,9 +111,9 @@ rows_of_one_shell() {
     # What has no meaning here
     row '[-j1][configure]' --build a --host a --target=a --x-includes=/usr/X --x-libraries /usr/X --program-suffix= --site=/x --host=
     # What may not be dropped
-    row 'configure: error: acrun compiles for the machine that it runs on: --host=arm is not --build=a' --build=a --host=arm
-    row 'configure: error: acrun compiles for the machine that it runs on: --host=arm is not --build=' --host arm
-    row 'configure: error: acrun compiles for the machine that it runs on: --target=b is not --build=a' --target=b --build=a
+    row 'configure: error: cross compiling is not supported: --host=arm, and --build=a' --build=a --host=arm
+    row 'configure: error: cross compiling is not supported: --host=arm, and --build is not given' --host arm
+    row 'configure: error: cross compiling is not supported: --target=b, and --build=a' --target=b --build=a
     row 'configure: error: acrun does not rename programs: --program-prefix=g' --program-prefix=g
     # Variables that the source declares
     printf 'usage: acrun configure\n  --host=x  a\n  build                 the system\n  host\n  targets  b\n' > ../help
@@ -123,7 +123,7 @@ rows_of_one_shell() {
     row '[-j1][configure][host=a b][build=a b][host=c]' '--build=a b' --host 'a b' host=c
     row '[-j1][configure]' --build= --host=
     row '[-j1][configure][-q]' -q
-    row 'configure: error: acrun compiles for the machine that it runs on: --host=arm is not --build=a' --build=a --host=arm
+    row 'configure: error: cross compiling is not supported: --host=arm, and --build=a' --build=a --host=arm
     printf 'usage: acrun configure\n  host_os  a\n  target' > ../help
     row '[-j1][configure][target=a]' --build=a --target=a
     row '[-j1][configure][target=a]' --build=a
