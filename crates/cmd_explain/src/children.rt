@@ -7,15 +7,13 @@ use crate::lines::put_words;
 use crate::shortages::names_shortage;
 use crew_refusals::{Causes, shown};
 use crew_trait::{Entry, Reply};
+use deftable::Bytes;
 use lint_table::{Page, WordPart, keys};
 use std::alloc::{AllocError, Global};
 use std::io::Write;
 
 /// What is said if the name of a program has a quote.
 const QUOTES: &[u8] = b"CC and the flags are split at blanks, and quotes in them have no meaning";
-
-/// What is said if a program may not be started.
-const NO_PROGRAM: &[u8] = b"a program is a file that may be executed, and not a directory: see CC";
 
 /// Returns whether an entry of a log is a child whose diagnostics say that there was no room.
 fn has_shortage(entry: &Entry) -> bool {
@@ -93,25 +91,40 @@ fn child_words(
     Ok(words)
 }
 
-/// Returns the first word of the child of this number, or an empty text.
-fn program_of(log: &[Entry], number: u64) -> &[u8] {
-    match place_of(log, number) {
-        Some(place) if place < log.len() => match words_in(&log[place]) {
-            Some(words) if !words.is_empty() => words[0].as_slice(),
-            _ => b"",
-        },
-        _ => b"",
+/// Returns the first word of a command, or an empty text.
+fn first_word(words: &[Bytes]) -> &[u8] {
+    match words.first() {
+        Some(word) => word.as_slice(),
+        None => b"",
     }
 }
 
-/// Says more of a program that can't be started: that quotes in a variable have no meaning, or that
-/// it may be a directory.
-fn put_program<E: Write>(alloc: Global, program: &[u8], cause: &[u8], errors: &mut E) {
-    if program.contains(&b'"') || program.contains(&b'\'') {
+/// Returns that a program is a directory, or may not be executed.
+fn program_words(alloc: Global, program: &[u8]) -> Result<Vec<u8>, AllocError> {
+    let mut words = Vec::new(alloc);
+    put_cut(alloc, &mut words, program)?;
+    words.extend_from_slice(b" is a directory, or may not be executed")?;
+    Ok(words)
+}
+
+/// Says more of a child of the log that can't be started: that quotes in a compiler's name have no
+/// meaning, or that the program may be a directory.
+fn put_program<E: Write>(alloc: Global, child: &Entry, cause: &[u8], errors: &mut E) {
+    let program = first_word(words_in(child).unwrap_or(&[]));
+    let has_quote = program.contains(&b'"') || program.contains(&b'\'');
+    if has_quote && conftest_in(child).is_some() {
         put_words(alloc, QUOTES, errors);
     }
-    if !program.is_empty() && unwritten(program, cause) == Some(b"Permission denied".as_slice()) {
-        put_words(alloc, NO_PROGRAM, errors);
+    if !program.is_empty() && is_denied(unwritten(program, cause)) {
+        put_made(alloc, program_words(alloc, program), errors);
+    }
+}
+
+/// Returns whether the words of a cause are that permission was denied.
+fn is_denied(words: Option<&[u8]>) -> bool {
+    match words {
+        Some(words) => words == b"Permission denied".as_slice(),
+        None => false,
     }
 }
 
@@ -133,7 +146,7 @@ fn put_made<E: Write>(alloc: Global, made: Result<Vec<u8>, AllocError>, errors: 
 /// Says why the child of this number was refused, which cut the run with this log:
 /// `acrun: child N, CHECK: CAUSE`, with the check that it was made for, or with its command if it
 /// was made for none. If its program can't be started, one more line may say what is wrong with
-/// CC. If the run has a cache, whose name isn't empty then, and a child of the
+/// it. If the run has a cache, whose name isn't empty then, and a child of the
 /// log found no room for a process, a file or its memory, one more line says that the cache may
 /// hold a wrong "no", and that it is to be removed: such a child answered "no", and its answer was
 /// kept (own).
@@ -151,7 +164,11 @@ pub fn explain_cut<C: Causes, E: Write>(
     if is_asked {
         if let Some(cause) = crew.cause(number) {
             put_made(alloc, child_words(alloc, number, log, cause), errors);
-            put_program(alloc, program_of(log, number), cause, errors);
+            if let Some(place) = place_of(log, number) {
+                if place < log.len() {
+                    put_program(alloc, &log[place], cause, errors);
+                }
+            }
             if !cache.is_empty() && log.iter().any(has_shortage) {
                 put_made(alloc, cache_words(alloc, cache), errors);
             }

@@ -63,6 +63,13 @@ fn holder_of(alloc: Global, given: &Given<'_>, name: &[u8]) -> Result<&'static [
     Ok(b" leads to another file of this run, and is not overwritten")
 }
 
+/// Returns a text and what follows it.
+fn followed(alloc: Global, text: &[u8], words: &[u8]) -> Result<Bytes, AllocError> {
+    let mut out = Vec::from_slice(alloc, text)?;
+    out.extend_from_slice(words)?;
+    Ok(Bytes::from_vec(out))
+}
+
 /// Returns the part of a path before its last slash, if it has one.
 fn directory_of(path: &[u8]) -> Option<&[u8]> {
     for i in 0..path.len() {
@@ -92,7 +99,7 @@ fn directory_words(alloc: Global, name: &[u8]) -> Result<Option<Bytes>, AllocErr
 fn put_cause_words(alloc: Global, given: &Given<'_>, cause: &[u8]) -> Result<Bytes, AllocError> {
     if let Some(name) = cause.strip_suffix(HELD) {
         let words = holder_of(alloc, given, name)?;
-        return Bytes::concat(alloc, &[name, words]);
+        return followed(alloc, name, words);
     }
     if let Some(name) = cause.strip_suffix(NO_DIRECTORY) {
         if let Some(words) = directory_words(alloc, name)? {

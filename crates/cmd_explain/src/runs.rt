@@ -23,13 +23,12 @@ fn of_option(alloc: Global, why: &Why<'_>, fault: OptionFault) -> Result<Words, 
 }
 
 /// Returns the words after the name of the cache and the number of the line that is wrong.
-fn at_line(alloc: Global, cache: &[u8], line: u64, words: Words) -> Result<Words, AllocError> {
+fn at_line(alloc: Global, cache: &[u8], line: u64, words: &[u8]) -> Result<Bytes, AllocError> {
     let number = format!(in alloc; ":{line}: ")?;
-    let message = Bytes::concat(alloc, &[cache, number.as_bytes(), words.message.as_slice()])?;
-    Ok(Words {
-        message,
-        help: words.help,
-    })
+    let mut out = Vec::from_slice(alloc, cache)?;
+    out.extend_from_slice(number.as_bytes())?;
+    out.extend_from_slice(words)?;
+    Ok(Bytes::from_vec(out))
 }
 
 /// Returns what is wrong with the cache, and in which line.
@@ -37,7 +36,11 @@ fn of_cache(alloc: Global, given: &Given<'_>, fault: CacheFault) -> Result<Words
     let words = cache_words(alloc, fault, given.cache)?;
     match (fault, &given.settings.cache_name) {
         (CacheFault::BadLine(line) | CacheFault::BadName(line), Some(name)) => {
-            at_line(alloc, name.as_slice(), line, words)
+            let message = at_line(alloc, name.as_slice(), line, words.message.as_slice())?;
+            Ok(Words {
+                message,
+                help: words.help,
+            })
         }
         _ => Ok(words),
     }
