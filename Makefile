@@ -48,6 +48,7 @@ demo: all
 	@sh examples/completions/run.sh out/acrun
 	@sh examples/wrapper/run.sh
 	@sh examples/hostile/run.sh out/acrun
+	@sh examples/errors/run.sh out/acrun
 	@sh examples/compare/run.sh
 	@sh examples/editors/run.sh out/acrun || [ $$? -eq 77 ]
 

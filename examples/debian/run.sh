@@ -143,7 +143,7 @@ END
     done
     # A configure that fails says why, and its log is printed.
     ! built "$work/log" CC=/nowhere/cc || wrong "$name: it is built without a compiler"
-    has 'acrun: child 1: /nowhere/cc: No such file or directory'
+    has ': /nowhere/cc: No such file or directory'
     has '==> config.log <=='
     has 'start refused'
     cleaned

@@ -12,11 +12,11 @@ is() {
 echo text > t
 printf 'AC_INIT([a],[1])\nAC_CONFIG_FILES([a:t a/b:t])\nAC_OUTPUT\n' > configure.ac
 ACRUN_WHY=1 "$program" configure > out 2> err
-is 'a file where a directory is to be' 'status 2 acrun: a/b: Not a directory' "status $? $(grep 'a/b' err)"
+is 'a file where a directory is to be' 'status 2 acrun: a/b can'\''t be made: a is not a directory' "status $? $(grep 'a/b' err)"
 ln -s nothere c
 printf 'AC_INIT([a],[1])\nAC_CONFIG_FILES([c/b:t])\nAC_OUTPUT\n' > configure.ac
 ACRUN_WHY=1 "$program" configure > out 2> err
-is 'a link that leads nowhere where a directory is to be' 'status 2 acrun: c/b: Not a directory' "status $? $(grep 'c/b' err)"
+is 'a link that leads nowhere where a directory is to be' 'status 2 acrun: c/b can'\''t be made: c is not a directory' "status $? $(grep 'c/b' err)"
 # A removal that the system refuses
 mkdir sticky && chmod 1777 sticky
 printf 'AC_INIT([a],[1])\nAC_OUTPUT\n' > sticky/configure.ac

@@ -97,6 +97,6 @@ spec << 'END'
 END
 rm -rf "$work/tree"
 ! built CC=/nowhere/cc || wrong 'it is built without a compiler'
-has 'acrun: child 1: /nowhere/cc: No such file or directory'
+has ': /nowhere/cc: No such file or directory'
 [ "$failed" = 0 ] && echo "rpm: $rows rows as they should be"
 exit $failed

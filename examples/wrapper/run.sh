@@ -17,6 +17,7 @@ if [ -f ../help ] && [ "$3" = --help ]; then
 fi
 printf '[%s]' "$@"
 if [ -f shows ]; then printf ' %s' "${ACRUN_PROGRESS-unset}"; fi
+if [ -f says ]; then printf ' %s' "${ACRUN_WHY-unset}"; env | grep '^ACRUN_WHY=' | sed 's/^/ /' | tr -d '\n'; fi
 if [ -f makes ]; then
     printf ' then '
     for name in conftest*; do [ ! -e "$name" ] || printf '%s ' "$name"; done
@@ -29,7 +30,7 @@ END
 chmod +x "$folder/acrun" "$folder/source/configure"
 cd "$folder/source" || exit 2
 PATH=$folder:$PATH
-unset ACRUN ACRUN_JOBS ACRUN_PROGRESS MAKEFLAGS DEB_BUILD_OPTIONS
+unset ACRUN ACRUN_JOBS ACRUN_PROGRESS ACRUN_WHY MAKEFLAGS DEB_BUILD_OPTIONS
 wrong=0 rows=0
 
 # row EXPECTED WORD..: the words with which acrun is started, each in brackets, or else the message.
@@ -110,9 +111,9 @@ rows_of_one_shell() {
     # What has no meaning here
     row '[-j1][configure]' --build a --host a --target=a --x-includes=/usr/X --x-libraries /usr/X --program-suffix= --site=/x --host=
     # What may not be dropped
-    row 'configure: error: acrun compiles for the machine that it runs on: --host=arm is not --build=a' --build=a --host=arm
-    row 'configure: error: acrun compiles for the machine that it runs on: --host=arm is not --build=' --host arm
-    row 'configure: error: acrun compiles for the machine that it runs on: --target=b is not --build=a' --target=b --build=a
+    row 'configure: error: cross compiling is not supported: --host=arm, and --build=a' --build=a --host=arm
+    row 'configure: error: cross compiling is not supported: --host=arm, and --build is not given' --host arm
+    row 'configure: error: cross compiling is not supported: --target=b, and --build=a' --target=b --build=a
     row 'configure: error: acrun does not rename programs: --program-prefix=g' --program-prefix=g
     # Variables that the source declares
     printf 'usage: acrun configure\n  --host=x  a\n  build                 the system\n  host\n  targets  b\n' > ../help
@@ -122,7 +123,7 @@ rows_of_one_shell() {
     row '[-j1][configure][host=a b][build=a b][host=c]' '--build=a b' --host 'a b' host=c
     row '[-j1][configure]' --build= --host=
     row '[-j1][configure][-q]' -q
-    row 'configure: error: acrun compiles for the machine that it runs on: --host=arm is not --build=a' --build=a --host=arm
+    row 'configure: error: cross compiling is not supported: --host=arm, and --build=a' --build=a --host=arm
     printf 'usage: acrun configure\n  host_os  a\n  target' > ../help
     row '[-j1][configure][target=a]' --build=a --target=a
     row '[-j1][configure][target=a]' --build=a
@@ -181,6 +182,14 @@ END
     DEB_BUILD_OPTIONS='terse,parallel=2' row '[-j2][configure] unset'
     DEB_BUILD_OPTIONS='terser' row '[-j1][configure] lines'
     rm shows
+    # Words after an error line, unless the environment has an ACRUN_WHY, which may be empty
+    touch says
+    row '[-j1][configure] 1 ACRUN_WHY=1'
+    DEB_BUILD_OPTIONS='terse' row '[-j1][configure] 1 ACRUN_WHY=1'
+    ACRUN_WHY='' row '[-j1][configure]  ACRUN_WHY='
+    ACRUN_WHY=0 row '[-j1][configure] 0 ACRUN_WHY=0'
+    ACRUN_WHY='a b' row '[-j1][configure][-q] a b ACRUN_WHY=a b' -q
+    rm says
     # Conftests are removed before the run and after it, and nothing else is.
     touch makes
     others='conftest 1.c conftest-1.c conftest.c.in conftest.h conftest.py conftest0.c conftest01 conftest1. conftest1.c.c conftest1.txt conftest1x conftest7 conftest8.o conftestx.c '

@@ -2,13 +2,18 @@
 
 ghost use Rattle.std.specs.Prelude.{◌≡◌, false};
 
+use crate::checks::{conftest_in, open_check, place_of, put_command, put_cut, words_in};
 use crate::lines::put_words;
 use crate::shortages::names_shortage;
-use crew_refusals::Causes;
+use crew_refusals::{Causes, shown};
 use crew_trait::{Entry, Reply};
+use deftable::Bytes;
 use lint_table::{Page, WordPart, keys};
 use std::alloc::{AllocError, Global};
 use std::io::Write;
+
+/// What is said if the name of a program has a quote.
+const QUOTES: &[u8] = b"CC and the flags are split at blanks, and quotes in them have no meaning";
 
 /// Returns whether an entry of a log is a child whose diagnostics say that there was no room.
 fn has_shortage(entry: &Entry) -> bool {
@@ -21,12 +26,106 @@ fn has_shortage(entry: &Entry) -> bool {
     }
 }
 
-/// Returns `child N: CAUSE`.
-fn child_words(alloc: Global, number: u64, cause: &[u8]) -> Result<Vec<u8>, AllocError> {
-    let front = format!(in alloc; "child {number}: ")?;
+/// Appends what a child of the log is for: its check, and outside a check its command.
+fn put_place(
+    alloc: Global,
+    out: &mut Vec<u8>,
+    log: &[Entry],
+    place: usize,
+) -> Result<(), AllocError> {
+    out.extend_from_slice(b", ")?;
+    match (open_check(&log[..place]), words_in(&log[place])) {
+        (Some(check), _) => put_cut(alloc, out, check),
+        (None, Some(words)) => put_command(alloc, out, words),
+        (None, None) => Ok(()),
+    }
+}
+
+/// Returns the words of a cause that say why the conftest of this name can't be written, if it says
+/// that. What a compiler's products are is not about the conftest.
+fn unwritten<'a>(name: &[u8], cause: &'a [u8]) -> Option<&'a [u8]> {
+    let words = cause.strip_prefix(name)?.strip_prefix(b": ")?;
+    if words.starts_with(b"its ") || words == b"not UTF-8".as_slice() {
+        None
+    } else {
+        Some(words)
+    }
+}
+
+/// Appends a cause, and of a conftest that it can't be written.
+fn put_cause(
+    alloc: Global,
+    out: &mut Vec<u8>,
+    conftest: Option<&[u8]>,
+    cause: &[u8],
+) -> Result<(), AllocError> {
+    let name = conftest.unwrap_or(b"");
+    match unwritten(name, cause) {
+        Some(words) => {
+            out.extend_from_slice(shown(alloc, name)?.as_slice())?;
+            out.extend_from_slice(b" can't be written: ")?;
+            out.extend_from_slice(words)
+        }
+        None => out.extend_from_slice(cause),
+    }
+}
+
+/// Returns `child N, CHECK: CAUSE`. If the log doesn't have the child, returns `child N: CAUSE`.
+fn child_words(
+    alloc: Global,
+    number: u64,
+    log: &[Entry],
+    cause: &[u8],
+) -> Result<Vec<u8>, AllocError> {
+    let front = format!(in alloc; "child {number}")?;
     let mut words = Vec::from_slice(alloc, front.as_bytes())?;
-    words.extend_from_slice(cause)?;
+    let mut conftest = None;
+    if let Some(place) = place_of(log, number) {
+        if place < log.len() {
+            put_place(alloc, &mut words, log, place)?;
+            conftest = conftest_in(&log[place]);
+        }
+    }
+    words.extend_from_slice(b": ")?;
+    put_cause(alloc, &mut words, conftest, cause)?;
     Ok(words)
+}
+
+/// Returns the first word of a command, or an empty text.
+fn first_word(words: &[Bytes]) -> &[u8] {
+    match words.first() {
+        Some(word) => word.as_slice(),
+        None => b"",
+    }
+}
+
+/// Returns that a program is a directory, or may not be executed.
+fn program_words(alloc: Global, program: &[u8]) -> Result<Vec<u8>, AllocError> {
+    let mut words = Vec::new(alloc);
+    put_cut(alloc, &mut words, program)?;
+    words.extend_from_slice(b" is a directory, or may not be executed")?;
+    Ok(words)
+}
+
+/// Says more of a child of the log that can't be started: that quotes in a compiler's name have no
+/// meaning, or that the program may be a directory.
+fn put_program<E: Write>(alloc: Global, child: &Entry, cause: &[u8], errors: &mut E) {
+    let program = first_word(words_in(child).unwrap_or(&[]));
+    let has_quote = program.contains(&b'"') || program.contains(&b'\'');
+    if has_quote && conftest_in(child).is_some() {
+        put_words(alloc, QUOTES, errors);
+    }
+    if !program.is_empty() && is_denied(unwritten(program, cause)) {
+        put_made(alloc, program_words(alloc, program), errors);
+    }
+}
+
+/// Returns whether the words of a cause are that permission was denied.
+fn is_denied(words: Option<&[u8]>) -> bool {
+    match words {
+        Some(words) => words == b"Permission denied".as_slice(),
+        None => false,
+    }
 }
 
 /// Returns what is said of a cache in which a "no" may be wrong.
@@ -45,7 +144,9 @@ fn put_made<E: Write>(alloc: Global, made: Result<Vec<u8>, AllocError>, errors: 
 }
 
 /// Says why the child of this number was refused, which cut the run with this log:
-/// `acrun: child N: CAUSE`. If the run has a cache, whose name isn't empty then, and a child of the
+/// `acrun: child N, CHECK: CAUSE`, with the check that it was made for, or with its command if it
+/// was made for none. If its program can't be started, one more line may say what is wrong with
+/// it. If the run has a cache, whose name isn't empty then, and a child of the
 /// log found no room for a process, a file or its memory, one more line says that the cache may
 /// hold a wrong "no", and that it is to be removed: such a child answered "no", and its answer was
 /// kept (own).
@@ -62,7 +163,12 @@ pub fn explain_cut<C: Causes, E: Write>(
 {
     if is_asked {
         if let Some(cause) = crew.cause(number) {
-            put_made(alloc, child_words(alloc, number, cause), errors);
+            put_made(alloc, child_words(alloc, number, log, cause), errors);
+            if let Some(place) = place_of(log, number) {
+                if place < log.len() {
+                    put_program(alloc, &log[place], cause, errors);
+                }
+            }
             if !cache.is_empty() && log.iter().any(has_shortage) {
                 put_made(alloc, cache_words(alloc, cache), errors);
             }

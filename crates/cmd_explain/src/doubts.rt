@@ -2,6 +2,7 @@
 
 ghost use Rattle.std.specs.Prelude.{◌≡◌, false};
 
+use crate::checks::open_check;
 use crate::lines::put_words;
 use crate::shortages::{names_shortage, names_signal};
 use crew_trait::{Entry, Reply};
@@ -37,41 +38,6 @@ fn doubt_in(entry: &Entry) -> Option<&'static [u8]> {
         } if *status != 0 => doubt_of(job.file.is_some(), *status, text.as_slice()),
         _ => None,
     }
-}
-
-/// Returns the text of an entry of a log that is a message, or an empty text.
-fn message_of(entry: &Entry) -> &[u8] {
-    match entry {
-        Entry::Said(note) => note.text.as_slice(),
-        _ => b"",
-    }
-}
-
-/// Returns the message without the dots at its end, if it begins a check.
-fn checked_by(message: &[u8]) -> Option<&[u8]> {
-    if message.starts_with(b"checking ") {
-        message.strip_suffix(b"... ")
-    } else {
-        None
-    }
-}
-
-/// Returns the check that is open after these entries of a log, if one is. An error, a warning or a
-/// notice is no answer.
-fn open_check(log: &[Entry]) -> Option<&[u8]> {
-    let mut answered = 0usize;
-    for i in 0..log.len() {
-        let message = message_of(&log[log.len() - 1 - i]);
-        if let Some(check) = checked_by(message) {
-            if answered == 0 {
-                return Some(check);
-            }
-            answered -= 1;
-        } else if !message.is_empty() && !message.starts_with(b"configure: ") {
-            answered = answered.saturating_add(1);
-        }
-    }
-    None
 }
 
 /// Returns a check as it is named.

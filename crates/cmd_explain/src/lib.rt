@@ -21,32 +21,42 @@
 //! memory runs out, it writes less, and that a line can't be written is not reported. "own" marks a
 //! rule that no manual gives.
 //!
-//! Read `specs/Asking`, then `asking`, `lines`, `files`, `shortages` and `children`, which say why.
-//! Then read `page`, which writes words, and `source`, which shows a fault of the source; then
-//! `runs`, `precious`, `remakes`, `usage`, `compilers` and `doubts`.
+//! Read `specs/Asking`, then `asking`, `lines`, `files`, `shortages`, `checks` and `children`, which
+//! say why. Then read `page`, which writes words, and `source`, which shows a fault of the source;
+//! then `runs`, `precious`, `remakes`, `puts`, `windows`, `usage` and `helps`. Of a run that ended
+//! read `failures`, `compilers`, `doubts` and `directories`.
 #![tactic(auto)]
 
 mod asking;
+mod checks;
 mod children;
 mod compilers;
+mod directories;
 mod doubts;
+mod failures;
 mod files;
+mod helps;
 mod lines;
 mod page;
 mod precious;
+mod puts;
 mod remakes;
 mod runs;
 mod shortages;
 mod source;
 mod usage;
+mod windows;
 
 pub use asking::{Why, asks_why};
 pub use children::explain_cut;
 pub use compilers::explain_compilers;
+pub use directories::explain_directories;
 pub use doubts::{explain_doubts, explain_long_cache};
 pub use files::{explain_error, explain_file, explain_template};
+pub use helps::explain_help;
 pub use lines::explain_words;
 pub use precious::Given;
+pub use puts::explain_put;
 pub use remakes::explain_remake;
 pub use runs::explain_fault;
 pub use source::explain_source;

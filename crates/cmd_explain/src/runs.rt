@@ -6,6 +6,8 @@ use crate::page::{put_words, slices};
 use crate::precious::{Given, of_precious};
 use crate::source::explain_source;
 use crate::{Why, explain_template};
+use cachefile::CacheFault;
+use deftable::Bytes;
 use engine_frame::Fault;
 use file_disk::Disk;
 use lint_table::Words;
@@ -20,10 +22,34 @@ fn of_option(alloc: Global, why: &Why<'_>, fault: OptionFault) -> Result<Words, 
     option_words(alloc, fault, args.as_slice())
 }
 
+/// Returns the words after the name of the cache and the number of the line that is wrong.
+fn at_line(alloc: Global, cache: &[u8], line: u64, words: &[u8]) -> Result<Bytes, AllocError> {
+    let number = format!(in alloc; ":{line}: ")?;
+    let mut out = Vec::from_slice(alloc, cache)?;
+    out.extend_from_slice(number.as_bytes())?;
+    out.extend_from_slice(words)?;
+    Ok(Bytes::from_vec(out))
+}
+
+/// Returns what is wrong with the cache, and in which line.
+fn of_cache(alloc: Global, given: &Given<'_>, fault: CacheFault) -> Result<Words, AllocError> {
+    let words = cache_words(alloc, fault, given.cache)?;
+    match (fault, &given.settings.cache_name) {
+        (CacheFault::BadLine(line) | CacheFault::BadName(line), Some(name)) => {
+            let message = at_line(alloc, name.as_slice(), line, words.message.as_slice())?;
+            Ok(Words {
+                message,
+                help: words.help,
+            })
+        }
+        _ => Ok(words),
+    }
+}
+
 /// Says what is wrong with the cache or with a precious variable, after the line of the fault.
 fn explain_given<E: Write>(alloc: Global, given: &Given<'_>, errors: &mut E, fault: &Fault) {
     match fault {
-        Fault::Cache(fault) => put_words(alloc, cache_words(alloc, *fault, given.cache), errors),
+        Fault::Cache(fault) => put_words(alloc, of_cache(alloc, given, *fault), errors),
         Fault::Precious(fault) => put_words(alloc, of_precious(alloc, given, *fault), errors),
         _ => {}
     }

@@ -3,6 +3,7 @@
 ghost use Rattle.std.specs.Prelude.{◌≡◌, false};
 
 use crate::page::{put_key, put_words, slices};
+use crate::windows::put_window;
 use deftable::Bytes;
 use lint_table::{Key, Words, keys};
 use lint_words::usage_words;
@@ -38,6 +39,9 @@ pub fn explain_usage<E: Write>(alloc: Global, is_asked: bool, words: &[Bytes], e
     ensures silent { is_asked ≡ false → errors.new ≡ errors.old }
 {
     if is_asked {
+        if put_window(alloc, words, errors) {
+            return;
+        }
         match misuse_of(words) {
             Some(key) => put_key(alloc, key, errors),
             None => put_unknown(alloc, words, errors),

@@ -15,7 +15,8 @@ use crate::fault_lines::{tell_run, tell_written};
 use crate::remaking::OUTPUT;
 use cmd_call::{FAULT, LOG, Terminal, print_all, tell_put, write_log};
 use cmd_explain::{
-    Given, Why, explain_compilers, explain_cut, explain_doubts, explain_long_cache, explain_words,
+    Given, Why, explain_compilers, explain_cut, explain_directories, explain_doubts,
+    explain_long_cache, explain_put,
 };
 use crew_refusals::Causes;
 use engine_frame::{Fault, Outcome, Report, status_of};
@@ -98,6 +99,7 @@ fn print_report<D: Disk, C: Causes, R: Read, W: Write, E: Write>(
     let quiet = settings.quiet;
     let output = &mut terminal.output;
     let done = print_all(alloc, messages, lines, quiet, output, errors);
+    explain_directories(alloc, is_asked, &settings.vars, errors);
     explain_short(alloc, is_asked, report, cache_name(settings), crew, errors);
     explain_compilers(alloc, is_asked, report.log.as_slice(), errors);
     explain_long_cache(alloc, is_asked, terminal.outputs.handed(), errors);
@@ -110,6 +112,7 @@ fn print_report<D: Disk, C: Causes, R: Read, W: Write, E: Write>(
 fn tell_refused<E: Write>(
     alloc: Global,
     is_asked: bool,
+    given: &Given<'_>,
     refused: Option<u64>,
     cause: &[u8],
     errors: &mut E,
@@ -120,7 +123,7 @@ fn tell_refused<E: Write>(
     match refused {
         Some(number) => {
             let _ = tell_put(errors, number);
-            explain_words(alloc, is_asked, cause, errors);
+            explain_put(alloc, is_asked, given, cause, errors);
             false
         }
         None => true,
@@ -146,7 +149,7 @@ fn log_report<D: Disk, E: Write>(
 /// Prints and writes what a run leaves for its user, and returns the exit status.
 fn finish_report<D: Disk, C: Causes, R: Read, W: Write, E: Write>(
     terminal: &mut Terminal<'_, D, R, W, E>,
-    settings: &Settings,
+    given: &Given<'_>,
     report: &Report,
     refused: Option<u64>,
     crew: &C,
@@ -154,7 +157,7 @@ fn finish_report<D: Disk, C: Causes, R: Read, W: Write, E: Write>(
     ensures run { result ≢ 2
         → (refused ≡ None) × (result ≡ words.status_of report.now.outcome)
         × Appends (W.contents terminal.old.output) (W.contents terminal.new.output)
-        (printed settings.now.quiet report.now.messages terminal.old.outputs.lines)
+        (printed given.now.settings.now.quiet report.now.messages terminal.old.outputs.lines)
         × Logs D.known terminal.old.outputs terminal.new.outputs report.now
         × (terminal.old.is_asked ≡ false
         → AreTold (E.contents terminal.old.errors) (E.contents terminal.new.errors)
@@ -163,10 +166,10 @@ fn finish_report<D: Disk, C: Causes, R: Read, W: Write, E: Write>(
 {
     let alloc = terminal.alloc;
     let is_asked = terminal.is_asked;
-    let is_printed = print_report(terminal, settings, report, crew);
+    let is_printed = print_report(terminal, given.settings, report, crew);
     let outputs = &mut terminal.outputs;
     let errors = &mut terminal.errors;
-    let is_whole = tell_refused(alloc, is_asked, refused, outputs.cause(), errors);
+    let is_whole = tell_refused(alloc, is_asked, given, refused, outputs.cause(), errors);
     let is_logged = log_report(alloc, outputs, is_asked, report, errors);
     if is_printed && is_whole && is_logged {
         status_of(report.outcome)
@@ -200,9 +203,9 @@ pub fn finish_run<D: Disk, C: Causes, R: Read, W: Write, E: Write>(
     ensures input { terminal.new.input ≡ terminal.old.input }
 {
     match answer {
-        Ok(report) => finish_report(terminal, given.settings, &report, None, crew),
+        Ok(report) => finish_report(terminal, given, &report, None, crew),
         Err(Fault::PutRefused(number, report)) => {
-            finish_report(terminal, given.settings, &report, Some(number), crew)
+            finish_report(terminal, given, &report, Some(number), crew)
         }
         Err(fault) => {
             let disk = terminal.outputs.disk();

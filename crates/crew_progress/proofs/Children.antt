@@ -6,7 +6,7 @@ use Rattle.std.proofs.lemmas.Grind.{flat_map-append}
 use Rattle.std.proofs.lemmas.List.{take_more}
 use Rattle.crew_jobs.specs.declared.job.Job.{Job}
 use Rattle.crew_progress.specs.Screen.{shown_byte, fitting, IsShowing}
-use Rattle.crew_progress.specs.Subject.{subject_of_file, words_of}
+use Rattle.crew_progress.specs.Subject.{subject_of_file, command_text, search_text, words_of}
 use Rattle.crew_progress.specs.Child.{purpose, child_text, mark, row, child_line}
 use Rattle.crew_progress.proofs.Cutting.{showing_is}
 
@@ -75,14 +75,25 @@ words_all line text is_cut words i le h = subst (λ ws. IsShowing 396 line is_cu
 
 -- A line that five texts were put on, one after the other.
 pub child_is : (line : List ℕ) (is_cut : Bool) (text a b c d e : List ℕ) (number : ℕ) (job : Job) → a ≡ codes "acrun: child " → b ≡ decimal number → c ≡ purpose (subject_of_file job.file)
-    → d ≡ codes ":" → e ≡ words_of job.words → IsShowing 396 line is_cut (((((text ++ a) ++ b) ++ c) ++ d) ++ e) → IsShowing 396 line is_cut (text ++ child_text number job)
+    → d ≡ codes ":" → e ≡ command_text job.words → IsShowing 396 line is_cut (((((text ++ a) ++ b) ++ c) ++ d) ++ e) → IsShowing 396 line is_cut (text ++ child_text number job)
 unfolding child_text
 child_is line is_cut text a b c d e number job a_is b_is c_is d_is e_is h =
     let flat : ((((text ++ a) ++ b) ++ c) ++ d) ++ e ≡ text ++ (a ++ b ++ c ++ d ++ e) =
     ap (λ x. ((x ++ c) ++ d) ++ e) (append_assoc text a b) ∙ ap (λ x. (x ++ d) ++ e) (append_assoc text (a ++ b) c) ∙ ap (λ x. x ++ e) (append_assoc text (a ++ b ++ c) d)
     ∙ append_assoc text (a ++ b ++ c ++ d) e in
-    let told : a ++ b ++ c ++ d ++ e ≡ codes "acrun: child " ++ decimal number ++ purpose (subject_of_file job.file) ++ codes ":" ++ words_of job.words =
+    let told : a ++ b ++ c ++ d ++ e ≡ codes "acrun: child " ++ decimal number ++ purpose (subject_of_file job.file) ++ codes ":" ++ command_text job.words =
     ap (λ x. x ++ b ++ c ++ d ++ e) a_is ∙ ap (λ x. codes "acrun: child " ++ x ++ c ++ d ++ e) b_is ∙ ap (λ x. codes "acrun: child " ++ decimal number ++ x ++ d ++ e) c_is
     ∙ ap (λ x. codes "acrun: child " ++ decimal number ++ purpose (subject_of_file job.file) ++ x ++ e) d_is
     ∙ ap (λ x. codes "acrun: child " ++ decimal number ++ purpose (subject_of_file job.file) ++ codes ":" ++ x) e_is in
+    subst (IsShowing 396 line is_cut) (flat ∙ ap (λ v. text ++ v) told) h
+
+-- A line that four texts were put on, one after the other.
+pub search_is : (line : List ℕ) (is_cut : Bool) (text a name b directory : List ℕ) → a ≡ codes " looking for " → b ≡ codes " in "
+    → IsShowing 396 line is_cut ((((text ++ a) ++ name) ++ b) ++ directory) → IsShowing 396 line is_cut (text ++ search_text name directory)
+unfolding search_text
+search_is line is_cut text a name b directory a_is b_is h =
+    let flat : (((text ++ a) ++ name) ++ b) ++ directory ≡ text ++ (a ++ name ++ b ++ directory) =
+    ap (λ x. (x ++ b) ++ directory) (append_assoc text a name) ∙ ap (λ x. x ++ directory) (append_assoc text (a ++ name) b) ∙ append_assoc text (a ++ name ++ b) directory in
+    let told : a ++ name ++ b ++ directory ≡ codes " looking for " ++ name ++ codes " in " ++ directory =
+    ap (λ x. x ++ name ++ b ++ directory) a_is ∙ ap (λ x. codes " looking for " ++ name ++ x ++ directory) b_is in
     subst (IsShowing 396 line is_cut) (flat ∙ ap (λ v. text ++ v) told) h

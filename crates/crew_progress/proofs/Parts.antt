@@ -1,7 +1,7 @@
 -- Fronts, ends and lines of a text.
 use Rattle.std.proofs.Common.{◌≡◌, ℕ, ◌+◌, ◌-◌, ◌<◌, ◌≤◌, ◌==◌, true, false, not, min, List, [], ◌∷◌, ◌++◌, length, take, drop, flat_map, get_or, Option, Some, None, Bor, ap, sym, ◌∙◌, refl, arith, append_assoc, append-nil, length-take, length-drop, take_all, ◌↔◌, ◌⊎◌, ⊎_elim}
-use Rattle.std.specs.Prelude.{option_map, bytes_eq, IsOk, OnOk, Result, Ok, Err}
-use Rattle.std.specs.List.{suffix_len}
+use Rattle.std.specs.Prelude.{codes, option_map, bytes_eq, IsOk, OnOk, Result, Ok, Err}
+use Rattle.std.specs.List.{after_last, suffix_len}
 use Rattle.std.specs.Option.{MatchOption, option_or}
 use Rattle.std.proofs.lemmas.Bool.{false≢true}
 use Rattle.std.proofs.lemmas.Bool.Decides.{nat_tests}
@@ -11,7 +11,7 @@ use Rattle.std.proofs.lemmas.List.Sums.{suffix_len_is}
 use Rattle.std.proofs.Math.Seq.{take-append-add}
 use Rattle.memchr.specs.Find.{IsLastByte, is_byte}
 use Rattle.deftable.proofs.Fronts.{stripped}
-use Rattle.crew_progress.specs.Subject.{before_end, after_front, last_line, line_front, words_of}
+use Rattle.crew_progress.specs.Subject.{before_end, after_front, directory_in, last_line, line_front, name_in, search_text, words_of}
 
 -- What `strip_suffix` and `strip_prefix` return.
 pub before_end_is : (back text : List ℕ) (r : Option (Bor (List ℕ)))
@@ -67,32 +67,64 @@ pub words_all : (line : List ℕ) (words : List (List ℕ)) (i : ℕ) → length
 unfolding words_of
 words_all line words i le is = is ∙ ap (λ ws. line_front (flat_map (λ w. 32 ∷ w) ws)) (take_all i words le)
 
--- The last line, after the place of the last newline.
-other_is : (b : ℕ) → (is_byte 10 b ≡ true → ⊥) → not (b == 10) ≡ true
-other_is b other = grind (arith, nat_tests)
+-- What follows the last place of a byte.
+other_is : (byte b : ℕ) → (is_byte byte b ≡ true → ⊥) → not (b == byte) ≡ true
+other_is byte b other = grind (arith, nat_tests)
 
-newline_is : (b : ℕ) → is_byte 10 b ≡ true → not (b == 10) ≡ false
-newline_is b same = ap not same
+same_is : (byte b : ℕ) → is_byte byte b ≡ true → not (b == byte) ≡ false
+same_is byte b same = ap not same
 
-pub after_newline : (text rest : List ℕ) (at : ℕ) → IsLastByte (is_byte 10) text (Some at) → rest ≡ take (length text - (at + 1)) (drop (at + 1) text) → rest ≡ last_line text
-unfolding last_line
-after_newline text rest at last is =
+after_byte : (byte : ℕ) (text rest : List ℕ) (at : ℕ) → IsLastByte (is_byte byte) text (Some at) → rest ≡ take (length text - (at + 1)) (drop (at + 1) text)
+    → rest ≡ after_last (λ b. b == byte) text
+after_byte byte text rest at last is =
     let n : ℕ = at + 1 in
     let high : at < length text = last.0.high in
     let whole : take (length text - n) (drop n text) ≡ drop n text = take_all (length text - n) (drop n text) (omega (arith, length-drop n text)) in
     let back : n - 1 ≡ at = omega arith in
-    let len : suffix_len (λ x. not (x == 10)) text ≡ length text - n =
-    suffix_len_is (λ x. not (x == 10)) text n 0 (omega arith) (λ k low below. other_is (get_or text k 0) (last.0.after k low below)) (λ _. ap (λ m. not (get_or text m 0 == 10)) back ∙ newline_is (get_or text at 0) last.1) in
-    let start : n ≡ length text - suffix_len (λ x. not (x == 10)) text = omega (arith, len) in
+    let len : suffix_len (λ x. not (x == byte)) text ≡ length text - n =
+    suffix_len_is (λ x. not (x == byte)) text n 0 (omega arith) (λ k low below. other_is byte (get_or text k 0) (last.0.after k low below)) (λ _. ap (λ m. not (get_or text m 0 == byte)) back ∙ same_is byte (get_or text at 0) last.1) in
+    let start : n ≡ length text - suffix_len (λ x. not (x == byte)) text = omega (arith, len) in
     is ∙ whole ∙ ap (λ m. drop m text) start
+
+no_byte : (byte : ℕ) (text rest : List ℕ) → IsLastByte (is_byte byte) text None → rest ≡ text → rest ≡ after_last (λ b. b == byte) text
+no_byte byte text rest none is =
+    let len : suffix_len (λ x. not (x == byte)) text ≡ length text - 0 =
+    suffix_len_is (λ x. not (x == byte)) text 0 0 (omega arith) (λ k low below. other_is byte (get_or text k 0) (none k low below)) (λ lt. absurd (omega arith)) in
+    let start : 0 ≡ length text - suffix_len (λ x. not (x == byte)) text = omega (arith, len) in
+    is ∙ ap (λ m. drop m text) start
+
+pub after_newline : (text rest : List ℕ) (at : ℕ) → IsLastByte (is_byte 10) text (Some at) → rest ≡ take (length text - (at + 1)) (drop (at + 1) text) → rest ≡ last_line text
+unfolding last_line
+after_newline text rest at last is = after_byte 10 text rest at last is
 
 pub no_newline : (text rest : List ℕ) → IsLastByte (is_byte 10) text None → rest ≡ text → rest ≡ last_line text
 unfolding last_line
-no_newline text rest none is =
-    let len : suffix_len (λ x. not (x == 10)) text ≡ length text - 0 =
-    suffix_len_is (λ x. not (x == 10)) text 0 0 (omega arith) (λ k low below. other_is (get_or text k 0) (none k low below)) (λ lt. absurd (omega arith)) in
-    let start : 0 ≡ length text - suffix_len (λ x. not (x == 10)) text = omega (arith, len) in
-    is ∙ ap (λ m. drop m text) start
+no_newline text rest none is = no_byte 10 text rest none is
+
+pub after_slash : (path rest : List ℕ) (at : ℕ) → IsLastByte (is_byte 47) path (Some at) → rest ≡ take (length path - (at + 1)) (drop (at + 1) path) → rest ≡ name_in path
+unfolding name_in
+after_slash path rest at last is = after_byte 47 path rest at last is
+
+pub no_slash : (path rest : List ℕ) → IsLastByte (is_byte 47) path None → rest ≡ path → rest ≡ name_in path
+unfolding name_in
+no_slash path rest none is = no_byte 47 path rest none is
+
+pub before_slash : (path front : List ℕ) (at : ℕ) → IsLastByte (is_byte 47) path (Some at) → front ≡ take at path → front ≡ directory_in path
+unfolding directory_in
+before_slash path front at last is =
+    let high : at < length path = last.0.high in
+    let rest : List ℕ = take (length path - (at + 1)) (drop (at + 1) path) in
+    let whole : rest ≡ drop (at + 1) path = take_all (length path - (at + 1)) (drop (at + 1) path) (omega (arith, length-drop (at + 1) path)) in
+    let long : length rest ≡ length path - (at + 1) = ap length whole ∙ length-drop (at + 1) path in
+    let named : length (name_in path) ≡ length path - (at + 1) = ap length (sym (after_slash path rest at last refl)) ∙ long in
+    is ∙ ap (λ n. take n path) (omega (arith, named))
+
+pub without_slash : (path front : List ℕ) → IsLastByte (is_byte 47) path None → front ≡ [] → front ≡ directory_in path
+unfolding directory_in
+without_slash path front none is =
+    let named : length (name_in path) ≡ length path = ap length (sym (no_slash path path none refl)) in
+    let none_left : 0 ≡ length path - (length (name_in path) + 1) = omega (arith, named) in
+    is ∙ ap (λ n. take n path) none_left
 
 -- The one or the other, if something is told.
 abbrev Told : Type 0
@@ -112,3 +144,8 @@ either_told a b r x y is first second =
 -- Two texts that were put, one after the other.
 pub put_both : (line next : List ℕ) (first second word text : List ℕ) → line ≡ line_front (text ++ first) → second ≡ word → next ≡ line_front ((text ++ first) ++ second) → next ≡ line_front (text ++ (first ++ word))
 put_both line next first second word text put_is second_is next_is = next_is ∙ ap line_front (append_assoc text first second) ∙ ap (λ v. line_front (text ++ (first ++ v))) second_is
+
+-- Four texts that were put, one after the other.
+pub search_is : (line name directory : List ℕ) → line ≡ line_front (codes " looking for " ++ name ++ codes " in " ++ directory) → line ≡ line_front (search_text name directory)
+unfolding search_text
+search_is line name directory is = is

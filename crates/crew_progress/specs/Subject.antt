@@ -1,5 +1,5 @@
 -- What is said of a job. (own)
-use Rattle.std.specs.Prelude.{ℕ, ◌-◌, ◌==◌, List, ◌∷◌, ◌++◌, Option, Some, None, bytes_eq, codes, drop, flat_map, length, option_and_then, option_map, take, unwrap_or, if◌then◌else◌}
+use Rattle.std.specs.Prelude.{ℕ, ◌+◌, ◌-◌, ◌==◌, ◌&&◌, Bool, List, [], ◌∷◌, ◌++◌, Option, Some, None, bytes_eq, codes, drop, flat_map, get_or, length, option_and_then, option_map, take, unwrap_or, if◌then◌else◌}
 use Rattle.std.specs.List.{after_last}
 use Rattle.std.specs.Option.{option_or}
 use Rattle.crew_jobs.specs.declared.job.Job.{Job}
@@ -55,10 +55,37 @@ subject_of_file (Some file) = subject_in file.1
 unfoldable pub words_of : List (List ℕ) → List ℕ
 words_of words = flat_map (λ word. 32 ∷ word) words
 
+-- The words are a shell command that looks whether a path is that of a program, as `path_words` of `crew_jobs` makes them. (own)
+abbrev pub is_search : List (List ℕ) → Bool
+is_search words =
+    (length words == 5) && bytes_eq (get_or words 0 []) (codes "sh") && bytes_eq (get_or words 1 []) (codes "-c")
+    && bytes_eq (get_or words 2 []) (codes "test -f \"$1\" && test -x \"$1\"") && bytes_eq (get_or words 3 []) (codes "sh")
+
+-- The name of a file: what follows the last `/` of its path. (own)
+unfoldable pub name_in : List ℕ → List ℕ
+name_in path = after_last (λ b. b == 47) path
+
+-- The directory of a file: what is before the last `/` of its path. (own)
+unfoldable pub directory_in : List ℕ → List ℕ
+directory_in path = take (length path - (length (name_in path) + 1)) path
+
+-- What is said of the search for a program of this name in a directory. (own)
+unfoldable pub search_text : List ℕ → List ℕ → List ℕ
+search_text name directory = codes " looking for " ++ name ++ codes " in " ++ directory
+
+-- What is said of a command that looks for a program at a path. (own)
+unfoldable pub search_of : List (List ℕ) → Option (List ℕ)
+search_of words =
+    if is_search words then Some (search_text (name_in (get_or words 4 [])) (directory_in (get_or words 4 []))) else None
+
+-- What is said of a command: which program it looks for, if it does that, and otherwise its words. (own)
+unfoldable pub command_text : List (List ℕ) → List ℕ
+command_text words = unwrap_or (search_of words) (words_of words)
+
 -- As much of a text as the line of a terminal can show. (own)
 abbrev pub line_front : List ℕ → List ℕ
 line_front text = take 79 text
 
--- What the line of a terminal says of a job: what its conftest tests if the text shows that, and otherwise the words of the command. (own)
+-- What the line of a terminal says of a job: what its conftest tests if the text shows that, and otherwise its command. (own)
 unfoldable pub subject_of : Job → List ℕ
-subject_of job = line_front (unwrap_or (subject_of_file job.file) (words_of job.words))
+subject_of job = line_front (unwrap_or (subject_of_file job.file) (command_text job.words))

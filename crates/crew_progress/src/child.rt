@@ -3,10 +3,10 @@
 ghost use Rattle.std.specs.Prelude.{◌≡◌, ◌≤◌, ℕ, List, ◌∷◌, ◌++◌, length, option_map};
 ghost use Rattle.crew_progress.specs.Child as child;
 ghost use Rattle.crew_progress.specs.Screen.{IsShowing};
-ghost use Rattle.crew_progress.specs.Subject.{words_of};
+ghost use Rattle.crew_progress.specs.Subject.{command_text, search_text, words_of};
 
 use crate::screen::{Screen, Text, empty, put};
-use crate::subject::subject_of_file;
+use crate::subject::{search_of, subject_of_file};
 use crew_jobs::Job;
 use deftable::Bytes;
 use itoa::Buffer;
@@ -30,6 +30,30 @@ fn put_words(row: &mut Row, words: &[Bytes])
 {
     for word in words {
         put_word(row, word);
+    }
+}
+
+/// Appends what is said of the search for a program of this name in a directory.
+fn put_search(row: &mut Row, name: &[u8], directory: &[u8])
+    ensures { (text : List ℕ) → IsShowing 396 row.old.line.items row.old.is_cut text
+        → IsShowing 396 row.new.line.items row.new.is_cut
+        (text ++ search_text name.now directory.now) }
+{
+    put(row, b" looking for ");
+    put(row, name);
+    put(row, b" in ");
+    put(row, directory);
+}
+
+/// Appends what is said of a command.
+#[tactic(auto, unfolding(crate::specs::Subject::command_text))]
+fn put_command(row: &mut Row, words: &[Bytes])
+    ensures { (text : List ℕ) → IsShowing 396 row.old.line.items row.old.is_cut text
+        → IsShowing 396 row.new.line.items row.new.is_cut (text ++ command_text words.now) }
+{
+    match search_of(words) {
+        Some((name, directory)) => put_search(row, name, directory),
+        None => put_words(row, words),
     }
 }
 
@@ -57,7 +81,7 @@ fn put_child(row: &mut Row, number: u64, job: &Job)
     put(row, digits.format(number).as_bytes());
     put_purpose(row, subject_of_file(&job.file));
     put(row, b":");
-    put_words(row, job.words.as_slice());
+    put_command(row, job.words.as_slice());
 }
 
 /// Returns a line and what ends it.

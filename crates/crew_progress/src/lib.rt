@@ -20,12 +20,13 @@
 //!
 //! The line of a terminal has the number of children that were started, the number that have ended,
 //! and what was started last: the header, function, declaration or type that the conftest tests, or
-//! the words of the command if the conftest's text doesn't tell that. It has at most 79 columns.
-//! While it is written the terminal's wrapping is off, so that it is one line also if the terminal
-//! is narrower. The line of a child has its number, which counts the starts that were refused too,
-//! then what its conftest tests, and its words. It has at most 400 bytes, and ends in three dots if
-//! it is cut. In both each byte that isn't printable ASCII is shown as `\xNN`, so that nothing in
-//! them drives a terminal.
+//! its command if the conftest's text doesn't tell that. It has at most 79 columns. While it is
+//! written the terminal's wrapping is off, so that it is one line also if the terminal is narrower.
+//! The line of a child has its number, which counts the starts that were refused too, then what its
+//! conftest tests, and its command. It has at most 400 bytes, and ends in three dots if it is cut.
+//! A command is shown by its words, but of one that looks for a program both lines say which, and
+//! in which directory: `looking for gcc in /usr/bin`. In both each byte that isn't printable ASCII
+//! is shown as `\xNN`, so that nothing in them drives a terminal.
 //!
 //! "own" marks a rule that no manual gives.
 //!

@@ -111,6 +111,41 @@ pub(crate) fn subject_of_file(file: &Option<(Bytes, Bytes)>) -> Option<(&[u8], &
     }
 }
 
+/// Returns whether the words are a command that looks whether a path is that of a program.
+fn is_search(words: &[Bytes]) -> bool
+    ensures { result ≡ subject.is_search words.now }
+{
+    words.len() == 5
+        && words[0].as_slice() == b"sh".as_slice()
+        && words[1].as_slice() == b"-c".as_slice()
+        && words[2].as_slice() == b"test -f \"$1\" && test -x \"$1\"".as_slice()
+        && words[3].as_slice() == b"sh".as_slice()
+}
+
+/// Returns the name and the directory of a file.
+fn parts_of(path: &[u8]) -> (&[u8], &[u8])
+    ensures name { result.0.now ≡ subject.name_in path.now }
+    ensures directory { result.1.now ≡ subject.directory_in path.now }
+{
+    match memrchr(b'/', path) {
+        Some(at) => (&path[at + 1..], &path[..at]),
+        None => (path, b""),
+    }
+}
+
+/// Returns the name of the program that a command looks for, and the directory in which it looks,
+/// if the command does that.
+#[tactic(auto, unfolding(crate::specs::Subject::search_of))]
+pub(crate) fn search_of(words: &[Bytes]) -> Option<(&[u8], &[u8])>
+    ensures { option_map (λ t. subject.search_text t.0.now t.1.now) result
+        ≡ subject.search_of words.now }
+{
+    if is_search(words) {
+        return Some(parts_of(words[4].as_slice()));
+    }
+    None
+}
+
 /// Appends the bytes that fit.
 fn put_front(line: &mut Line, more: &[u8])
     ensures { (text : List ℕ) → line.old.items ≡ subject.line_front text
@@ -140,6 +175,29 @@ fn command_of(words: &[Bytes]) -> Line
     line
 }
 
+/// Returns what is said of the search for a program of this name in a directory.
+fn searching(name: &[u8], directory: &[u8]) -> Line
+    ensures { result.items ≡ subject.line_front (subject.search_text name.now directory.now) }
+{
+    let mut line = Line::new();
+    put_front(&mut line, b" looking for ");
+    put_front(&mut line, name);
+    put_front(&mut line, b" in ");
+    put_front(&mut line, directory);
+    line
+}
+
+/// Returns what is said of a command.
+#[tactic(auto, unfolding(crate::specs::Subject::command_text))]
+fn command_line(words: &[Bytes]) -> Line
+    ensures { result.items ≡ subject.line_front (subject.command_text words.now) }
+{
+    match search_of(words) {
+        Some((name, directory)) => searching(name, directory),
+        None => command_of(words),
+    }
+}
+
 /// Returns a text and a name, as much of them as a line can show.
 fn joined(kind: &[u8], name: &[u8]) -> Line
     ensures { result.items ≡ subject.line_front (kind.now ++ name.now) }
@@ -151,13 +209,13 @@ fn joined(kind: &[u8], name: &[u8]) -> Line
 }
 
 /// Returns what the line of a terminal says of a job: what its conftest tests if the text shows
-/// that, and otherwise the words of the command.
+/// that, and otherwise its command.
 #[tactic(auto, unfolding(crate::specs::Subject::subject_of))]
 pub(crate) fn subject_of(job: &Job) -> Line
     ensures { result.items ≡ subject.subject_of job.now }
 {
     match subject_of_file(&job.file) {
         Some((kind, name)) => joined(kind, name),
-        None => command_of(job.words.as_slice()),
+        None => command_line(job.words.as_slice()),
     }
 }

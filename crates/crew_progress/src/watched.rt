@@ -20,7 +20,7 @@ use std::marker::Model;
 
 /// A crew that shows its children on a stream (own): in the line of a terminal, which says how many
 /// were started, how many have ended and what was started last, or in a line of its own for each
-/// that is started, which has its number and its words.
+/// that is started, which has its number and its command.
 ///
 /// Each line is one write. If a write fails, no further one is tried. What a call returns never
 /// depends on it.

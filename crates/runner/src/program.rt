@@ -21,7 +21,7 @@ ghost use Rattle.cmd_why.specs.Why.{IsWhy};
 use crate::inputs::run_filter;
 use cmd_call::{FAULT, ProgramCall, Terminal, call_of, tell_usage};
 use cmd_configure::{run_configure, run_recheck};
-use cmd_explain::{asks_why, explain_usage};
+use cmd_explain::{asks_why, explain_help, explain_usage};
 use cmd_help::{run_help, run_version};
 use cmd_lint::{may_colour, run_lint};
 use cmd_port::run_port;
@@ -96,7 +96,11 @@ fn explain<D: Disk, R: Read, W: Write, E: Write>(
     let output = &mut terminal.output;
     let errors = &mut terminal.errors;
     match call_of(words) {
-        ProgramCall::Help(words) => run_help(words, output, errors),
+        ProgramCall::Help(words) => {
+            let status = run_help(words, output, errors);
+            explain_help(alloc, terminal.is_asked, status, words, errors);
+            status
+        }
         ProgramCall::Version => run_version(output, errors),
         ProgramCall::Why(words) => run_why(alloc, disk, words, output, errors),
         ProgramCall::Port(words) => run_port(alloc, disk, words, input, output, errors),

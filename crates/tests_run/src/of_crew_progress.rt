@@ -138,6 +138,9 @@ on|1|cc|0:|oldest|second struct stat =>  0:0:;^M^[[K^[[?7l1 started, 0 ended: ty
 on|1|cc|0:|oldest|program return f (); =>  0:0:;^M^[[K^[[?7l1 started, 0 ended: function f^[[?7h^M^[[K
 on|1|cc|0:|oldest|program return !alloca (1); =>  0:0:;^M^[[K^[[?7l1 started, 0 ended: cc^[[?7h^M^[[K
 on|1|cc|0:|oldest|header ^[[2J =>  0:0:;^M^[[K^[[?7l1 started, 0 ended: header \\x1b[2J^[[?7h^M^[[K
+// A command that looks for a program says which, and in which directory.
+on|1|sh,-c,test -f \"$1\" && test -x \"$1\",sh,/usr/bin/gcc|0:|oldest =>  0:0:;^M^[[K^[[?7l1 started, 0 ended: looking for gcc in /usr/bin^[[?7h^M^[[K
+on|1|sh,-c,test -f \"$1\" && test -x \"$1\",sh,/a/0123456789012345678901234567890123456789/0123456789012|0:|oldest =>  0:0:;^M^[[K^[[?7l1 started, 0 ended: looking for 0123456789012 in /a/012345678901234567890123456^[[?7h^M^[[K
 // Nothing is shown, and a write that fails changes nothing.
 off|2|true|0: 1:|oldest =>  0:0: 1:1:;
 fails line|2|true|0: 1:|oldest =>  0:0: 1:1:;
@@ -149,6 +152,16 @@ lines|3|true|0: 1:x 256:|youngest =>  2:256: 1:1:x 0:0:;acrun: child 1: true^Jac
 lines|1|cc|0:|oldest|declaration strlcpy =>  0:0:;acrun: child 1, declaration strlcpy: cc^J
 lines|1|cc|0:|oldest|second struct stat =>  0:0:;acrun: child 1, type struct stat: cc^J
 lines|1|cc|0:|oldest|program return !alloca (1); =>  0:0:;acrun: child 1: cc^J
+// A command that looks for a program says which, and in which directory. No other command does.
+lines|1|sh,-c,test -f \"$1\" && test -x \"$1\",sh,/usr/bin/gcc|0:|oldest =>  0:0:;acrun: child 1: looking for gcc in /usr/bin^J
+lines|1|sh,-c,test -f \"$1\" && test -x \"$1\",sh,//gcc|0:|oldest =>  0:0:;acrun: child 1: looking for gcc in /^J
+lines|1|sh,-c,test -f \"$1\" && test -x \"$1\",sh,/a b/^[[2J|0:|oldest =>  0:0:;acrun: child 1: looking for \\x1b[2J in /a b^J
+lines|1|sh,-c,test -f \"$1\" && test -x \"$1\",sh|0:|oldest =>  0:0:;acrun: child 1: sh -c test -f \"$1\" && test -x \"$1\" sh^J
+lines|1|sh,-c,test -f \"$1\" && test -x \"$1\",sh,/bin/a,b|0:|oldest =>  0:0:;acrun: child 1: sh -c test -f \"$1\" && test -x \"$1\" sh /bin/a b^J
+lines|1|sh,-c,test -f \"$1\" && test -x \"$1\",bash,/bin/a|0:|oldest =>  0:0:;acrun: child 1: sh -c test -f \"$1\" && test -x \"$1\" bash /bin/a^J
+lines|1|sh,-c,test -f \"$1\",sh,/bin/a|0:|oldest =>  0:0:;acrun: child 1: sh -c test -f \"$1\" sh /bin/a^J
+lines|1|sh,-x,test -f \"$1\" && test -x \"$1\",sh,/bin/a|0:|oldest =>  0:0:;acrun: child 1: sh -x test -f \"$1\" && test -x \"$1\" sh /bin/a^J
+lines|1|dash,-c,test -f \"$1\" && test -x \"$1\",sh,/bin/a|0:|oldest =>  0:0:;acrun: child 1: dash -c test -f \"$1\" && test -x \"$1\" sh /bin/a^J
 // A start that is refused has a number, and no line.
 lines|3|true|S 0: E|oldest =>  0:S 1:0: 2:E;acrun: child 2: true^Jacrun: child 3: true^J
 lines|3|true|0: S E|oldest =>  1:S 0:0: 2:E;acrun: child 1: true^Jacrun: child 3: true^J

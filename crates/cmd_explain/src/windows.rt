@@ -1,0 +1,58 @@
+//! A number of children that is not from 1 to 16.
+
+use crate::lines::put_words;
+use deftable::Bytes;
+use std::alloc::{AllocError, Global};
+use std::io::Write;
+
+/// Returns the digits of a word `-jDIGITS`, if it is one and the first isn't 0 before another.
+fn digits_of(word: &[u8]) -> Option<&[u8]> {
+    let digits = word.strip_prefix(b"-j")?;
+    if digits.is_empty() || !digits.iter().all(|byte| byte.is_ascii_digit()) {
+        return None;
+    }
+    if digits.len() > 1 && digits.starts_with(b"0") {
+        return None;
+    }
+    Some(digits)
+}
+
+/// Returns whether the digits are those of a number from 1 to 16.
+fn is_window(digits: &[u8]) -> bool {
+    match digits {
+        [one] => *one != b'0',
+        [b'1', two] => *two <= b'6',
+        _ => false,
+    }
+}
+
+/// Returns that a number of children is not from 1 to 16.
+fn window_words(alloc: Global, digits: &[u8]) -> Result<Bytes, AllocError> {
+    let end = if digits == b"0".as_slice() {
+        b" is too few: -j takes 1 to 16".as_slice()
+    } else {
+        b" is too many: -j takes 1 to 16".as_slice()
+    };
+    Bytes::concat(alloc, &[digits, end])
+}
+
+/// Says that the number of children that the first word gives is not from 1 to 16, if it is not.
+/// Returns whether it said that.
+pub(crate) fn put_window<E: Write>(alloc: Global, words: &[Bytes], errors: &mut E) -> bool {
+    let Some(word) = words.first() else {
+        return false;
+    };
+    let Some(digits) = digits_of(word.as_slice()) else {
+        return false;
+    };
+    if is_window(digits) {
+        return false;
+    }
+    match window_words(alloc, digits) {
+        Ok(words) => {
+            put_words(alloc, words.as_slice(), errors);
+            true
+        }
+        Err(_) => false,
+    }
+}
