@@ -20,10 +20,13 @@ BEGIN, END = "tools/lint_codes.py writes what follows", "up to here"
 PAGE, MANUAL = ROOT / "docs/running.md", ROOT / "share/acrun.1"
 
 
+SEVERITIES = {"error": "error", "warning": "warning", "difference": "warning, difference"}
+
+
 def warnings():
-    """Returns the codes that are keys, each with whether it is an error and with what it says."""
+    """Returns the codes that are keys, each with its severity and with what it says."""
     found = (entry for entry in word_table.entries().values() if entry.severity)
-    return {entry.key: (entry.severity == "error", word_table.shown(entry)) for entry in found}
+    return {entry.key: (entry.severity, word_table.shown(entry)) for entry in found}
 
 
 def faults(front=""):
@@ -45,27 +48,27 @@ def faults(front=""):
 
 
 def rows():
-    """Returns the rows of the list: a code, whether it is an error, and what it says."""
-    made = [(f"parse-{number}", True, re.sub(r"^[A-Z](?=[a-z]* )", lambda it: it[0].lower(), text)) for number, text in faults()]
-    others = sorted(warnings().items(), key=lambda row: (not row[1][0], row[0]))
-    return made + [(code, is_error, text) for code, (is_error, text) in others]
+    """Returns the rows of the list: a code, its severity, and what it says."""
+    made = [(f"parse-{number}", "error", re.sub(r"^[A-Z](?=[a-z]* )", lambda it: it[0].lower(), text)) for number, text in faults()]
+    others = sorted(warnings().items(), key=lambda row: (row[1][0] != "error", row[0]))
+    return made + [(code, severity, text) for code, (severity, text) in others]
 
 
 def table():
     """Returns the list for docs/running.md."""
-    lines = [f"| `{code}` | {'error' if is_error else 'warning'} | {text.replace('|', chr(92) + '|')} |"
-             for code, is_error, text in rows()]
+    lines = [f"| `{code}` | {SEVERITIES[severity]} | {text.replace('|', chr(92) + '|')} |" for code, severity, text in rows()]
     return "\n".join(["", "| Code | Severity | What it says |", "|---|---|---|", *lines, "", ""])
 
 
 def roff():
     """Returns the list for share/acrun.1."""
-    lines = ["The errors are:"]
-    for is_error in (True, False):
-        if not is_error:
-            lines += [".PP", "The warnings are:"]
-        for code, wrong, text in rows():
-            if wrong == is_error:
+    heads = {"error": "The errors are:", "warning": "The warnings are:",
+             "difference": "The warnings that something means another thing to Autoconf are:"}
+    lines = []
+    for wanted, head in heads.items():
+        lines += [".PP", head] if lines else [head]
+        for code, severity, text in rows():
+            if severity == wanted:
                 text = text.replace("\\", "\\e").replace("-", "\\-").replace("`", "\\(ga").replace("^", "\\(ha")
                 lines += [".TP", f".B {code}".replace("-", "\\-"), text]
     return "\n".join(["", *lines, ""])

@@ -1,7 +1,7 @@
 #!/usr/bin/env python3
 """Writes the crate lint_table's keys from crates/lint_table/words.txt, which has what acrun says of errors and warnings.
 
-    tools/word_table.py            writes crates/lint_table/src/keys.rt
+    tools/word_table.py            writes crates/lint_table/src/keys.rt and crates/lint_table/specs/Differences.antt
     tools/word_table.py --check    prints what is wrong with the words and with the calls that name them, and then exits with status 1
     tools/word_table.py --show     prints each key with its message and its help, as a reader sees them
 
@@ -10,8 +10,12 @@ A line of the file that begins with a letter is a key, with the names of its pla
     : TEXT           the message, in one line
     error: TEXT      the message of an error that lint finds, whose code is the key
     warning: TEXT    the message of a warning that lint finds, whose code is the key
+    difference: TEXT the same, of a warning that something means another thing to Autoconf, which port prints too
         TEXT         a line of help, after four blanks
     = KEY            the help is that of another key
+
+A warning whose message says what Autoconf does is a difference. A line of help has at most 68 characters if it is the first, and 70
+otherwise, so that what lint prints has at most 79 columns, except where a place is filled with more.
 
 In a text `%1`, `%2` and `%3` are the places of the first name, the second and the third, and `%%` is a percent sign. A place is filled with
 a part, which the program finds. An empty line or one that begins with `#` is no part of an entry.
@@ -33,6 +37,14 @@ import macro_table
 ROOT = pathlib.Path(__file__).resolve().parent.parent
 CRATES = ROOT / "crates"
 WORDS, KEYS = CRATES / "lint_table/words.txt", CRATES / "lint_table/src/keys.rt"
+# The definition of which warnings are differences.
+DIFFERENCES = CRATES / "lint_table/specs/Differences.antt"
+# The forms of calls: the file that has them for the program, and the document that explains them.
+FORMS, LANGUAGE = CRATES / "lint_words/src/forms.rt", ROOT / "docs/language.md"
+# What isn't plain English, or names what a user doesn't have: "is no X" is "is not a X", and "is not read" is "is not supported".
+HARD = re.compile(r"(?<!there )\b(?:is|are) no \w+|\b(?:is|are) not read\b|\bby itself\b|\banew\b|\bfaults?\b|\bpieces?\b|\bwindows?\b|docs/\w+")
+# The most characters of the first line of a help, and of the others.
+MOST_FIRST, MOST = 68, 70
 PLACE = re.compile(r"%(.)")
 # The crates with tables of macros, and the file that names the variables of AC_INIT.
 LINT = ("lint_errors", "lint_templates", "lint_warnings", "lint_words")
@@ -66,7 +78,7 @@ def entries():
             if key in found:
                 sys.exit(f"{WORDS}:{number}: {key} is there twice")
             entry = found[key] = Entry(key, places)
-        elif entry and sign in (":", "error:", "warning:") and not entry.message:
+        elif entry and sign in (":", "error:", "warning:", "difference:") and not entry.message:
             entry.message, entry.severity = text, sign[:-1] or None
         elif entry and sign == "=" and not entry.same:
             entry.same = text
@@ -96,6 +108,13 @@ def wrong_words():
             yield f"{entry.key}: a place has no name, or there are more than three"
         if allowed - used and not is_of_group(entry):
             yield f"{entry.key}: a name has no place"
+        for number, line in enumerate(entry.lines):
+            if len(line) > (MOST if number else MOST_FIRST):
+                yield f"{entry.key}: a line of help has {len(line)} characters: {line}"
+        for it in HARD.finditer(text):
+            yield f"{entry.key}: it says: {it[0]}"
+        if entry.severity == "warning" and "Autoconf" in entry.message:
+            yield f"{entry.key}: its message says what Autoconf does, so it is a difference"
         if not re.fullmatch(r"[ -~\n]*", text) or "%" in PLACE.sub("", text):
             yield f"{entry.key}: a text has printable ASCII alone, and a `%` before a place or another `%`"
 
@@ -121,12 +140,35 @@ def literal(text):
     return 'b"%s"' % re.sub(r'[\x01-\x03\n"\\]', lambda it: {"\n": "\\n", '"': '\\"', "\\": "\\\\"}.get(it[0], f"\\x0{ord(it[0])}"), text)
 
 
+def differing():
+    """Returns the codes of the warnings that are differences."""
+    return [entry.key for entry in entries().values() if entry.severity == "difference"]
+
+
+def text_of_definition():
+    """Returns the file that defines which warnings are differences."""
+    names = " ∷ ".join(f'codes "{key}"' for key in differing())
+    return ("-- The warnings that something means another thing to Autoconf. tools/word_table.py writes this file from words.txt, where they have a\n"
+            "-- mark of their own.\n"
+            "use Rattle.std.specs.Prelude.{ℕ, List, [], ◌∷◌, Bool, bytes_eq, codes}\n"
+            "use Rattle.std.specs.List.{list_any}\n\n"
+            "-- Their codes.\n"
+            "abbrev pub differences : List (List ℕ)\n"
+            f"differences = {names} ∷ []\n\n"
+            "-- The code is that of a warning that something means another thing to Autoconf.\n"
+            "unfoldable pub is_difference : List ℕ → Bool\n"
+            "is_difference code = list_any (λ other. bytes_eq other code) differences\n")
+
+
 def text_of_crate():
-    """Returns the crate's file: a constant for each key, with its texts."""
+    """Returns the crate's file: a constant for each key, with its texts, and the list of differences."""
     rows = "".join(
         f"\n/// {shown(entry)}\n#[rattlefmt::skip]\npub const {entry.constant()}: Key = Key({', '.join(map(literal, (entry.key, entry.message, help_of(entry))))});\n"
         for entry in entries().values())
-    return f"//! What is said. `tools/word_table.py` writes this file from `words.txt`.\n\nuse crate::key::Key;\n{rows}"
+    names = "".join(f'\n    b"{key}",' for key in differing())
+    listed = (f"\n/// The codes of the warnings that something means another thing to Autoconf.\n#[rattlefmt::skip]\n"
+              f"pub(crate) const DIFFERENCES: [&[u8]; {len(differing())}] = [{names}\n];\n")
+    return f"//! What is said. `tools/word_table.py` writes this file from `words.txt`.\n\nuse crate::key::Key;\n{rows}{listed}"
 
 
 def without_comments(text):
@@ -198,6 +240,17 @@ def unknown_macros():
             yield f"{file.relative_to(ROOT)} names {name}, which is no macro"
 
 
+def wrong_forms():
+    """Yields a line for each macro that is read and has no form, or another one than docs/language.md has."""
+    forms = {re.match(r"\w+", form)[0]: form for form in re.findall(r'b"(\w+\([^"]*)"', FORMS.read_text())}
+    lines = {*re.findall(r"(?m)^    (.+)$", LANGUAGE.read_text())}
+    for name in sorted(macro_table.profile() - {*forms} - {"AC_OUTPUT", "AC_INCLUDES_DEFAULT"}):
+        yield f"{FORMS.relative_to(ROOT)} has no form of {name}"
+    for name, form in forms.items():
+        if form not in lines:
+            yield f"{FORMS.relative_to(ROOT)}: docs/language.md has no line {form}"
+
+
 def differences():
     """Yields a line for each thing that is wrong with the words or with a call, and for the crate's file if it is old."""
     wrong = [*wrong_words()]
@@ -206,8 +259,10 @@ def differences():
         return
     yield from wrong_calls()
     yield from unknown_macros()
-    if not KEYS.exists() or KEYS.read_text() != text_of_crate():
-        yield f"{KEYS.relative_to(ROOT)} is not what tools/word_table.py writes"
+    yield from wrong_forms()
+    for file, text in ((KEYS, text_of_crate()), (DIFFERENCES, text_of_definition())):
+        if not file.exists() or file.read_text() != text:
+            yield f"{file.relative_to(ROOT)} is not what tools/word_table.py writes"
 
 
 def main(words):
@@ -224,6 +279,7 @@ def main(words):
     print("".join(f"{line}\n" for line in wrong), end="")
     if not wrong:
         KEYS.write_text(text_of_crate())
+        DIFFERENCES.write_text(text_of_definition())
     return int(bool(wrong))
 
 

@@ -1,3 +1,4 @@
 pub mod Lost
 pub mod Paths
+pub mod Printed
 pub mod Statuses

@@ -1,2 +1,3 @@
+pub mod Differing
 pub mod Missing
 pub mod Status

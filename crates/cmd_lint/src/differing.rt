@@ -1,45 +1,64 @@
 //! The warnings of a source that say what Autoconf makes of it.
 
+ghost use Rattle.std.specs.Prelude.{true, IfOk, OnOk};
+ghost use Rattle.cmd_lint.specs.Differing as specs;
+ghost use Rattle.lint_table.specs.Differences.{is_difference};
+
 use crate::findings::warnings_in;
 use crate::reading::Linted;
+use crate::sheets::Sheets;
 use crate::showing::{PLAIN, shown};
 use file_disk::Disk;
 use lint_findings::Finding;
+use lint_table::is_difference;
 use std::alloc::{AllocError, Global};
 
-/// The codes of warnings that something means another thing to Autoconf.
-const CODES: [&[u8]; 21] = [
-    b"backslash-in-message",
-    b"blank-before-comma",
-    b"quote-in-value",
-    b"list-on-lines",
-    b"ampersand-in-output",
-    b"hash-in-message",
-    b"comma-in-name",
-    b"library-main",
-    b"dnl-action",
-    b"empty-quotes",
-    b"blank-in-name",
-    b"empty-value",
-    b"empty-case",
-    b"semicolon-after-call",
-    b"login-shell",
-    b"script-variable",
-    b"tilde",
-    b"dollar-quote",
-    b"fewer-includes",
-    b"macro-in-text",
-    b"no-datarootdir",
-];
+/// Appends a finding as it is shown.
+fn put_shown(
+    alloc: Global,
+    linted: &Linted,
+    sheets: &Sheets,
+    finding: &Finding,
+    page: &mut Vec<u8>,
+) -> Result<(), AllocError>
+    ensures { OnOk result (specs.IsAdded true page.old.items page.new.items) }
+{
+    let text = shown(alloc, PLAIN, linted, sheets, finding)?;
+    page.extend_from_slice(text.as_slice())
+}
 
-/// How the help begins of a warning that nothing defines a name, if it is that of a header that
-/// Autoconf checks by itself.
-const DEFAULT_HEADERS: &[u8] = b"Autoconf checks its default headers";
+/// Appends a finding as it is shown, if it is a difference.
+fn put_difference(
+    alloc: Global,
+    linted: &Linted,
+    sheets: &Sheets,
+    finding: &Finding,
+    page: &mut Vec<u8>,
+) -> Result<(), AllocError>
+    ensures { OnOk result (
+        specs.IsAdded (is_difference finding.now.code) page.old.items page.new.items) }
+{
+    if is_difference(finding.code.as_slice()) {
+        put_shown(alloc, linted, sheets, finding, page)
+    } else {
+        Ok(())
+    }
+}
 
-/// Returns whether a warning says that something means another thing to Autoconf.
-fn is_difference(finding: &Finding) -> bool {
-    let code = finding.code.as_slice();
-    CODES.iter().any(|other| *other == code) || finding.help.as_slice().starts_with(DEFAULT_HEADERS)
+/// Returns the page of the differences among findings.
+fn page_of_differences(
+    alloc: Global,
+    linted: &Linted,
+    sheets: &Sheets,
+    found: &[Finding],
+) -> Result<Vec<u8>, AllocError>
+    ensures { IfOk result (λ page. specs.ArePrinted found.now page.items) }
+{
+    let mut page = Vec::new(alloc);
+    'findings: for finding in found {
+        put_difference(alloc, linted, sheets, finding, &mut page)?;
+    }
+    Ok(page)
 }
 
 /// Returns the warnings about a source and its templates that say that something means another
@@ -49,18 +68,16 @@ fn is_difference(finding: &Finding) -> bool {
 /// # Errors
 ///
 /// Fails only if memory runs out.
+#[tactic(auto, using(crate::proofs::Printed::page_of))]
 pub fn differences_of<D: Disk>(
     alloc: Global,
     disk: &D,
     linted: &Linted,
-) -> Result<Vec<u8>, AllocError> {
+) -> Result<Vec<u8>, AllocError>
+    // The page has a text for each such warning, and nothing of the others.
+    ensures { IfOk result (λ page. specs.IsPage page.items) }
+{
     let found = warnings_in(alloc, disk, linted)?;
-    let mut page = Vec::new(alloc);
-    for finding in &found.findings {
-        if is_difference(finding) {
-            let text = shown(alloc, PLAIN, linted, &found.sheets, finding)?;
-            page.extend_from_slice(text.as_slice())?;
-        }
-    }
+    let page = page_of_differences(alloc, linted, &found.sheets, found.findings.as_slice())?;
     Ok(page)
 }

@@ -1,6 +1,8 @@
 //! What is found in a source: its errors, the templates that are not there, and the warnings.
 
 ghost use Rattle.std.specs.Prelude.{option_map, Some, IfOk};
+ghost use Rattle.std.specs.List.Sorted.{IsSorted};
+ghost use Rattle.lint_findings.specs.Order.{place_cmp};
 ghost use Rattle.cmd_lint.specs.Missing as specs;
 ghost use Rattle.cmd_lint.specs.Status.{HasError};
 ghost use Rattle.ac_tree.specs.Script.{script_of};
@@ -147,7 +149,9 @@ pub(crate) fn warnings_in<D: Disk>(
     alloc: Global,
     disk: &D,
     linted: &Linted,
-) -> Result<Warnings, AllocError> {
+) -> Result<Warnings, AllocError>
+    ensures { IfOk result (λ warnings. IsSorted place_cmp warnings.findings.items) }
+{
     let text = linted.text.as_slice();
     let mut found = Vec::new(alloc);
     let source = parsed(alloc, text)?;

@@ -47,12 +47,23 @@ fn directory_of(path: &[u8]) -> &[u8]
     }
 }
 
+/// Returns a path as it is shown: with one slash in place of several.
+pub(crate) fn shown_path(alloc: Global, path: &[u8]) -> Result<Bytes, AllocError> {
+    let mut out = Vec::new(alloc);
+    for byte in path {
+        if *byte != b'/' || out.last() != Some(&b'/') {
+            out.push(*byte)?;
+        }
+    }
+    Ok(Bytes::from_vec(out))
+}
+
 /// Returns a source with this text, at a path.
 fn source_at(alloc: Global, path: &[u8], text: Bytes) -> Result<Linted, AllocError>
     ensures text { IfOk result (λ l. l.text ≡ text) }
     ensures directory { IfOk result (λ l. l.directory ≡ specs.directory_of path.now) }
 {
-    let name = Bytes::from_slice(alloc, path)?;
+    let name = shown_path(alloc, path)?;
     let directory = Bytes::from_slice(alloc, directory_of(path))?;
     Ok(Linted {
         name,

@@ -1,5 +1,6 @@
 //! The templates of a source, as they are read for warnings.
 
+use crate::reading::shown_path;
 use ac_tree::Source;
 use deftable::Bytes;
 use file_texts::path_in;
@@ -99,7 +100,8 @@ fn sheets_in(
 ) -> Result<Vec<Sheet>, AllocError> {
     let mut sheets = Vec::new(alloc);
     for (name, text) in templates {
-        let name = path_in(alloc, directory, name.as_slice())?;
+        let path = path_in(alloc, directory, name.as_slice())?;
+        let name = shown_path(alloc, path.as_slice())?;
         sheets.push(Sheet { name, text })?;
     }
     Ok(sheets)

@@ -6,7 +6,7 @@ ghost use Rattle.cmd_lint.specs.Missing as specs;
 ghost use Rattle.cmd_lint.specs.Status.{outputs_of};
 ghost use Rattle.ac_tree.specs.Script.{script_of};
 
-use crate::reading::Linted;
+use crate::reading::{Linted, shown_path};
 use ac_calls::CallAt;
 use ac_tree::Source;
 use acparse::{ParseFault, parse};
@@ -47,7 +47,8 @@ fn place_of(text: &[u8], name: &[u8]) -> usize {
 /// source.
 fn missing(alloc: Global, text: &[u8], name: &[u8], path: &[u8]) -> Result<Finding, AllocError> {
     let mut page = Page::new(alloc);
-    page.put(keys::TEMPLATE, &[WordPart::AsItIs(path)]);
+    let shown = shown_path(alloc, path)?;
+    page.put(keys::TEMPLATE, &[WordPart::AsItIs(shown.as_slice())]);
     let code = Bytes::from_slice(alloc, keys::TEMPLATE.name())?;
     let start = place_of(text, name);
     let end = start.saturating_add(name.len()).min(text.len());
@@ -201,8 +202,12 @@ pub(crate) fn add_lost_of_calls<D: Disk>(
     calls: &[CallAt],
     found: &mut Vec<Finding>,
 ) -> Result<(), AllocError> {
+    let mut lost = Vec::new(alloc);
     for call in calls {
-        add_lost_of_call(alloc, disk, linted, call, found)?;
+        add_lost_of_call(alloc, disk, linted, call, &mut lost)?;
     }
-    Ok(())
+    // A file that is named twice is looked for once.
+    lost.sort_by_key(|error| error.start)?;
+    lost.dedup_by_key(|error| error.start);
+    found.append(&mut lost)
 }

@@ -5,7 +5,9 @@ use ac_calls::CallAt;
 use ac_tree::Source;
 use deftable::SubstList;
 use lint_findings::Finding;
-use lint_templates::{Given, add_listed, warn_of_file, warn_of_header, warn_of_unlisted};
+use lint_templates::{
+    Given, add_listed, warn_of_file, warn_of_header, warn_of_outputs, warn_of_unlisted,
+};
 use lint_warnings::{warn_of_compiler, warn_of_source};
 use std::alloc::{AllocError, Global};
 
@@ -79,6 +81,7 @@ pub(crate) fn add_warnings(
     let given = Given::of(alloc, source)?;
     warn_of_source(alloc, text, calls, source, found)?;
     warn_of_compiler(alloc, text, calls, found)?;
+    warn_of_outputs(alloc, text, source, found)?;
     add_of_sheets(alloc, &given, sheets, found)?;
     add_unlisted(alloc, &given, text, sheets, found)
 }

@@ -4,7 +4,9 @@ ghost use Rattle.std.specs.Prelude.{length, All, IfOk, OnOk};
 ghost use Rattle.lint_all.specs.Found as specs;
 
 use lint_findings::Finding;
-use lint_text::{after_blanks, before, first_line, first_name, from, without_end_blanks};
+use lint_text::{
+    after_blanks, before, first_line, first_name, from, is_word_byte, without_end_blanks,
+};
 use std::alloc::{AllocError, Global};
 use std::collections::BTreeSet;
 
@@ -13,6 +15,9 @@ type Seen = BTreeSet<Vec<u8>>;
 
 /// The words of the shell that go on with a construct or end it.
 const CONTINUING: [&[u8]; 6] = [b"then", b"else", b"fi", b"do", b"done", b"esac"];
+
+/// The words of the shell that begin a construct.
+const BEGINNING: [&[u8]; 6] = [b"if", b"elif", b"while", b"until", b"for", b"case"];
 
 /// The mark that a file of another system may begin with.
 const MARK: &[u8] = b"\xEF\xBB\xBF";
@@ -39,13 +44,53 @@ fn has_patterns(line: &[u8]) -> bool {
     }
 }
 
+/// Returns whether a part of a line leads to the body of a construct.
+fn leads(part: &[u8]) -> bool {
+    let name = first_name(after_blanks(part));
+    name == b"then".as_slice() || name == b"do".as_slice()
+}
+
+/// Returns whether a line ends the condition of a construct that began on a line before.
+fn ends_condition(line: &[u8]) -> bool {
+    let name = first_name(line);
+    !BEGINNING.iter().any(|other| *other == name)
+        && line.split(|byte| *byte == b';').skip(1).any(leads)
+}
+
 /// Returns whether text goes on with a construct of the shell or ends it, begins with the patterns
 /// of a `case`, or is the value of a variable whose name is read as that of a macro.
 fn continues(rest: &[u8]) -> bool {
     let name = first_name(rest);
     rest.starts_with(b"=")
         || has_patterns(first_line(rest))
+        || ends_condition(first_line(rest))
         || CONTINUING.iter().any(|other| *other == name)
+}
+
+/// Returns what is on the line of an offset before it.
+fn line_before(text: &[u8], at: usize) -> &[u8] {
+    let front = before(text, at);
+    match front.iter().rposition(|byte| *byte == b'\n') {
+        Some(newline) => from(front, newline.saturating_add(1)),
+        None => front,
+    }
+}
+
+/// Returns whether text is after a variable whose name is read as that of a macro.
+fn follows_variable(text: &[u8], at: usize) -> bool {
+    let front = without_end_blanks(line_before(text, at));
+    let len = front
+        .iter()
+        .rev()
+        .take_while(|byte| is_word_byte(**byte))
+        .count();
+    let sign = before(front, front.len().saturating_sub(len));
+    len > 0 && (sign.ends_with(b"$") || sign.ends_with(b"${"))
+}
+
+/// Returns whether text is a parenthesis after one that closes a call.
+fn is_surplus_close(text: &[u8], at: usize) -> bool {
+    from(text, at).starts_with(b")") && without_end_blanks(line_before(text, at)).ends_with(b")")
 }
 
 /// Returns whether an error is of the quotes of a copy, in which something was taken out. Those of
@@ -54,11 +99,25 @@ fn is_of_quotes(error: &Finding) -> bool {
     error.code.as_slice().starts_with(b"parse-1.")
 }
 
+/// Returns whether an error is of a word of a shell.
+fn is_of_word(error: &Finding) -> bool {
+    error.code.as_slice().starts_with(b"parse-6.")
+}
+
 /// Returns whether an error is of text that another error is about too: that of the construct which
-/// the text goes on with or ends, or that something is before AC_INIT.
-fn is_continuing(text: &[u8], error: &Finding) -> bool {
+/// the text goes on with or ends, that a parenthesis is too many after a call, or that the file
+/// begins with a mark.
+fn is_of_other(text: &[u8], error: &Finding) -> bool {
     let rest = from(text, error.start);
-    is_of_quotes(error) || is_of_text(error) && (rest.starts_with(MARK) || continues(rest))
+    rest.starts_with(MARK) || continues(rest) || is_surplus_close(text, error.start)
+}
+
+/// Returns whether another error is about the text of an error too. That of a variable whose name is
+/// read as that of a macro is about the rest of its line.
+fn is_continuing(text: &[u8], error: &Finding) -> bool {
+    is_of_quotes(error)
+        || is_of_text(error) && is_of_other(text, error)
+        || (is_of_text(error) || is_of_word(error)) && follows_variable(text, error.start)
 }
 
 /// Returns the place and the code of an error. In a file with the line ends of another system each

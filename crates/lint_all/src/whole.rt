@@ -153,8 +153,8 @@ fn with_others(alloc: Global, text: &[u8], errors: Vec<Finding>) -> Result<Vec<F
 /// statement has several, one may hide another. If the quotes of the source have an error, that is
 /// the only one.
 ///
-/// An error of a word such as `fi`, which goes on with a construct of the shell or ends it, is
-/// there only if it is one of [`errors_of`].
+/// An error of text that another error is about too, such as a word `fi`, which ends a construct of
+/// the shell, is there only if it is one of [`errors_of`].
 ///
 /// # Errors
 ///

@@ -1,2 +1,3 @@
 mod Acceptance
+mod Places
 mod Turns

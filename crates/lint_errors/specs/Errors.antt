@@ -45,10 +45,11 @@ offset_of len (parse.TooMany at) = at
 offset_of len (parse.NewerVersion at) = at
 offset_of len parse.OutOfMemory = 0
 
--- The fault may be one of text between calls, and its offset is then that of the text.
+-- The fault may be one of text between calls, and its offset is then that of the text. If AC_INIT is missing, it is what is in its place.
 abbrev pub may_be_of_text : ParseFault → Bool
 may_be_of_text (parse.UnknownStatement at) = true
 may_be_of_text (parse.Shell f at) = true
+may_be_of_text parse.NoInit = true
 may_be_of_text (parse.AfterOutput at) = true
 may_be_of_text _ = false
 

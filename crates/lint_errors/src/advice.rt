@@ -7,8 +7,8 @@ use ac_calls::{CallAt, Extent};
 use deftable::Bytes;
 use lint_findings::Finding;
 use lint_macros::{Index, MacroEntry, MacroKind, entry_name, fill, takes_list};
-use lint_table::{Page, WordPart, keys};
-use lint_text::{before, from, part};
+use lint_table::{Key, Page, WordPart, keys};
+use lint_text::{before, first_line, first_name, from, part};
 use std::alloc::{AllocError, Global};
 
 /// Returns the texts of the arguments.
@@ -81,7 +81,73 @@ fn filled(alloc: Global, entry: MacroEntry, args: &[&[u8]]) -> Result<Vec<u8>, A
     Ok(out)
 }
 
-/// Returns what to write in place of a call.
+/// The macros whose idioms `acrun port` doesn't write, each with the reason.
+#[rattlefmt::skip]
+const LEFT: [(&[u8], Key); 5] = [
+    (b"AX_CHECK_COMPILE_FLAG", keys::FLAG_IN_IDIOM),
+    (b"AX_CHECK_LINK_FLAG", keys::FLAG_IN_IDIOM),
+    (b"AS_VAR_SET", keys::VALUE_IN_IDIOM),
+    (b"AS_VAR_APPEND", keys::VALUE_IN_IDIOM),
+    (b"AS_VAR_IF", keys::VALUE_IN_IDIOM),
+];
+
+/// Returns whether an argument is empty, without the brackets around it.
+fn is_empty(argument: &[u8]) -> bool {
+    argument
+        .iter()
+        .all(|byte| matches!(*byte, b'[' | b']' | b' ' | b'\t' | b'\n'))
+}
+
+/// Returns whether a text after a `$` is a place for the argument of this number, counted from 1, or
+/// for all of them.
+fn is_place(text: &[u8], number: usize) -> bool {
+    match text.first() {
+        Some(b'@') => true,
+        Some(digit) => number < 10 && usize::from(*digit) == number.saturating_add(48),
+        None => false,
+    }
+}
+
+/// Returns whether an idiom has a place for the argument of this number, counted from 1, or for all
+/// of them.
+fn takes(idiom: &[u8], number: usize) -> bool {
+    idiom
+        .split(|byte| *byte == b'$')
+        .any(|rest| is_place(rest, number))
+}
+
+/// Returns the number of the first argument, counted from 1, that isn't empty and for which an idiom
+/// has no place.
+fn surplus_in(idiom: &[u8], args: &[&[u8]]) -> Option<usize> {
+    for (index, argument) in args.iter().enumerate() {
+        let number = index.saturating_add(1);
+        if !is_empty(argument) && !takes(idiom, number) {
+            return Some(number);
+        }
+    }
+    None
+}
+
+/// Writes why `acrun port` doesn't write an idiom in place of a call with these arguments, if that is
+/// known.
+fn put_reason(page: &mut Page, entry: MacroEntry, args: &[&[u8]]) {
+    if let Some(row) = LEFT.iter().find(|row| row.0 == entry.name) {
+        page.put(row.1, &[]);
+    } else if let Some(number) = surplus_in(entry.text, args) {
+        page.put(keys::SURPLUS_IN_IDIOM, &[WordPart::Number(number)]);
+    }
+}
+
+/// Returns why `acrun port` doesn't write an idiom in place of a call with these arguments. If it
+/// isn't known, it is empty.
+fn reason_of(alloc: Global, entry: MacroEntry, args: &[&[u8]]) -> Result<Bytes, AllocError> {
+    let mut page = Page::new(alloc);
+    put_reason(&mut page, entry, args);
+    page.help()
+}
+
+/// Returns what to write in place of a call, and why `acrun port` doesn't write it, if that is
+/// known.
 fn written(
     alloc: Global,
     text: &[u8],
@@ -89,16 +155,27 @@ fn written(
     entry: MacroEntry,
 ) -> Result<Bytes, AllocError> {
     let texts = texts(alloc, text, args)?;
-    let filled = filled(alloc, entry, texts.as_slice())?;
+    let mut filled = filled(alloc, entry, texts.as_slice())?;
+    let reason = reason_of(alloc, entry, texts.as_slice())?;
+    if !reason.is_empty() {
+        filled.push(b'\n')?;
+        filled.extend_from_slice(reason.as_slice())?;
+    }
     let mut page = Page::new(alloc);
     page.put(keys::WRITE_INSTEAD, &[WordPart::AsItIs(filled.as_slice())]);
     page.help()
 }
 
-/// Returns what the table says of a call: an idiom with the call's own arguments, or a line.
-fn said(alloc: Global, text: &[u8], call: &CallAt, entry: MacroEntry) -> Result<Bytes, AllocError> {
+/// Returns what the table says of a call with these arguments: an idiom with the call's own
+/// arguments, or a line.
+fn said(
+    alloc: Global,
+    text: &[u8],
+    args: &[Extent],
+    entry: MacroEntry,
+) -> Result<Bytes, AllocError> {
     match entry.kind {
-        MacroKind::Idiom => written(alloc, text, &call.args, entry),
+        MacroKind::Idiom => written(alloc, text, args, entry),
         MacroKind::Dropped | MacroKind::Missing | MacroKind::Family => Bytes::from_slice(
             alloc, entry.text,
         ),
@@ -131,6 +208,20 @@ fn in_brackets(alloc: Global, text: &[u8], call: &CallAt) -> Result<Bytes, Alloc
     page.help()
 }
 
+/// Macros whose definition is another macro in Autoconf 2.71, each with that one.
+const NEWER: [(&[u8], &[u8]); 2] = [
+    (b"AC_AIX", b"AC_USE_SYSTEM_EXTENSIONS"),
+    (b"AC_MINIX", b"AC_USE_SYSTEM_EXTENSIONS"),
+];
+
+/// Returns the name of the macro that a macro is defined as, or its own.
+fn newer_name(name: &[u8]) -> &[u8] {
+    match NEWER.iter().find(|row| row.0 == name) {
+        Some(row) => row.1,
+        None => name,
+    }
+}
+
 /// Returns what the table of other macros says of a call, if it has the macro.
 fn help_of(
     alloc: Global,
@@ -141,11 +232,56 @@ fn help_of(
     if is_variable(text, call) {
         return in_brackets(alloc, text, call).map(|help| Some(help));
     }
-    let name = part(text, call.start, call.name_end);
+    let name = newer_name(part(text, call.start, call.name_end));
     match index.entry_of(alloc, entry_name(name, call.args.len()))? {
         None => Ok(None),
-        Some(entry) => said(alloc, text, call, entry).map(|help| Some(help)),
+        Some(entry) => said(alloc, text, &call.args, entry).map(|help| Some(help)),
     }
+}
+
+/// Returns the name of the macro that a statement seems to call which is text to m4: a name before a
+/// parenthesis, or one alone on its line. If it seems to call none, the name is empty.
+fn name_in_text(rest: &[u8]) -> &[u8] {
+    let name = first_name(rest);
+    let after = from(rest, name.len());
+    if after.starts_with(b"(") || first_line(after).is_empty() {
+        name
+    } else {
+        b""
+    }
+}
+
+/// Returns what the table of other macros says of a name, without the `_` that it may begin with.
+fn entry_in_text(
+    alloc: Global,
+    index: &Index,
+    name: &[u8],
+) -> Result<Option<MacroEntry>, AllocError> {
+    if name.is_empty() {
+        return Ok(None);
+    }
+    match name {
+        [b'_', rest @ ..] => index.entry_of(alloc, rest),
+        _ => index.entry_of(alloc, name),
+    }
+}
+
+/// Returns the finding of a statement with what the table of other macros says of the macro that it
+/// seems to call, if the table has it. Its arguments are not known.
+pub(crate) fn advised_text(
+    alloc: Global,
+    index: &Index,
+    text: &[u8],
+    finding: Finding,
+) -> Result<Finding, AllocError>
+    ensures shown { IfOk result (λ f. specs.finding_view f ≡ specs.finding_view finding) }
+    ensures end { IfOk result (λ f. f.end ≡ finding.end) }
+{
+    let name = name_in_text(from(text, finding.start));
+    Ok(match entry_in_text(alloc, index, name)? {
+        None => finding,
+        Some(entry) => with_help(finding, said(alloc, text, &[], entry)?),
+    })
 }
 
 /// Returns the finding of a call with what the table of other macros says of it, if it has the

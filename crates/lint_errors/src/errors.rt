@@ -146,7 +146,7 @@ fn find_errors(alloc: Global, text: &[u8]) -> Result<Vec<Finding>, AllocError>
 ///
 /// The place of a fault is its offset: 0 if it has none, and the end of the source if AC_OUTPUT is
 /// missing. In text between calls it is the start of the statement at fault, which is not before
-/// the fault's offset.
+/// the fault's offset. If AC_INIT is missing, it is the first statement that may not be before it.
 pub fn errors_of(alloc: Global, text: &[u8]) -> Result<Vec<Finding>, AllocError>
     // The errors are exactly these.
     ensures exact { IfOk result (λ v. specs.AreErrors text.now (source_of text.now) v.items) }

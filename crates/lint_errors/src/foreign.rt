@@ -5,7 +5,7 @@ ghost use Rattle.std.specs.List.{flat_map};
 ghost use Rattle.ac_calls.specs.Calls.{macro_call_of};
 ghost use Rattle.lint_errors.specs.Errors as specs;
 
-use crate::advice::advised;
+use crate::advice::{advised, advised_text};
 use ac_calls::CallAt;
 use ac_statement::ParseFault;
 use lint_findings::Finding;
@@ -113,6 +113,19 @@ fn call_of(fault: ParseFault, calls: &[CallAt]) -> Option<&CallAt> {
     calls.iter().find(|call| is_unknown_at(fault, call.start))
 }
 
+/// Returns whether a call or an argument of one begins at an offset.
+fn begins_at(call: &CallAt, at: usize) -> bool {
+    call.start == at || call.args.iter().any(|arg| arg.start == at)
+}
+
+/// Returns whether the fault is that text between calls, which is at this offset, is no statement.
+fn is_of_text(fault: ParseFault, at: usize, calls: &[CallAt]) -> bool {
+    match fault {
+        ParseFault::UnknownStatement(_) => !calls.iter().any(|call| begins_at(call, at)),
+        _ => false,
+    }
+}
+
 /// Returns the error of a fault at this place.
 pub(crate) fn fault_finding(
     alloc: Global,
@@ -127,6 +140,7 @@ pub(crate) fn fault_finding(
 {
     let finding = parse_finding(alloc, text, fault, at, calls)?;
     match call_of(fault, calls) {
+        None if is_of_text(fault, at, calls) => advised_text(alloc, index, text, finding),
         None => Ok(finding),
         Some(call) => advised(alloc, index, text, call, finding),
     }

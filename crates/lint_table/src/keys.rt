@@ -10,45 +10,45 @@ pub const UNCLOSED_QUOTE: Key = Key(b"unclosed-quote", b"a quote is open at the 
 #[rattlefmt::skip]
 pub const UNCLOSED_CALL: Key = Key(b"unclosed-call", b"a call is open at the end of the file: the parenthesis of \x01 is not closed", b"close it after the last argument");
 
-/// a `]` closes no quote
+/// this `]` closes no bracket
 #[rattlefmt::skip]
-pub const STRAY_CLOSE: Key = Key(b"stray-close", b"a `]` closes no quote", b"remove it, or open a quote before it; within an argument write [[ and ]] for brackets that stay");
+pub const STRAY_CLOSE: Key = Key(b"stray-close", b"this `]` closes no bracket", b"remove it; in an argument, write [[ and ]] for brackets that stay");
 
 /// there is a NUL byte
 #[rattlefmt::skip]
-pub const NUL_BYTE: Key = Key(b"nul-byte", b"there is a NUL byte", b"a source is text: save it as UTF-8");
+pub const NUL_BYTE: Key = Key(b"nul-byte", b"there is a NUL byte", b"save the file as text, in UTF-8");
 
 /// the file has more than 1,048,576 bytes
 #[rattlefmt::skip]
-pub const SOURCE_TOO_LARGE: Key = Key(b"source-too-large", b"the file has more than 1,048,576 bytes", b"no larger source is read");
+pub const SOURCE_TOO_LARGE: Key = Key(b"source-too-large", b"the file has more than 1,048,576 bytes", b"acrun reads no larger source");
 
 /// more than 64 brackets and parentheses are open at once
 #[rattlefmt::skip]
-pub const TOO_MANY_BRACKETS: Key = Key(b"too-many-brackets", b"more than 64 brackets and parentheses are open at once", b"one of them may be closed nowhere: no call nests so deep");
+pub const TOO_MANY_BRACKETS: Key = Key(b"too-many-brackets", b"more than 64 brackets and parentheses are open at once", b"one of them is probably not closed");
 
 /// acrun does not know the macro MACRO
 #[rattlefmt::skip]
 pub const UNKNOWN_MACRO: Key = Key(b"unknown-macro", b"acrun does not know the macro \x01", b"");
 
-/// NAME is no macro that acrun knows, and no command is run
+/// NAME is not a macro that acrun knows, and acrun runs no commands
 #[rattlefmt::skip]
-pub const NO_MACRO: Key = Key(b"no-macro", b"\x01 is no macro that acrun knows, and no command is run", b"");
+pub const NO_MACRO: Key = Key(b"no-macro", b"\x01 is not a macro that acrun knows, and acrun runs no commands", b"");
 
 /// a macro of a similar name is MACRO
 #[rattlefmt::skip]
 pub const NEAR_MACRO: Key = Key(b"near-macro", b"", b"a macro of a similar name is \x01");
 
-/// a name that begins so is read as that of a macro; write a variable in brackets, as in [$NAME] and [NAME]=VALUE
+/// acrun takes a name that begins so for that of a macro; write a
 #[rattlefmt::skip]
-pub const VARIABLE_IN_BRACKETS: Key = Key(b"variable-in-brackets", b"", b"a name that begins so is read as that of a macro; write a variable in brackets, as in [$\x01] and [\x01]=VALUE");
+pub const VARIABLE_IN_BRACKETS: Key = Key(b"variable-in-brackets", b"", b"acrun takes a name that begins so for that of a macro; write a\nvariable in brackets, as in [$\x01] and [\x01]=VALUE");
 
-/// no table of acrun has it: if the package defines it (aclocal.m4, acinclude.m4, m4/), write here what its definition does
+/// if your package defines it (in m4/), write here what it does
 #[rattlefmt::skip]
-pub const UNLISTED_MACRO: Key = Key(b"unlisted-macro", b"", b"no table of acrun has it: if the package defines it (aclocal.m4, acinclude.m4, m4/), write here what its definition does");
+pub const UNLISTED_MACRO: Key = Key(b"unlisted-macro", b"", b"if your package defines it (in m4/), write here what it does");
 
-/// if the package defines it (aclocal.m4, acinclude.m4, m4/), write here what its definition does
+/// if your package defines it (in m4/), write here what it does
 #[rattlefmt::skip]
-pub const OWN_MACRO: Key = Key(b"own-macro", b"", b"if the package defines it (aclocal.m4, acinclude.m4, m4/), write here what its definition does");
+pub const OWN_MACRO: Key = Key(b"own-macro", b"", b"if your package defines it (in m4/), write here what it does");
 
 /// write $VARIABLE
 #[rattlefmt::skip]
@@ -58,45 +58,61 @@ pub const WRITE_VARIABLE: Key = Key(b"write-variable", b"", b"write $\x01");
 #[rattlefmt::skip]
 pub const WRITE_INSTEAD: Key = Key(b"write-instead", b"", b"write instead\n\x01");
 
-/// MACRO has other text beside it on its line
+/// acrun port leaves this to you, since the text takes nothing of
 #[rattlefmt::skip]
-pub const TEXT_BESIDE_CALL: Key = Key(b"text-beside-call", b"\x01 has other text beside it on its line", b"a call begins and ends its line: put it on a line of its own");
+pub const SURPLUS_IN_IDIOM: Key = Key(b"surplus-in-idiom", b"", b"acrun port leaves this to you, since the text takes nothing of\nargument \x01 of the call");
+
+/// acrun port leaves this to you, since the macro changes no flags:
+#[rattlefmt::skip]
+pub const FLAG_IN_IDIOM: Key = Key(b"flag-in-idiom", b"", b"acrun port leaves this to you, since the macro changes no flags:\nits second argument does, which is not part of this text");
+
+/// acrun port leaves this to you, since a quote or a variable in the
+#[rattlefmt::skip]
+pub const VALUE_IN_IDIOM: Key = Key(b"value-in-idiom", b"", b"acrun port leaves this to you, since a quote or a variable in the\nvalue may mean another thing between these quotes");
+
+/// MACRO has other text on its line
+#[rattlefmt::skip]
+pub const TEXT_BESIDE_CALL: Key = Key(b"text-beside-call", b"\x01 has other text on its line", b"put the call on a line of its own");
+
+/// there is a `)` too many after MACRO
+#[rattlefmt::skip]
+pub const SURPLUS_PARENTHESIS: Key = Key(b"surplus-parenthesis", b"there is a `)` too many after \x01", b"remove the last one");
 
 /// there is a blank after the `=` of an assignment
 #[rattlefmt::skip]
 pub const BLANK_AFTER_EQUALS: Key = Key(b"blank-after-equals", b"there is a blank after the `=` of an assignment", b"write NAME=VALUE without blanks, and a value with blanks in quotes");
 
-/// TEXT is no statement that acrun reads
+/// TEXT is not a statement that acrun supports
 #[rattlefmt::skip]
-pub const NO_STATEMENT: Key = Key(b"no-statement", b"\x01 is no statement that acrun reads", b"text between calls is assignments NAME=VALUE, and calls are on lines of their own; no command is run");
+pub const NO_STATEMENT: Key = Key(b"no-statement", b"\x01 is not a statement that acrun supports", b"write assignments NAME=VALUE and calls; acrun runs no commands");
 
-/// MACRO is no statement by itself
+/// MACRO is not a statement
 #[rattlefmt::skip]
-pub const ARGUMENT_MACRO: Key = Key(b"argument-macro", b"\x01 is no statement by itself", b"AS_HELP_STRING is an argument of AC_ARG_ENABLE and AC_ARG_WITH, and AC_LANG_PROGRAM and AC_LANG_SOURCE are arguments of AC_COMPILE_IFELSE and its like");
+pub const ARGUMENT_MACRO: Key = Key(b"argument-macro", b"\x01 is not a statement", b"it is an argument of AC_ARG_WITH, AC_COMPILE_IFELSE and their like");
 
-/// the argument ARGUMENT of MACRO is not read
+/// acrun doesn't support the argument ARGUMENT of MACRO
 #[rattlefmt::skip]
-pub const UNREAD_ARGUMENT: Key = Key(b"unread-argument", b"the argument \x01 of \x02 is not read", b"");
+pub const UNREAD_ARGUMENT: Key = Key(b"unread-argument", b"acrun doesn't support the argument \x01 of \x02", b"");
 
-/// a program is AC_LANG_PROGRAM([includes], [statements]) or AC_LANG_SOURCE([text])
+/// write AC_LANG_PROGRAM([includes], [body]) or AC_LANG_SOURCE([text])
 #[rattlefmt::skip]
-pub const PROGRAM_ARGUMENT: Key = Key(b"program-argument", b"", b"a program is AC_LANG_PROGRAM([includes], [statements]) or AC_LANG_SOURCE([text])");
+pub const PROGRAM_ARGUMENT: Key = Key(b"program-argument", b"", b"write AC_LANG_PROGRAM([includes], [body]) or AC_LANG_SOURCE([text])");
 
-/// an action is assignments NAME=VALUE and calls, and no command is run; a list has blanks between its entries
+/// an action has assignments and calls; blanks separate a list
 #[rattlefmt::skip]
-pub const BARE_ARGUMENT: Key = Key(b"bare-argument", b"", b"an action is assignments NAME=VALUE and calls, and no command is run; a list has blanks between its entries");
+pub const BARE_ARGUMENT: Key = Key(b"bare-argument", b"", b"an action has assignments and calls; blanks separate a list");
 
-/// no action ends a list: make each check only if the one before it says no, as in
+/// make each check only if the one before it says no, as in
 #[rattlefmt::skip]
-pub const BREAK_ACTION: Key = Key(b"break-action", b"", b"no action ends a list: make each check only if the one before it says no, as in\nAC_CHECK_FUNCS([f], [], [AC_CHECK_FUNCS([g])])");
+pub const BREAK_ACTION: Key = Key(b"break-action", b"", b"make each check only if the one before it says no, as in\nAC_CHECK_FUNCS([f], [], [AC_CHECK_FUNCS([g])])");
 
-/// the second argument is an action, and no default; write instead
+/// the second argument is an action, and not a default; write instead
 #[rattlefmt::skip]
-pub const DEFAULT_OF_TYPE: Key = Key(b"default-of-type", b"", b"the second argument is an action, and no default; write instead\nAC_CHECK_TYPE([\x01], [],\n  [AC_DEFINE([\x01], [\x02], [Define if there is no \x01.])])");
+pub const DEFAULT_OF_TYPE: Key = Key(b"default-of-type", b"", b"the second argument is an action, and not a default; write instead\nAC_CHECK_TYPE([\x01], [],\n  [AC_DEFINE([\x01], [\x02], [Define if there is no \x01.])])");
 
-/// put the whole argument in one pair of brackets; a list has blanks between its entries
+/// put the argument in one pair of brackets; blanks separate a list
 #[rattlefmt::skip]
-pub const BRACKETED_ARGUMENT: Key = Key(b"bracketed-argument", b"", b"put the whole argument in one pair of brackets; a list has blanks between its entries");
+pub const BRACKETED_ARGUMENT: Key = Key(b"bracketed-argument", b"", b"put the argument in one pair of brackets; blanks separate a list");
 
 /// MACRO takes 1 argument
 #[rattlefmt::skip]
@@ -126,313 +142,325 @@ pub const HAS_ARGUMENTS: Key = Key(b"has-arguments", b", and has \x01", b"");
 #[rattlefmt::skip]
 pub const OUTPUT_ARGUMENT: Key = Key(b"output-argument", b"AC_OUTPUT takes no argument", b"write instead\nAC_CONFIG_FILES([Makefile])\nAC_OUTPUT");
 
-/// no blank may be between the name and its parenthesis
+/// write no blank between the name and its parenthesis
 #[rattlefmt::skip]
-pub const BLANK_BEFORE_PARENTHESIS: Key = Key(b"blank-before-parenthesis", b"", b"no blank may be between the name and its parenthesis");
+pub const BLANK_BEFORE_PARENTHESIS: Key = Key(b"blank-before-parenthesis", b"", b"write no blank between the name and its parenthesis");
 
-/// the package's name and version are missing: write AC_INIT([package], [version])
+/// write the package's name and version: AC_INIT([package], [version])
 #[rattlefmt::skip]
-pub const MISSING_VERSION: Key = Key(b"missing-version", b"", b"the package's name and version are missing: write AC_INIT([package], [version])");
+pub const MISSING_VERSION: Key = Key(b"missing-version", b"", b"write the package's name and version: AC_INIT([package], [version])");
 
-/// the package's name and version are missing: write AC_INIT([package], [version]) and then AC_CONFIG_SRCDIR([FILE])
+/// write AC_INIT([package], [version]) and AC_CONFIG_SRCDIR([FILE])
 #[rattlefmt::skip]
-pub const MISSING_VERSION_OF: Key = Key(b"missing-version-of", b"", b"the package's name and version are missing: write AC_INIT([package], [version]) and then AC_CONFIG_SRCDIR([\x01])");
+pub const MISSING_VERSION_OF: Key = Key(b"missing-version-of", b"", b"write AC_INIT([package], [version]) and AC_CONFIG_SRCDIR([\x01])");
 
-/// docs/language.md has its arguments
+/// FORM
 #[rattlefmt::skip]
-pub const SEE_ARGUMENTS: Key = Key(b"see-arguments", b"", b"docs/language.md has its arguments");
+pub const WHOLE_FORM: Key = Key(b"whole-form", b"", b"\x01");
 
-/// an argument is missing: docs/language.md has them
+/// acrun looks for programs in PATH alone: leave the last argument out
 #[rattlefmt::skip]
-pub const MISSING_ARGUMENT: Key = Key(b"missing-argument", b"", b"an argument is missing: docs/language.md has them");
+pub const SURPLUS_DIRECTORIES: Key = Key(b"surplus-directories", b"", b"acrun looks for programs in PATH alone: leave the last argument out");
 
-/// programs are looked for along PATH alone: leave the last argument out
+/// separate files by blanks, and leave the commands out
 #[rattlefmt::skip]
-pub const SURPLUS_DIRECTORIES: Key = Key(b"surplus-directories", b"", b"programs are looked for along PATH alone: leave the last argument out");
+pub const SURPLUS_COMMANDS: Key = Key(b"surplus-commands", b"", b"separate files by blanks, and leave the commands out");
 
-/// files have blanks between them, and no commands are run for them: leave the other arguments out
+/// put each argument in brackets: without them, a comma ends it
 #[rattlefmt::skip]
-pub const SURPLUS_COMMANDS: Key = Key(b"surplus-commands", b"", b"files have blanks between them, and no commands are run for them: leave the other arguments out");
+pub const COMMA_IN_ARGUMENT: Key = Key(b"comma-in-argument", b"", b"put each argument in brackets: without them, a comma ends it");
 
-/// leave the last argument out: docs/language.md has those that are read
+/// MACRO: ARGUMENT is not the name of a variable
 #[rattlefmt::skip]
-pub const SURPLUS_ARGUMENT: Key = Key(b"surplus-argument", b"", b"leave the last argument out: docs/language.md has those that are read");
+pub const NO_VARIABLE: Key = Key(b"no-variable", b"\x02: \x01 is not the name of a variable", b"a name has letters, digits and `_`, and does not begin with a digit");
 
-/// a comma ends an argument that is not in brackets: put each argument in [ and ]
+/// MACRO: ARGUMENT is not the name of a C macro
 #[rattlefmt::skip]
-pub const COMMA_IN_ARGUMENT: Key = Key(b"comma-in-argument", b"", b"a comma ends an argument that is not in brackets: put each argument in [ and ]");
+pub const NO_SYMBOL: Key = Key(b"no-symbol", b"\x02: \x01 is not the name of a C macro", b"a name has letters, digits and `_`, and does not begin with a digit");
 
-/// ARGUMENT is no name of a variable in MACRO
+/// MACRO: ARGUMENT is not text on one line
 #[rattlefmt::skip]
-pub const NO_VARIABLE: Key = Key(b"no-variable", b"\x01 is no name of a variable in \x02", b"a name has letters, digits and `_`, and does not begin with a digit");
+pub const NO_LINE: Key = Key(b"no-line", b"\x02: \x01 is not text on one line", b"write it on one line");
 
-/// ARGUMENT is no name of a variable, or no text on one line in MACRO
+/// MACRO: ARGUMENT is not a header
 #[rattlefmt::skip]
-pub const NO_VARIABLE_OR_TEXT: Key = Key(b"no-variable-or-text", b"\x01 is no name of a variable, or no text on one line in \x02", b"a name has letters, digits and `_`, and does not begin with a digit");
+pub const NO_HEADER: Key = Key(b"no-header", b"\x02: \x01 is not a header", b"name one header, such as sys/stat.h, without < and >");
 
-/// ARGUMENT is no name of a C macro, or no text on one line in MACRO
+/// MACRO: ARGUMENT is not a list of headers
 #[rattlefmt::skip]
-pub const NO_SYMBOL_OR_TEXT: Key = Key(b"no-symbol-or-text", b"\x01 is no name of a C macro, or no text on one line in \x02", b"a name has letters, digits and `_`, and does not begin with a digit");
+pub const NO_HEADERS: Key = Key(b"no-headers", b"\x02: \x01 is not a list of headers", b"separate headers by blanks, and write sys/stat.h without < and >");
 
-/// ARGUMENT is no header in MACRO
+/// MACRO: ARGUMENT is not text of #include lines
 #[rattlefmt::skip]
-pub const NO_HEADER: Key = Key(b"no-header", b"\x01 is no header in \x02", b"name headers as in sys/stat.h, without < and >, and with blanks between them");
+pub const NO_INCLUDES: Key = Key(b"no-includes", b"\x02: \x01 is not text of #include lines", b"leave the argument out, or write #include lines");
 
-/// ARGUMENT is no list of headers in MACRO
+/// MACRO: ARGUMENT is not a function
 #[rattlefmt::skip]
-pub const NO_HEADERS: Key = Key(b"no-headers", b"\x01 is no list of headers in \x02", b"name headers as in sys/stat.h, without < and >, and with blanks between them");
+pub const NO_FUNCTION: Key = Key(b"no-function", b"\x02: \x01 is not a function", b"name one function, such as getline");
 
-/// ARGUMENT is no function in MACRO
+/// MACRO: ARGUMENT is not a list of functions
 #[rattlefmt::skip]
-pub const NO_FUNCTION: Key = Key(b"no-function", b"\x01 is no function in \x02", b"name functions with blanks between them, as in AC_CHECK_FUNCS([getline strdup])");
+pub const NO_FUNCTIONS: Key = Key(b"no-functions", b"\x02: \x01 is not a list of functions", b"separate functions by blanks: AC_CHECK_FUNCS([getline strdup])");
 
-/// ARGUMENT is no list of functions in MACRO
+/// MACRO: ARGUMENT is not the name of a declaration
 #[rattlefmt::skip]
-pub const NO_FUNCTIONS: Key = Key(b"no-functions", b"\x01 is no list of functions in \x02", b"name functions with blanks between them, as in AC_CHECK_FUNCS([getline strdup])");
+pub const NO_DECLARATION: Key = Key(b"no-declaration", b"\x02: \x01 is not the name of a declaration", b"separate names by commas, and write none with its arguments");
 
-/// ARGUMENT is no declaration in MACRO
+/// MACRO: ARGUMENT is not a list of declarations
 #[rattlefmt::skip]
-pub const NO_DECLARATION: Key = Key(b"no-declaration", b"\x01 is no declaration in \x02", b"name them with commas between them; includes are lines of #include, and not `-`");
+pub const NO_DECLARATIONS: Key = Key(b"no-declarations", b"\x02: \x01 is not a list of declarations", b"separate names by commas, and write none with its arguments");
 
-/// ARGUMENT is no list of declarations in MACRO
+/// MACRO: ARGUMENT is not a type
 #[rattlefmt::skip]
-pub const NO_DECLARATIONS: Key = Key(b"no-declarations", b"\x01 is no list of declarations in \x02", b"name them with commas between them; includes are lines of #include, and not `-`");
+pub const NO_TYPE: Key = Key(b"no-type", b"\x02: \x01 is not a type", b"separate types by commas");
 
-/// ARGUMENT is no type in MACRO
+/// MACRO: ARGUMENT is not a list of types
 #[rattlefmt::skip]
-pub const NO_TYPE: Key = Key(b"no-type", b"\x01 is no type in \x02", b"name them with commas between them; includes are lines of #include, and not `-`");
-
-/// ARGUMENT is no list of types in MACRO
-#[rattlefmt::skip]
-pub const NO_TYPES: Key = Key(b"no-types", b"\x01 is no list of types in \x02", b"name them with commas between them; includes are lines of #include, and not `-`");
+pub const NO_TYPES: Key = Key(b"no-types", b"\x02: \x01 is not a list of types", b"separate types by commas");
 
 /// MACRO names nothing
 #[rattlefmt::skip]
 pub const NAMES_NOTHING: Key = Key(b"names-nothing", b"\x01 names nothing", b"leave the call out");
 
-/// ARGUMENT is no list of files in MACRO
+/// MACRO: ARGUMENT is not a list of files
 #[rattlefmt::skip]
-pub const NO_FILES: Key = Key(b"no-files", b"\x01 is no list of files in \x02", b"name files below the directory, each once, with blanks between them: no `..`, no `/` in front, no `$`");
+pub const NO_FILES: Key = Key(b"no-files", b"\x02: \x01 is not a list of files", b"separate files by blanks; a name has no `..`, `$` or leading `/`");
 
-/// ARGUMENT is no list of headers that are made in MACRO
+/// MACRO: ARGUMENT is not a list of headers
 #[rattlefmt::skip]
-pub const NO_MADE_HEADERS: Key = Key(b"no-made-headers", b"\x01 is no list of headers that are made in \x02", b"name files below the directory, each once, with blanks between them: no `..`, no `/` in front, no `$`");
+pub const NO_MADE_HEADERS: Key = Key(b"no-made-headers", b"\x02: \x01 is not a list of headers", b"separate files by blanks; a name has no `..`, `$` or leading `/`");
 
-/// ARGUMENT is no name of a feature in MACRO
+/// MACRO names FILE a second time; the first is on line NUMBER
 #[rattlefmt::skip]
-pub const NO_FEATURE: Key = Key(b"no-feature", b"\x01 is no name of a feature in \x02", b"a feature or a package has letters, digits, `-`, `+`, `.` and `_`");
+pub const NAMED_TWICE: Key = Key(b"named-twice", b"\x02 names \x01 a second time; the first is on line \x03", b"leave one of them out");
 
-/// ARGUMENT is no name of a package in MACRO
+/// MACRO: FILE is not in the directory of the run
 #[rattlefmt::skip]
-pub const NO_PACKAGE: Key = Key(b"no-package", b"\x01 is no name of a package in \x02", b"a feature or a package has letters, digits, `-`, `+`, `.` and `_`");
+pub const OUTSIDE_DIRECTORY: Key = Key(b"outside-directory", b"\x02: \x01 is not in the directory of the run", b"name a file below it, without `..` and without a leading `/`");
 
-/// ARGUMENT is no library or no function in MACRO
+/// MACRO: FILE has a variable
 #[rattlefmt::skip]
-pub const NO_LIBRARY: Key = Key(b"no-library", b"\x01 is no library or no function in \x02", b"a library has letters, digits, `-`, `+`, `.` and `_`, as m of -lm");
+pub const VARIABLE_IN_NAME: Key = Key(b"variable-in-name", b"\x02: \x01 has a variable", b"write the name out");
 
-/// ARGUMENT is no list of libraries or no function in MACRO
+/// MACRO: FILE names more than one template
 #[rattlefmt::skip]
-pub const NO_LIBRARIES: Key = Key(b"no-libraries", b"\x01 is no list of libraries or no function in \x02", b"a library has letters, digits, `-`, `+`, `.` and `_`, as m of -lm");
+pub const SEVERAL_TEMPLATES: Key = Key(b"several-templates", b"\x02: \x01 names more than one template", b"write FILE:TEMPLATE, and join the templates beforehand");
 
-/// ARGUMENT is no variable or no program in MACRO
+/// MACRO: ARGUMENT is not the name of a feature
 #[rattlefmt::skip]
-pub const NO_PROGRAM: Key = Key(b"no-program", b"\x01 is no variable or no program in \x02", b"name programs without blanks, `$`, backslash and backquote; a variable can have a value with blanks");
+pub const NO_FEATURE: Key = Key(b"no-feature", b"\x02: \x01 is not the name of a feature", b"a name has letters, digits, `-`, `+`, `.` and `_`");
 
-/// ARGUMENT is no variable or no list of programs in MACRO
+/// MACRO: ARGUMENT is not the name of a package
 #[rattlefmt::skip]
-pub const NO_PROGRAMS: Key = Key(b"no-programs", b"\x01 is no variable or no list of programs in \x02", b"name programs without blanks, `$`, backslash and backquote; a variable can have a value with blanks");
+pub const NO_PACKAGE: Key = Key(b"no-package", b"\x02: \x01 is not the name of a package", b"a name has letters, digits, `-`, `+`, `.` and `_`");
 
-/// ARGUMENT is no list of compilers in MACRO
+/// MACRO: ARGUMENT is not a library
 #[rattlefmt::skip]
-pub const NO_COMPILERS: Key = Key(b"no-compilers", b"\x01 is no list of compilers in \x02", b"name programs without blanks, `$`, backslash and backquote; a variable can have a value with blanks");
+pub const NO_LIBRARY: Key = Key(b"no-library", b"\x02: \x01 is not a library", b"a library has letters, digits, `-`, `+`, `.` and `_`, as m of -lm");
 
-/// ARGUMENT is no version of Autoconf in MACRO
+/// MACRO: ARGUMENT is not a list of libraries
 #[rattlefmt::skip]
-pub const NO_VERSION: Key = Key(b"no-version", b"\x01 is no version of Autoconf in \x02", b"a version is one to three numbers with dots, as 2.69");
+pub const NO_LIBRARIES: Key = Key(b"no-libraries", b"\x02: \x01 is not a list of libraries", b"a library has letters, digits, `-`, `+`, `.` and `_`, as m of -lm");
 
-/// ARGUMENT is no exit status in MACRO
+/// MACRO: ARGUMENT is not a program
 #[rattlefmt::skip]
-pub const NO_EXIT_STATUS: Key = Key(b"no-exit-status", b"\x01 is no exit status in \x02", b"an exit status is a number from 1 to 255; a message that has a comma is in brackets");
+pub const NO_PROGRAM: Key = Key(b"no-program", b"\x02: \x01 is not a program", b"the name of a program has no blank, `$`, backslash or backquote");
 
-/// ARGUMENT is no language that is known in MACRO
+/// MACRO: ARGUMENT is not a list of programs
 #[rattlefmt::skip]
-pub const NO_LANGUAGE: Key = Key(b"no-language", b"\x01 is no language that is known in \x02", b"C is the only language");
+pub const NO_PROGRAMS: Key = Key(b"no-programs", b"\x02: \x01 is not a list of programs", b"the name of a program has no blank, `$`, backslash or backquote");
 
-/// ARGUMENT is no name of a cached value in MACRO
+/// MACRO: ARGUMENT is not a list of compilers
 #[rattlefmt::skip]
-pub const NO_CACHED_VALUE: Key = Key(b"no-cached-value", b"\x01 is no name of a cached value in \x02", b"write a shell name that has _cv_ in it, as my_cv_has_zlib");
+pub const NO_COMPILERS: Key = Key(b"no-compilers", b"\x02: \x01 is not a list of compilers", b"the name of a program has no blank, `$`, backslash or backquote");
 
-/// ARGUMENT is no text on one line in MACRO
+/// MACRO: ARGUMENT is not a version of Autoconf
 #[rattlefmt::skip]
-pub const NO_TEXT: Key = Key(b"no-text", b"\x01 is no text on one line in \x02", b"the arguments of AC_INIT are texts as they are, each on one line");
+pub const NO_VERSION: Key = Key(b"no-version", b"\x02: \x01 is not a version of Autoconf", b"a version is one to three numbers with dots, as 2.69");
 
-/// ARGUMENT is not what the argument may be in MACRO
+/// MACRO: ARGUMENT is not an exit status
 #[rattlefmt::skip]
-pub const BAD_ARGUMENT: Key = Key(b"bad-argument", b"\x01 is not what the argument may be in \x02", b"");
+pub const NO_EXIT_STATUS: Key = Key(b"no-exit-status", b"\x02: \x01 is not an exit status", b"write a number from 1 to 255; put a message with a comma in brackets");
 
-/// TEXT is no shell word that is read
+/// MACRO: acrun doesn't support the language ARGUMENT
 #[rattlefmt::skip]
-pub const NO_WORD: Key = Key(b"no-word", b"\x01 is no shell word that is read", b"a word with blanks is in quotes, and variables are $name and ${name}");
+pub const NO_LANGUAGE: Key = Key(b"no-language", b"\x02: acrun doesn't support the language \x01", b"C is the only language");
 
-/// the value of this assignment is not read
+/// MACRO: ARGUMENT is not the name of a cached value
 #[rattlefmt::skip]
-pub const NO_VALUE: Key = Key(b"no-value", b"the value of this assignment is not read", b"a value is a shell word: text, quotes, $name and ${name}");
+pub const NO_CACHED_VALUE: Key = Key(b"no-cached-value", b"\x02: \x01 is not the name of a cached value", b"write a shell name that has _cv_ in it, as my_cv_has_zlib");
 
-/// TEXT is no test that is read
+/// MACRO: ARGUMENT is not text on one line
 #[rattlefmt::skip]
-pub const NO_TEST: Key = Key(b"no-test", b"\x01 is no test that is read", b"a test is made of test -n, test -z, test A = B, test A != B, `:`, true, false, !, && and ||; no other command is run");
+pub const NO_TEXT: Key = Key(b"no-text", b"\x02: \x01 is not text on one line", b"the arguments of AC_INIT are plain text, each on one line");
 
-/// TEXT is no list of patterns that is read
+/// MACRO: acrun doesn't support the argument ARGUMENT
 #[rattlefmt::skip]
-pub const NO_PATTERN: Key = Key(b"no-pattern", b"\x01 is no list of patterns that is read", b"patterns have * and ?, are joined by |, and have no variables and no bracket expressions; quote what is meant as it is");
+pub const BAD_ARGUMENT: Key = Key(b"bad-argument", b"\x02: acrun doesn't support the argument \x01", b"");
 
-/// `WORD` of the shell is not read
+/// TEXT is not a shell word that acrun supports
 #[rattlefmt::skip]
-pub const SHELL_IF: Key = Key(b"shell-if", b"`\x01` of the shell is not read", b"write instead\nAS_IF([test \"$name\" = value],\n  [what is done then],\n  [what is done otherwise])");
+pub const NO_WORD: Key = Key(b"no-word", b"\x01 is not a shell word that acrun supports", b"put a word with blanks in quotes; variables are $name and ${name}");
 
-/// a test by itself is not read
+/// acrun doesn't support the value of this assignment
 #[rattlefmt::skip]
-pub const SHELL_TEST: Key = Key(b"shell-test", b"a test by itself is not read", b"write instead\nAS_IF([test \"$name\" = value],\n  [what is done then],\n  [what is done otherwise])");
+pub const NO_VALUE: Key = Key(b"no-value", b"acrun doesn't support the value of this assignment", b"a value is a shell word: text, quotes, $name and ${name}");
 
-/// `WORD` by itself is not read
+/// TEXT is not a test that acrun supports
 #[rattlefmt::skip]
-pub const SHELL_NOT: Key = Key(b"shell-not", b"`\x01` by itself is not read", b"write instead\nAS_IF([test \"$name\" = value],\n  [what is done then],\n  [what is done otherwise])");
+pub const NO_TEST: Key = Key(b"no-test", b"\x01 is not a test that acrun supports", b"write test -n, test -z, test A = B or test A != B, with &&, || and !");
 
-/// `WORD` between statements is not read
+/// TEXT is not a list of patterns that acrun supports
 #[rattlefmt::skip]
-pub const SHELL_AND: Key = Key(b"shell-and", b"`\x01` between statements is not read", b"write instead\nAS_IF([test \"$name\" = value],\n  [what is done then],\n  [what is done otherwise])");
+pub const NO_PATTERN: Key = Key(b"no-pattern", b"\x01 is not a list of patterns that acrun supports", b"patterns have * and ? and are joined by |; put other text in quotes");
 
-/// `WORD` of the shell is not read
+/// the shell's `WORD` is not supported
 #[rattlefmt::skip]
-pub const SHELL_CASE: Key = Key(b"shell-case", b"`\x01` of the shell is not read", b"write instead\nAS_CASE([$name],\n  [pattern | pattern], [what is done then],\n  [what is done otherwise])");
+pub const SHELL_IF: Key = Key(b"shell-if", b"the shell's `\x01` is not supported", b"write instead; acrun port does it where it can\nAS_IF([test \"$name\" = value],\n  [what is done then],\n  [what is done otherwise])");
 
-/// `WORD` of the shell is not read
+/// a test on its own is not supported
 #[rattlefmt::skip]
-pub const SHELL_FOR: Key = Key(b"shell-for", b"`\x01` of the shell is not read", b"name the list in one call, whose action is done for each entry, or write a statement for each\nAC_CHECK_HEADERS([termios.h termio.h], [have_terminal=yes])");
+pub const SHELL_TEST: Key = Key(b"shell-test", b"a test on its own is not supported", b"write instead; acrun port does it where it can\nAS_IF([test \"$name\" = value],\n  [what is done then],\n  [what is done otherwise])");
 
-/// `WORD` is not run
+/// `WORD` on its own is not supported
 #[rattlefmt::skip]
-pub const SHELL_ECHO: Key = Key(b"shell-echo", b"`\x01` is not run", b"write instead\nAC_MSG_RESULT([text])");
+pub const SHELL_NOT: Key = Key(b"shell-not", b"`\x01` on its own is not supported", b"write instead; acrun port does it where it can\nAS_IF([test \"$name\" = value],\n  [what is done then],\n  [what is done otherwise])");
 
-/// `WORD` is not read
+/// `WORD` between statements is not supported
 #[rattlefmt::skip]
-pub const SHELL_EXIT: Key = Key(b"shell-exit", b"`\x01` is not read", b"write instead\nAC_MSG_ERROR([why the run stops], [1])");
+pub const SHELL_AND: Key = Key(b"shell-and", b"`\x01` between statements is not supported", b"write instead; acrun port does it where it can\nAS_IF([test \"$name\" = value],\n  [what is done then],\n  [what is done otherwise])");
 
-/// `WORD` is not read
+/// the shell's `WORD` is not supported
 #[rattlefmt::skip]
-pub const SHELL_EXPORT: Key = Key(b"shell-export", b"`\x01` is not read", b"drop it: CC, CFLAGS, CPPFLAGS, LDFLAGS and LIBS are in the commands of each check, and the templates take variables by AC_SUBST([NAME])");
+pub const SHELL_CASE: Key = Key(b"shell-case", b"the shell's `\x01` is not supported", b"write instead; acrun port does it where it can\nAS_CASE([$name],\n  [pattern | pattern], [what is done then],\n  [what is done otherwise])");
 
-/// `WORD` is not read
+/// the shell's `WORD` is not supported
 #[rattlefmt::skip]
-pub const SHELL_UNSET: Key = Key(b"shell-unset", b"`\x01` is not read", b"write NAME= instead: an empty variable is tested by test -z \"$NAME\"");
+pub const SHELL_FOR: Key = Key(b"shell-for", b"the shell's `\x01` is not supported", b"write one call with the list, or a statement for each word\nAC_CHECK_HEADERS([termios.h termio.h], [have_terminal=yes])");
 
-/// `WORD` is not read
+/// acrun does not run `WORD`
 #[rattlefmt::skip]
-pub const SHELL_COMMAND: Key = Key(b"shell-command", b"`\x01` is not read", b"no command is run; what it would print is a variable that the user gives\nAC_ARG_VAR([NAME], [what it is])\nAS_IF([test -z \"$NAME\"], [NAME=default])");
+pub const SHELL_ECHO: Key = Key(b"shell-echo", b"acrun does not run `\x01`", b"write instead\nAC_MSG_RESULT([text])");
 
-/// `WORD` is not read
+/// the shell's `WORD` is not supported
 #[rattlefmt::skip]
-pub const SHELL_EVAL: Key = Key(b"shell-eval", b"`\x01` is not read", b"write the assignments out: no text is read a second time");
+pub const SHELL_EXIT: Key = Key(b"shell-exit", b"the shell's `\x01` is not supported", b"write instead\nAC_MSG_ERROR([why the run stops], [1])");
 
-/// functions of the shell are not read
+/// the shell's `WORD` is not supported
 #[rattlefmt::skip]
-pub const SHELL_FUNCTION: Key = Key(b"shell-function", b"functions of the shell are not read", b"write out what the function does where it is called");
+pub const SHELL_EXPORT: Key = Key(b"shell-export", b"the shell's `\x01` is not supported", b"leave it out: checks have CC and the flags, templates use AC_SUBST");
 
-/// groups of the shell are not read
+/// the shell's `WORD` is not supported
 #[rattlefmt::skip]
-pub const SHELL_GROUP: Key = Key(b"shell-group", b"groups of the shell are not read", b"write the statements without the braces");
+pub const SHELL_UNSET: Key = Key(b"shell-unset", b"the shell's `\x01` is not supported", b"write NAME= instead: an empty variable is tested by test -z \"$NAME\"");
 
-/// `WORD` is not run
+/// the shell's `WORD` is not supported
 #[rattlefmt::skip]
-pub const SHELL_CD: Key = Key(b"shell-cd", b"`\x01` is not run", b"leave it out: files and templates are named from the top of the package");
+pub const SHELL_COMMAND: Key = Key(b"shell-command", b"the shell's `\x01` is not supported", b"acrun runs no commands; let the user give what it would print\nAC_ARG_VAR([NAME], [what it is])\nAS_IF([test -z \"$NAME\"], [NAME=default])");
 
-/// a command in backquotes is not run
+/// the shell's `WORD` is not supported
 #[rattlefmt::skip]
-pub const SHELL_BACKQUOTE: Key = Key(b"shell-backquote", b"a command in backquotes is not run", b"no command is run; what it would print is a variable that the user gives\nAC_ARG_VAR([NAME], [what it is])\nAS_IF([test -z \"$NAME\"], [NAME=default])");
+pub const SHELL_EVAL: Key = Key(b"shell-eval", b"the shell's `\x01` is not supported", b"write the assignments out: acrun reads no text a second time");
 
-/// arithmetic of the shell is not read
+/// shell functions are not supported
 #[rattlefmt::skip]
-pub const SHELL_ARITHMETIC: Key = Key(b"shell-arithmetic", b"arithmetic of the shell is not read", b"no command is run; what it would print is a variable that the user gives\nAC_ARG_VAR([NAME], [what it is])\nAS_IF([test -z \"$NAME\"], [NAME=default])");
+pub const SHELL_FUNCTION: Key = Key(b"shell-function", b"shell functions are not supported", b"write out what the function does where it is called");
 
-/// a command in `$(..)` is not run
+/// groups of commands in braces are not supported
 #[rattlefmt::skip]
-pub const SHELL_SUBSTITUTION: Key = Key(b"shell-substitution", b"a command in `$(..)` is not run", b"no command is run; what it would print is a variable that the user gives\nAC_ARG_VAR([NAME], [what it is])\nAS_IF([test -z \"$NAME\"], [NAME=default])");
+pub const SHELL_GROUP: Key = Key(b"shell-group", b"groups of commands in braces are not supported", b"write the statements without the braces");
 
-/// redirections are not read
+/// acrun does not run `WORD`
 #[rattlefmt::skip]
-pub const SHELL_REDIRECTION: Key = Key(b"shell-redirection", b"redirections are not read", b"no command is run; what it would print is a variable that the user gives\nAC_ARG_VAR([NAME], [what it is])\nAS_IF([test -z \"$NAME\"], [NAME=default])");
+pub const SHELL_CD: Key = Key(b"shell-cd", b"acrun does not run `\x01`", b"leave it out: files are named from the top of the package");
 
-/// pipes are not read
+/// acrun does not run the command in backquotes
 #[rattlefmt::skip]
-pub const SHELL_PIPE: Key = Key(b"shell-pipe", b"pipes are not read", b"no command is run; what it would print is a variable that the user gives\nAC_ARG_VAR([NAME], [what it is])\nAS_IF([test -z \"$NAME\"], [NAME=default])");
+pub const SHELL_BACKQUOTE: Key = Key(b"shell-backquote", b"acrun does not run the command in backquotes", b"acrun runs no commands; let the user give what it would print\nAC_ARG_VAR([NAME], [what it is])\nAS_IF([test -z \"$NAME\"], [NAME=default])");
 
-/// subshells are not read
+/// shell arithmetic is not supported
 #[rattlefmt::skip]
-pub const SHELL_SUBSHELL: Key = Key(b"shell-subshell", b"subshells are not read", b"no command is run; what it would print is a variable that the user gives\nAC_ARG_VAR([NAME], [what it is])\nAS_IF([test -z \"$NAME\"], [NAME=default])");
+pub const SHELL_ARITHMETIC: Key = Key(b"shell-arithmetic", b"shell arithmetic is not supported", b"acrun runs no commands; let the user give what it would print\nAC_ARG_VAR([NAME], [what it is])\nAS_IF([test -z \"$NAME\"], [NAME=default])");
 
-/// a command that a variable names is not run
+/// acrun does not run the command in `$(..)`
 #[rattlefmt::skip]
-pub const SHELL_VARIABLE_COMMAND: Key = Key(b"shell-variable-command", b"a command that a variable names is not run", b"no command is run; what it would print is a variable that the user gives\nAC_ARG_VAR([NAME], [what it is])\nAS_IF([test -z \"$NAME\"], [NAME=default])");
+pub const SHELL_SUBSTITUTION: Key = Key(b"shell-substitution", b"acrun does not run the command in `$(..)`", b"acrun runs no commands; let the user give what it would print\nAC_ARG_VAR([NAME], [what it is])\nAS_IF([test -z \"$NAME\"], [NAME=default])");
 
-/// `WORD` is no operator of `test`
+/// redirections are not supported
 #[rattlefmt::skip]
-pub const TEST_EQUALS: Key = Key(b"test-equals", b"`\x01` is no operator of `test`", b"write = with a blank on each side");
+pub const SHELL_REDIRECTION: Key = Key(b"shell-redirection", b"redirections are not supported", b"acrun runs no commands; let the user give what it would print\nAC_ARG_VAR([NAME], [what it is])\nAS_IF([test -z \"$NAME\"], [NAME=default])");
 
-/// `WORD` in a test is not read
+/// pipes are not supported
 #[rattlefmt::skip]
-pub const TEST_AND: Key = Key(b"test-and", b"`\x01` in a test is not read", b"write two tests joined by &&, as in\nAS_IF([test -n \"$a\" && test -z \"$b\"], ..)");
+pub const SHELL_PIPE: Key = Key(b"shell-pipe", b"pipes are not supported", b"acrun runs no commands; let the user give what it would print\nAC_ARG_VAR([NAME], [what it is])\nAS_IF([test -z \"$NAME\"], [NAME=default])");
 
-/// `WORD` in a test is not read
+/// subshells are not supported
 #[rattlefmt::skip]
-pub const TEST_OR: Key = Key(b"test-or", b"`\x01` in a test is not read", b"write two tests joined by ||, as in\nAS_IF([test -n \"$a\" || test -z \"$b\"], ..)");
+pub const SHELL_SUBSHELL: Key = Key(b"shell-subshell", b"subshells are not supported", b"acrun runs no commands; let the user give what it would print\nAC_ARG_VAR([NAME], [what it is])\nAS_IF([test -z \"$NAME\"], [NAME=default])");
 
-/// `test WORD` is not read
+/// acrun does not run a command that a variable names
 #[rattlefmt::skip]
-pub const TEST_FILE: Key = Key(b"test-file", b"`test \x01` is not read", b"there are no tests of files; let the user say it, by AC_ARG_WITH or AC_ARG_VAR, or check what is needed of the file\nAC_CHECK_HEADER([header.h], [what is done then])");
+pub const SHELL_VARIABLE_COMMAND: Key = Key(b"shell-variable-command", b"acrun does not run a command that a variable names", b"acrun runs no commands; let the user give what it would print\nAC_ARG_VAR([NAME], [what it is])\nAS_IF([test -z \"$NAME\"], [NAME=default])");
 
-/// `WORD` in a test is not read
+/// `WORD` is not an operator of `test`
 #[rattlefmt::skip]
-pub const TEST_NUMBER: Key = Key(b"test-number", b"`\x01` in a test is not read", b"there are no tests of numbers; write = or != for -eq and -ne");
+pub const TEST_EQUALS: Key = Key(b"test-equals", b"`\x01` is not an operator of `test`", b"write = with a blank on each side");
 
-/// `WORD` in a test is not read
+/// `WORD` in a test is not supported
 #[rattlefmt::skip]
-pub const TEST_SEMICOLON: Key = Key(b"test-semicolon", b"`\x01` in a test is not read", b"join tests by && and ||");
+pub const TEST_AND: Key = Key(b"test-and", b"`\x01` in a test is not supported", b"write two tests joined by &&, as in\nAS_IF([test -n \"$a\" && test -z \"$b\"], ..)");
 
-/// a test in brackets is not read, since brackets are quotes here
+/// `WORD` in a test is not supported
 #[rattlefmt::skip]
-pub const TEST_BRACKET: Key = Key(b"test-bracket", b"a test in brackets is not read, since brackets are quotes here", b"write test instead\nAS_IF([test \"$name\" = value], ..)");
+pub const TEST_OR: Key = Key(b"test-or", b"`\x01` in a test is not supported", b"write two tests joined by ||, as in\nAS_IF([test -n \"$a\" || test -z \"$b\"], ..)");
+
+/// `test WORD` is not supported
+#[rattlefmt::skip]
+pub const TEST_FILE: Key = Key(b"test-file", b"`test \x01` is not supported", b"let the user say it (AC_ARG_WITH), or check what the file is for\nAC_CHECK_HEADER([header.h], [what is done then])");
+
+/// `WORD` in a test is not supported
+#[rattlefmt::skip]
+pub const TEST_NUMBER: Key = Key(b"test-number", b"`\x01` in a test is not supported", b"write = or != for -eq and -ne; there is nothing for the others");
+
+/// `WORD` in a test is not supported
+#[rattlefmt::skip]
+pub const TEST_SEMICOLON: Key = Key(b"test-semicolon", b"`\x01` in a test is not supported", b"join tests by && and ||");
+
+/// a test in brackets is not supported, since brackets are quotes here
+#[rattlefmt::skip]
+pub const TEST_BRACKET: Key = Key(b"test-bracket", b"a test in brackets is not supported, since brackets are quotes here", b"write test instead\nAS_IF([test \"$name\" = value], ..)");
 
 /// the line ends in a carriage return
 #[rattlefmt::skip]
-pub const CARRIAGE_RETURN: Key = Key(b"carriage-return", b"the line ends in a carriage return", b"the file has the line ends of another system; remove them\ntr -d '\\r' < configure.ac > configure.new && mv configure.new configure.ac");
+pub const CARRIAGE_RETURN: Key = Key(b"carriage-return", b"the line ends in a carriage return", b"the file has the line ends of another system; remove them\ntr -d '\\r' < configure.ac > new && mv new configure.ac");
 
 /// there is a blank beside the `=` of an assignment
 #[rattlefmt::skip]
 pub const BLANK_BESIDE_EQUALS: Key = Key(b"blank-beside-equals", b"there is a blank beside the `=` of an assignment", b"write NAME=VALUE without blanks, and a value with blanks in quotes");
 
-/// `${NAME-WORD}` and its like are not read
+/// `${NAME-WORD}` and its like are not supported
 #[rattlefmt::skip]
-pub const VARIABLE_WITH_OPERATOR: Key = Key(b"variable-with-operator", b"`${NAME-WORD}` and its like are not read", b"write instead\nAS_IF([test -z \"$name\"], [name=default])");
+pub const VARIABLE_WITH_OPERATOR: Key = Key(b"variable-with-operator", b"`${NAME-WORD}` and its like are not supported", b"write instead\nAS_IF([test -z \"$name\"], [name=default])");
 
-/// `${NAME#WORD}` and its like are not read
+/// `${NAME#WORD}` and its like are not supported
 #[rattlefmt::skip]
-pub const VARIABLE_WITH_CUT: Key = Key(b"variable-with-cut", b"`${NAME#WORD}` and its like are not read", b"nothing here cuts a value or replaces a part of it; write the parts out, or let the user give them\nAC_ARG_VAR([NAME], [what it is])");
+pub const VARIABLE_WITH_CUT: Key = Key(b"variable-with-cut", b"`${NAME#WORD}` and its like are not supported", b"write the parts out, or let the user give them\nAC_ARG_VAR([NAME], [what it is])");
 
-/// a backquote in a message is not read
+/// a backquote in a message is not supported
 #[rattlefmt::skip]
-pub const MESSAGE_BACKQUOTE: Key = Key(b"message-backquote", b"a backquote in a message is not read", b"write an apostrophe in its place");
+pub const MESSAGE_BACKQUOTE: Key = Key(b"message-backquote", b"a backquote in a message is not supported", b"write an apostrophe in its place");
 
-/// the shell's own variables, such as `$1`, `$@` and `$?`, are not read
+/// the shell's own variables, such as `$1`, `$@` and `$?`, are not supported
 #[rattlefmt::skip]
-pub const SPECIAL_VARIABLE: Key = Key(b"special-variable", b"the shell's own variables, such as `$1`, `$@` and `$?`, are not read", b"name a variable of the source, as $name or ${name}; a dollar sign by itself is \\$");
+pub const SPECIAL_VARIABLE: Key = Key(b"special-variable", b"the shell's own variables, such as `$1`, `$@` and `$?`, are not supported", b"name a variable, as $name or ${name}; \\$ is a dollar sign");
 
 /// a double quote is not closed
 #[rattlefmt::skip]
-pub const OPEN_DOUBLE_QUOTE: Key = Key(b"open-double-quote", b"a double quote is not closed", b"close it on the same argument, or write \\\" for a quote by itself");
+pub const OPEN_DOUBLE_QUOTE: Key = Key(b"open-double-quote", b"a double quote is not closed", b"close it before the argument or the line ends; \\\" is a plain quote");
 
 /// a single quote is not closed
 #[rattlefmt::skip]
-pub const OPEN_SINGLE_QUOTE: Key = Key(b"open-single-quote", b"a single quote is not closed", b"close it on the same argument; an apostrophe by itself is \\'");
+pub const OPEN_SINGLE_QUOTE: Key = Key(b"open-single-quote", b"a single quote is not closed", b"close it before the argument or the line ends; \\' is an apostrophe");
 
 /// MACRO is called a second time
 #[rattlefmt::skip]
@@ -440,31 +468,43 @@ pub const SECOND_CALL: Key = Key(b"second-call", b"\x01 is called a second time"
 
 /// MACRO is not allowed within MACRO
 #[rattlefmt::skip]
-pub const NOT_AT_TOP: Key = Key(b"not-at-top", b"\x01 is not allowed within \x02", b"move it to the top of the file: what it says holds for the whole package");
+pub const NOT_AT_TOP: Key = Key(b"not-at-top", b"\x01 is not allowed within \x02", b"move it to the top of the file: it holds for the whole package");
 
 /// the file begins with a byte order mark
 #[rattlefmt::skip]
-pub const BYTE_ORDER_MARK: Key = Key(b"byte-order-mark", b"the file begins with a byte order mark", b"remove its first three bytes\ntail -c +4 configure.ac > configure.new && mv configure.new configure.ac");
+pub const BYTE_ORDER_MARK: Key = Key(b"byte-order-mark", b"the file begins with a byte order mark", b"remove its first three bytes\ntail -c +4 configure.ac > new && mv new configure.ac");
 
 /// the file is empty
 #[rattlefmt::skip]
-pub const EMPTY_FILE: Key = Key(b"empty-file", b"the file is empty", b"a source begins with AC_INIT([package], [version]) and ends with AC_OUTPUT");
+pub const EMPTY_FILE: Key = Key(b"empty-file", b"the file is empty", b"begin with AC_INIT([package], [version]) and end with AC_OUTPUT");
 
-/// something is before AC_INIT
+/// this is before AC_INIT
 #[rattlefmt::skip]
-pub const TEXT_BEFORE_INIT: Key = Key(b"text-before-init", b"something is before AC_INIT", b"only AC_PREREQ, blanks and comments may be there: move AC_INIT to the top of the file");
+pub const TEXT_BEFORE_INIT: Key = Key(b"text-before-init", b"this is before AC_INIT", b"move AC_INIT up: only AC_PREREQ and comments may be before it");
 
-/// something is before AC_INIT; begin with AC_INIT([package], [version])
+/// this is before AC_INIT: begin with AC_INIT([package], [version])
 #[rattlefmt::skip]
-pub const INIT_NOT_FIRST: Key = Key(b"init-not-first", b"something is before AC_INIT; begin with AC_INIT([package], [version])", b"");
+pub const INIT_NOT_FIRST: Key = Key(b"init-not-first", b"this is before AC_INIT: begin with AC_INIT([package], [version])", b"");
 
-/// ; the call in its place is refused: WHAT
+/// , and acrun port leaves it: WHAT
 #[rattlefmt::skip]
-pub const CALL_IS_REFUSED: Key = Key(b"call-is-refused", b"; the call in its place is refused: \x01", b"");
+pub const CALL_IS_REFUSED: Key = Key(b"call-is-refused", b", and acrun port leaves it: \x01", b"");
 
-/// ; with a call in its place, Autoconf makes the checks that its macros require in any case: acrun port --idioms writes it
+/// , and acrun port leaves it without --idioms, since Autoconf makes the checks that a macro in a call needs in any case
 #[rattlefmt::skip]
-pub const CALL_DRAWS: Key = Key(b"call-draws", b"; with a call in its place, Autoconf makes the checks that its macros require in any case: acrun port --idioms writes it", b"");
+pub const CALL_DRAWS: Key = Key(b"call-draws", b", and acrun port leaves it without --idioms, since Autoconf makes the checks that a macro in a call needs in any case", b"");
+
+/// ; its test is in brackets, which are quotes here: write test
+#[rattlefmt::skip]
+pub const TEST_IN_BRACKETS: Key = Key(b"test-in-brackets", b"; its test is in brackets, which are quotes here: write test", b"");
+
+/// ; its condition is on several lines: write it on one
+#[rattlefmt::skip]
+pub const TEST_ON_LINES: Key = Key(b"test-on-lines", b"; its condition is on several lines: write it on one", b"");
+
+/// ; it is after NAME, which acrun does not know
+#[rattlefmt::skip]
+pub const UNKNOWN_BEFORE: Key = Key(b"unknown-before", b"; it is after \x01, which acrun does not know", b"");
 
 /// there is no AC_INIT
 #[rattlefmt::skip]
@@ -472,15 +512,15 @@ pub const NO_INIT: Key = Key(b"no-init", b"there is no AC_INIT", b"begin with AC
 
 /// TEXT is after AC_OUTPUT
 #[rattlefmt::skip]
-pub const TEXT_AFTER_OUTPUT: Key = Key(b"text-after-output", b"\x01 is after AC_OUTPUT", b"only blanks and comments may be there: move it before AC_OUTPUT");
+pub const TEXT_AFTER_OUTPUT: Key = Key(b"text-after-output", b"\x01 is after AC_OUTPUT", b"move it before AC_OUTPUT: only comments may be after it");
 
 /// there is no AC_OUTPUT
 #[rattlefmt::skip]
 pub const NO_OUTPUT: Key = Key(b"no-output", b"there is no AC_OUTPUT", b"end the file with a line AC_OUTPUT");
 
-/// the commands of AC_CACHE_CHECK may set their own name alone
+/// the commands of AC_CACHE_CHECK may set only the name that it caches
 #[rattlefmt::skip]
-pub const CACHE_BODY: Key = Key(b"cache-body", b"the commands of AC_CACHE_CHECK may set their own name alone", b"set the name of the second argument here, and do the rest after the check, by AS_IF");
+pub const CACHE_BODY: Key = Key(b"cache-body", b"the commands of AC_CACHE_CHECK may set only the name that it caches", b"do the rest after the check, by AS_IF");
 
 /// statements nest more than 32 deep
 #[rattlefmt::skip]
@@ -488,91 +528,91 @@ pub const TOO_DEEP: Key = Key(b"too-deep", b"statements nest more than 32 deep",
 
 /// there are too many entries
 #[rattlefmt::skip]
-pub const TOO_MANY: Key = Key(b"too-many", b"there are too many entries", b"at most 1,024 files, headers, output variables, features and packages, and 256 entries of one list");
+pub const TOO_MANY: Key = Key(b"too-many", b"there are too many entries", b"a list has at most 256 entries, and the source 1,024 of one kind");
 
-/// a version of Autoconf after 2.71 is required
+/// this asks for a version of Autoconf after 2.71
 #[rattlefmt::skip]
-pub const NEWER_VERSION: Key = Key(b"newer-version", b"a version of Autoconf after 2.71 is required", b"acrun follows 2.71: write AC_PREREQ([2.71])");
+pub const NEWER_VERSION: Key = Key(b"newer-version", b"this asks for a version of Autoconf after 2.71", b"acrun follows 2.71: write AC_PREREQ([2.71])");
 
-/// memory ran out
+/// out of memory
 #[rattlefmt::skip]
-pub const NO_MEMORY: Key = Key(b"no-memory", b"memory ran out", b"");
+pub const NO_MEMORY: Key = Key(b"no-memory", b"out of memory", b"");
 
 /// the source weighs more than 65,535 statements
 #[rattlefmt::skip]
-pub const PLAN_1: Key = Key(b"plan-1", b"the source weighs more than 65,535 statements", b"each statement counts, in cases too, and the cases of a list once for each of its entries: make lists shorter");
+pub const PLAN_1: Key = Key(b"plan-1", b"the source weighs more than 65,535 statements", b"a case of a list counts once for each entry: make lists shorter");
 
 /// the template PATH can't be read
 #[rattlefmt::skip]
-pub const TEMPLATE: Key = Key(b"template", b"the template \x01 can't be read", b"make the template, or name another one as in AC_CONFIG_FILES([file:template])");
+pub const TEMPLATE: Key = Key(b"template", b"the template \x01 can't be read", b"make it, or name another, as in AC_CONFIG_FILES([file:template])");
 
 /// FILE: NUMBER more findings are not shown
 #[rattlefmt::skip]
 pub const MORE_FINDINGS: Key = Key(b"more-findings", b"\x01: \x02 more findings are not shown", b"");
 
-/// the comma is a part of a name here: entries are separated by blanks
+/// the comma is part of a name here: blanks separate entries
 #[rattlefmt::skip]
-pub const COMMA_IN_LIST: Key = Key(b"comma-in-list", b"the comma is a part of a name here: entries are separated by blanks", b"leave the commas out");
+pub const COMMA_IN_LIST: Key = Key(b"comma-in-list", b"the comma is part of a name here: blanks separate entries", b"leave the commas out");
 
 /// the backslash stays in the message; Autoconf drops it
 #[rattlefmt::skip]
 pub const BACKSLASH_IN_MESSAGE: Key = Key(b"backslash-in-message", b"the backslash stays in the message; Autoconf drops it", b"leave the backslash out");
 
-/// the blank before the comma is dropped; in Autoconf it is a part of the name
+/// the blank before the comma is dropped; in Autoconf it is part of the name
 #[rattlefmt::skip]
-pub const BLANK_BEFORE_COMMA: Key = Key(b"blank-before-comma", b"the blank before the comma is dropped; in Autoconf it is a part of the name", b"write the comma right after the name");
+pub const BLANK_BEFORE_COMMA: Key = Key(b"blank-before-comma", b"the blank before the comma is dropped; in Autoconf it is part of the name", b"write the comma right after the name");
 
-/// the quote is a part of the value; in Autoconf it ends the quotes that are around the value
+/// the quote is part of the value; in Autoconf it ends the quotes around the value
 #[rattlefmt::skip]
-pub const QUOTE_IN_VALUE: Key = Key(b"quote-in-value", b"the quote is a part of the value; in Autoconf it ends the quotes that are around the value", b"leave the quotes out");
+pub const QUOTE_IN_VALUE: Key = Key(b"quote-in-value", b"the quote is part of the value; in Autoconf it ends the quotes around the value", b"leave the quotes out");
 
-/// Autoconf makes a script of a list on several lines that doesn't run
+/// Autoconf makes a script that doesn't run from a list on several lines
 #[rattlefmt::skip]
-pub const LIST_ON_LINES: Key = Key(b"list-on-lines", b"Autoconf makes a script of a list on several lines that doesn't run", b"write the list on one line");
+pub const LIST_ON_LINES: Key = Key(b"list-on-lines", b"Autoconf makes a script that doesn't run from a list on several lines", b"write the list on one line");
 
 /// Autoconf refuses a name with _AC_ in it
 #[rattlefmt::skip]
 pub const FORBIDDEN_NAME: Key = Key(b"forbidden-name", b"Autoconf refuses a name with _AC_ in it", b"choose another name");
 
-/// Autoconf makes a script of an `&` in the name of an output that doesn't run
+/// Autoconf makes a script that doesn't run from an `&` in the name of an output
 #[rattlefmt::skip]
-pub const AMPERSAND_IN_OUTPUT: Key = Key(b"ampersand-in-output", b"Autoconf makes a script of an `&` in the name of an output that doesn't run", b"choose another name");
+pub const AMPERSAND_IN_OUTPUT: Key = Key(b"ampersand-in-output", b"Autoconf makes a script that doesn't run from an `&` in the name of an output", b"choose another name");
 
 /// Autoconf refuses a dnl line in AC_CONFIG_FILES
 #[rattlefmt::skip]
 pub const DNL_IN_LIST: Key = Key(b"dnl-in-list", b"Autoconf refuses a dnl line in AC_CONFIG_FILES", b"put the comment before the call");
 
-/// a `#` in single brackets begins a comment of m4 in Autoconf, which refuses this or drops the rest
+/// in Autoconf a `#` in single brackets begins a comment, which drops the rest or is refused
 #[rattlefmt::skip]
-pub const HASH_IN_MESSAGE: Key = Key(b"hash-in-message", b"a `#` in single brackets begins a comment of m4 in Autoconf, which refuses this or drops the rest", b"put the text in two pairs of brackets");
+pub const HASH_IN_MESSAGE: Key = Key(b"hash-in-message", b"in Autoconf a `#` in single brackets begins a comment, which drops the rest or is refused", b"put the text in two pairs of brackets");
 
-/// the tarname is made of the whole name here, and in Autoconf of what is before the comma
+/// the tarname is made from the whole name here, and in Autoconf from what is before the comma
 #[rattlefmt::skip]
-pub const COMMA_IN_NAME: Key = Key(b"comma-in-name", b"the tarname is made of the whole name here, and in Autoconf of what is before the comma", b"put the name in two pairs of brackets, or give the tarname as the fourth argument");
+pub const COMMA_IN_NAME: Key = Key(b"comma-in-name", b"the tarname is made from the whole name here, and in Autoconf from what is before the comma", b"put the name in two pairs of brackets, or give the tarname as the\nfourth argument");
 
-/// a library is never found by the function main
+/// a library is never found by the function main; in Autoconf it may be
 #[rattlefmt::skip]
-pub const LIBRARY_MAIN: Key = Key(b"library-main", b"a library is never found by the function main", b"name a function that the library has, as in AC_CHECK_LIB([m], [cos])");
+pub const LIBRARY_MAIN: Key = Key(b"library-main", b"a library is never found by the function main; in Autoconf it may be", b"name a function that the library has, as in AC_CHECK_LIB([m], [cos])");
 
-/// a comment is no action, so the library is added to LIBS; in Autoconf nothing is done
+/// a comment is not an action, so the library is added to LIBS; in Autoconf nothing is done
 #[rattlefmt::skip]
-pub const DNL_ACTION: Key = Key(b"dnl-action", b"a comment is no action, so the library is added to LIBS; in Autoconf nothing is done", b"write an assignment, such as [have_it=yes], for an action that does nothing");
+pub const DNL_ACTION: Key = Key(b"dnl-action", b"a comment is not an action, so the library is added to LIBS; in Autoconf nothing is done", b"write an assignment, such as [have_it=yes], to do nothing");
 
 /// this is an empty argument; in Autoconf it is an argument that isn't empty
 #[rattlefmt::skip]
 pub const EMPTY_QUOTES: Key = Key(b"empty-quotes", b"this is an empty argument; in Autoconf it is an argument that isn't empty", b"write `[]` for an empty argument");
 
-/// the blanks at the ends of this name are dropped; in Autoconf they are a part of it
+/// the blanks at the ends of this name are dropped; in Autoconf they are part of it
 #[rattlefmt::skip]
-pub const BLANK_IN_NAME: Key = Key(b"blank-in-name", b"the blanks at the ends of this name are dropped; in Autoconf they are a part of it", b"write the name without blanks");
+pub const BLANK_IN_NAME: Key = Key(b"blank-in-name", b"the blanks at the ends of this name are dropped; in Autoconf they are part of it", b"write the name without blanks");
 
 /// if the program is found, the variable is empty; in Autoconf it gets the last argument
 #[rattlefmt::skip]
 pub const EMPTY_VALUE: Key = Key(b"empty-value", b"if the program is found, the variable is empty; in Autoconf it gets the last argument", b"give a value, as in AC_CHECK_PROG([HAVE_AWK], [awk], [yes], [no])");
 
-/// Autoconf makes a script of a case without a word that doesn't run
+/// Autoconf makes a script that doesn't run from a case without a word
 #[rattlefmt::skip]
-pub const EMPTY_CASE: Key = Key(b"empty-case", b"Autoconf makes a script of a case without a word that doesn't run", b"write the word, as in AS_CASE([$name], ..)");
+pub const EMPTY_CASE: Key = Key(b"empty-case", b"Autoconf makes a script that doesn't run from a case without a word", b"write the word, as in AS_CASE([$name], ..)");
 
 /// Autoconf makes no shell text of this call, so a script with the `;` after it doesn't run
 #[rattlefmt::skip]
@@ -582,13 +622,13 @@ pub const SEMICOLON_AFTER_CALL: Key = Key(b"semicolon-after-call", b"Autoconf ma
 #[rattlefmt::skip]
 pub const LOGIN_SHELL: Key = Key(b"login-shell", b"SHELL is the login shell of whoever runs this, or empty; in Autoconf it is the shell that runs configure", b"write AC_SUBST([SHELL], [/bin/sh])");
 
-/// nothing here sets NAME; a configure script of Autoconf does, and here it is empty
+/// nothing here sets NAME, so it is empty; a configure script of Autoconf sets it
 #[rattlefmt::skip]
-pub const SCRIPT_VARIABLE: Key = Key(b"script-variable", b"nothing here sets \x01; a configure script of Autoconf does, and here it is empty", b"");
+pub const SCRIPT_VARIABLE: Key = Key(b"script-variable", b"nothing here sets \x01, so it is empty; a configure script of Autoconf sets it", b"");
 
 /// write before it, after AC_PROG_CC
 #[rattlefmt::skip]
-pub const CHECK_GNU: Key = Key(b"check-gnu", b"", b"write before it, after AC_PROG_CC\n  AC_CACHE_CHECK([whether the compiler is GNU C], [ac_cv_c_compiler_gnu],\n    [AC_COMPILE_IFELSE([AC_LANG_PROGRAM([[#ifndef __GNUC__\n  #error another compiler\n  #endif]], [])], [ac_cv_c_compiler_gnu=yes], [ac_cv_c_compiler_gnu=no])])\n  AS_IF([test \"$ac_cv_c_compiler_gnu\" = yes], [GCC=yes], [GCC=])");
+pub const CHECK_GNU: Key = Key(b"check-gnu", b"", b"write before it, after AC_PROG_CC\n  AC_CACHE_CHECK([whether the compiler is GNU C],\n    [ac_cv_c_compiler_gnu],\n    [AC_COMPILE_IFELSE([AC_LANG_PROGRAM([[#ifndef __GNUC__\n  #error another compiler\n  #endif]], [])],\n      [ac_cv_c_compiler_gnu=yes], [ac_cv_c_compiler_gnu=no])])\n  AS_IF([test \"$ac_cv_c_compiler_gnu\" = yes], [GCC=yes], [GCC=])");
 
 /// acrun makes checks of C alone
 #[rattlefmt::skip]
@@ -596,31 +636,31 @@ pub const NO_OTHER_LANGUAGE: Key = Key(b"no-other-language", b"", b"acrun makes 
 
 /// write before it
 #[rattlefmt::skip]
-pub const DECLARE_HOST: Key = Key(b"declare-host", b"", b"write before it\n  AC_ARG_VAR([host], [the system that the programs run on, as CPU-VENDOR-OS])\nit is empty unless the user gives it; share/configure gives it what it gets by --host or --build");
+pub const DECLARE_HOST: Key = Key(b"declare-host", b"", b"write before it\n  AC_ARG_VAR([host], [the system of the programs, CPU-VENDOR-OS])\nthe user gives it, and share/configure by --host or --build");
 
 /// write before it
 #[rattlefmt::skip]
-pub const DECLARE_BUILD: Key = Key(b"declare-build", b"", b"write before it\n  AC_ARG_VAR([build], [the system that configure runs on, as CPU-VENDOR-OS])\nit is empty unless the user gives it; share/configure gives it what it gets by --build");
+pub const DECLARE_BUILD: Key = Key(b"declare-build", b"", b"write before it\n  AC_ARG_VAR([build], [the system of the build, CPU-VENDOR-OS])\nthe user gives it, and share/configure by --build");
 
 /// write before it
 #[rattlefmt::skip]
-pub const DECLARE_TARGET: Key = Key(b"declare-target", b"", b"write before it\n  AC_ARG_VAR([target], [the system that the programs make code for, as CPU-VENDOR-OS])\nit is empty unless the user gives it; share/configure gives it what it gets by --target, --host or --build");
+pub const DECLARE_TARGET: Key = Key(b"declare-target", b"", b"write before it\n  AC_ARG_VAR([target], [the system of what is made, CPU-VENDOR-OS])\nthe user gives it, and share/configure by --target, --host or --build");
 
-/// declare host by AC_ARG_VAR, and compare it with patterns, as in AS_CASE([$host], [*-linux*], ..)
+/// declare host by AC_ARG_VAR, and compare it with patterns, as in
 #[rattlefmt::skip]
-pub const TEST_HOST: Key = Key(b"test-host", b"", b"declare host by AC_ARG_VAR, and compare it with patterns, as in AS_CASE([$host], [*-linux*], ..)");
+pub const TEST_HOST: Key = Key(b"test-host", b"", b"declare host by AC_ARG_VAR, and compare it with patterns, as in\n  AS_CASE([$host], [*-linux*], ..)");
 
-/// declare build by AC_ARG_VAR, and compare it with patterns, as in AS_CASE([$build], [*-linux*], ..)
+/// declare build by AC_ARG_VAR, and compare it with patterns, as in
 #[rattlefmt::skip]
-pub const TEST_BUILD: Key = Key(b"test-build", b"", b"declare build by AC_ARG_VAR, and compare it with patterns, as in AS_CASE([$build], [*-linux*], ..)");
+pub const TEST_BUILD: Key = Key(b"test-build", b"", b"declare build by AC_ARG_VAR, and compare it with patterns, as in\n  AS_CASE([$build], [*-linux*], ..)");
 
-/// declare target by AC_ARG_VAR, and compare it with patterns, as in AS_CASE([$target], [*-linux*], ..)
+/// declare target by AC_ARG_VAR, and compare it with patterns, as in
 #[rattlefmt::skip]
-pub const TEST_TARGET: Key = Key(b"test-target", b"", b"declare target by AC_ARG_VAR, and compare it with patterns, as in AS_CASE([$target], [*-linux*], ..)");
+pub const TEST_TARGET: Key = Key(b"test-target", b"", b"declare target by AC_ARG_VAR, and compare it with patterns, as in\n  AS_CASE([$target], [*-linux*], ..)");
 
-/// acrun compiles for the machine that it runs on; leave it out, or write before it
+/// acrun compiles for the machine that it runs on; leave it out, or
 #[rattlefmt::skip]
-pub const NO_CROSS: Key = Key(b"no-cross", b"", b"acrun compiles for the machine that it runs on; leave it out, or write before it\n  cross_compiling=no");
+pub const NO_CROSS: Key = Key(b"no-cross", b"", b"acrun compiles for the machine that it runs on; leave it out, or\nwrite before it\n  cross_compiling=no");
 
 /// write before it
 #[rattlefmt::skip]
@@ -650,9 +690,9 @@ pub const TILDE: Key = Key(b"tilde", b"the `~` stays here; a shell replaces it b
 #[rattlefmt::skip]
 pub const DOLLAR_QUOTE: Key = Key(b"dollar-quote", b"the `$` before the quote stays here; some shells drop it, or read the quote otherwise", b"leave the `$` out");
 
-/// WORD is one word of the test here; a shell makes no word of it if it is empty, and several if it has blanks
+/// WORD is one word of the test here; in a shell it is nothing if it is empty, and several words if it has blanks
 #[rattlefmt::skip]
-pub const UNQUOTED_WORD: Key = Key(b"unquoted-word", b"\x01 is one word of the test here; a shell makes no word of it if it is empty, and several if it has blanks", b"write \"\x01\"");
+pub const UNQUOTED_WORD: Key = Key(b"unquoted-word", b"\x01 is one word of the test here; in a shell it is nothing if it is empty, and several words if it has blanks", b"write \"\x01\"");
 
 /// ; the same holds at line NUMBER
 #[rattlefmt::skip]
@@ -674,9 +714,9 @@ pub const FEWER_INCLUDES: Key = Key(b"fewer-includes", b"Autoconf's default incl
 #[rattlefmt::skip]
 pub const INCLUDES_OF: Key = Key(b"includes-of", b"", b":\n  [AC_INCLUDES_DEFAULT\n  #include <\x01>]");
 
-/// AC_INCLUDES_DEFAULT in two pairs of brackets is read here; in Autoconf it is text
+/// AC_INCLUDES_DEFAULT in two pairs of brackets has its meaning here; in Autoconf it is text
 #[rattlefmt::skip]
-pub const QUOTED_INCLUDES: Key = Key(b"quoted-includes", b"AC_INCLUDES_DEFAULT in two pairs of brackets is read here; in Autoconf it is text", b"put it in one pair of brackets");
+pub const QUOTED_INCLUDES: Key = Key(b"quoted-includes", b"AC_INCLUDES_DEFAULT in two pairs of brackets has its meaning here; in Autoconf it is text", b"put it in one pair of brackets");
 
 /// the name of this macro is text here; Autoconf expands it
 #[rattlefmt::skip]
@@ -698,21 +738,25 @@ pub const WRITE_TEXT: Key = Key(b"write-text", b"", b"write the text that is mea
 #[rattlefmt::skip]
 pub const NO_COMPILER: Key = Key(b"no-compiler", b"nothing before this check looks for a compiler, so CC has no value unless the user gives one", b"write before it\n  AC_PROG_CC");
 
-/// nothing before this check tries whether the compiler works; with a misspelt flag in CFLAGS each check says no
+/// nothing before this check tries the compiler; with a misspelt flag in CFLAGS each check says no
 #[rattlefmt::skip]
-pub const COMPILER_NOT_TRIED: Key = Key(b"compiler-not-tried", b"nothing before this check tries whether the compiler works; with a misspelt flag in CFLAGS each check says no", b"write after AC_PROG_CC\n  AC_CACHE_CHECK([whether the C compiler makes programs], [PACKAGE_cv_prog_cc_works],\n    [AC_COMPILE_IFELSE([AC_LANG_PROGRAM([], [])],\n      [AC_LINK_IFELSE([AC_LANG_PROGRAM([], [])], [PACKAGE_cv_prog_cc_works=yes])])])\n  AS_IF([test \"$PACKAGE_cv_prog_cc_works\" != yes],\n    [AC_MSG_ERROR([the C compiler makes no programs; config.log says why], [77])])");
+pub const COMPILER_NOT_TRIED: Key = Key(b"compiler-not-tried", b"nothing before this check tries the compiler; with a misspelt flag in CFLAGS each check says no", b"write after AC_PROG_CC\n  AC_CACHE_CHECK([whether the C compiler makes programs],\n    [my_cv_prog_cc_works],\n    [AC_COMPILE_IFELSE([AC_LANG_PROGRAM([], [])],\n      [AC_LINK_IFELSE([AC_LANG_PROGRAM([], [])],\n        [my_cv_prog_cc_works=yes])])])\n  AS_IF([test \"$my_cv_prog_cc_works\" != yes],\n    [AC_MSG_ERROR([the C compiler makes no programs], [77])])");
 
 /// after `STATEMENT`, a run of this source that is cut and started again may end otherwise than one that is not cut
 #[rattlefmt::skip]
-pub const NOT_RESUMABLE: Key = Key(b"not-resumable", b"after `\x01`, a run of this source that is cut and started again may end otherwise than one that is not cut", b"read a cached value, such as $ac_cv_func_f, only after its check, assign to none, and try programs within AC_CACHE_CHECK");
+pub const NOT_RESUMABLE: Key = Key(b"not-resumable", b"after `\x01`, a run of this source that is cut and started again may end otherwise than one that is not cut", b"read a cached value, such as $ac_cv_func_f, only after its check,\nassign to none, and try programs within AC_CACHE_CHECK");
 
 /// a run of this source that is cut and started again may end otherwise than one that is not cut
 #[rattlefmt::skip]
-pub const NOT_RESUMABLE_ANYWHERE: Key = Key(b"not-resumable-anywhere", b"a run of this source that is cut and started again may end otherwise than one that is not cut", b"read a cached value, such as $ac_cv_func_f, only after its check, assign to none, and try programs within AC_CACHE_CHECK");
+pub const NOT_RESUMABLE_ANYWHERE: Key = Key(b"not-resumable-anywhere", b"a run of this source that is cut and started again may end otherwise than one that is not cut", b"read a cached value, such as $ac_cv_func_f, only after its check,\nassign to none, and try programs within AC_CACHE_CHECK");
 
-/// no statement sets @NAME@, so it stays as it is
+/// a run in the source's directory reads NAME, so it doesn't write it, and ends with an error
 #[rattlefmt::skip]
-pub const UNSET_VARIABLE: Key = Key(b"unset-variable", b"no statement sets @\x01@, so it stays as it is", b"");
+pub const OUTPUT_OVER_INPUT: Key = Key(b"output-over-input", b"a run in the source's directory reads \x01, so it doesn't write it, and ends with an error", b"give the output or its template another name, as in\n  AC_CONFIG_FILES([file:template])");
+
+/// no statement sets @NAME@, so it is left unchanged
+#[rattlefmt::skip]
+pub const UNSET_VARIABLE: Key = Key(b"unset-variable", b"no statement sets @\x01@, so it is left unchanged", b"");
 
 /// did you mean @NAME@?
 #[rattlefmt::skip]
@@ -722,17 +766,17 @@ pub const NEAR_VARIABLE: Key = Key(b"near-variable", b"", b"did you mean @\x01@?
 #[rattlefmt::skip]
 pub const NO_DATAROOTDIR: Key = Key(b"no-datarootdir", b"its value begins with ${datarootdir}, which this template does not set: files would go to /man, /doc and the like", b"add the line\n  datarootdir = @datarootdir@");
 
-/// config.status is a record here, and no script that can be run
+/// config.status is a record here; in Autoconf it is a script
 #[rattlefmt::skip]
-pub const CONFIG_STATUS_SCRIPT: Key = Key(b"config-status-script", b"config.status is a record here, and no script that can be run", b"write `acrun status NAME` in the rule, and `acrun status --recheck` for `./config.status --recheck`");
+pub const CONFIG_STATUS_SCRIPT: Key = Key(b"config-status-script", b"config.status is a record here; in Autoconf it is a script", b"write `acrun status NAME` in the rule, and `acrun status --recheck`\nfor `./config.status --recheck`");
 
 /// a run may leave conftests: this rule does not remove them, or this list takes them for sources
 #[rattlefmt::skip]
-pub const CONFTESTS_LEFT: Key = Key(b"conftests-left", b"a run may leave conftests: this rule does not remove them, or this list takes them for sources", b"a run may leave these files besides its outputs\n  config.log config.status config.cache conftest* acrun-*.tmp\na list without them is `$(filter-out conftest%,$(wildcard *.c))`, and the script share/configure removes them");
+pub const CONFTESTS_LEFT: Key = Key(b"conftests-left", b"a run may leave conftests: this rule does not remove them, or this list takes them for sources", b"a run may leave these files besides its outputs\n  config.log config.status config.cache conftest* acrun-*.tmp\nwrite a list as `$(filter-out conftest%,$(wildcard *.c))`; the script\nshare/configure removes conftests");
 
-/// the last line has no newline, and so has that of the file that is made; Autoconf adds one
+/// the last line has no newline, and neither has that of the file that is made; Autoconf adds one
 #[rattlefmt::skip]
-pub const NO_NEWLINE_AT_END: Key = Key(b"no-newline-at-end", b"the last line has no newline, and so has that of the file that is made; Autoconf adds one", b"add a newline at the end of the template");
+pub const NO_NEWLINE_AT_END: Key = Key(b"no-newline-at-end", b"the last line has no newline, and neither has that of the file that is made; Autoconf adds one", b"add a newline at the end of the template");
 
 /// no statement defines NAME
 #[rattlefmt::skip]
@@ -742,9 +786,13 @@ pub const NEVER_DEFINED: Key = Key(b"never-defined", b"no statement defines \x01
 #[rattlefmt::skip]
 pub const NEAR_DEFINITION: Key = Key(b"near-definition", b"", b"did you mean \x01?");
 
-/// Autoconf checks its default headers by itself; write
+///  and NUMBER more
 #[rattlefmt::skip]
-pub const DEFAULT_HEADERS: Key = Key(b"default-headers", b"", b"Autoconf checks its default headers by itself; write\n  AC_CHECK_HEADERS([\x01])");
+pub const AND_MORE_NAMES: Key = Key(b"and-more-names", b" and \x01 more", b"");
+
+/// no statement defines NAMES; Autoconf checks these headers in any case
+#[rattlefmt::skip]
+pub const DEFAULT_HEADERS: Key = Key(b"default-headers", b"no statement defines \x01; Autoconf checks these headers in any case", b"write\n  AC_CHECK_HEADERS([\x02])");
 
 /// no header template has NAME, so its definition goes nowhere
 #[rattlefmt::skip]
@@ -754,9 +802,9 @@ pub const NOT_IN_HEADER: Key = Key(b"not-in-header", b"no header template has \x
 #[rattlefmt::skip]
 pub const SET_SHELL: Key = Key(b"set-shell", b"", b"write in configure.ac\n  AC_SUBST([SHELL], [/bin/sh])");
 
-/// there is no config header; write the definitions into a header of AC_CONFIG_HEADERS, or build DEFS by hand with AC_SUBST
+/// there is no config header; write the definitions into a header of
 #[rattlefmt::skip]
-pub const SET_DEFS: Key = Key(b"set-defs", b"", b"there is no config header; write the definitions into a header of AC_CONFIG_HEADERS, or build DEFS by hand with AC_SUBST");
+pub const SET_DEFS: Key = Key(b"set-defs", b"", b"there is no config header; write the definitions into a header of\nAC_CONFIG_HEADERS, or set DEFS by AC_SUBST");
 
 /// write AC_SUBST([SET_MAKE]), or leave it out: each make sets MAKE
 #[rattlefmt::skip]
@@ -850,9 +898,9 @@ pub const OPTION_BEFORE_COMMAND: Key = Key(b"option-before-command", b"", b"writ
 #[rattlefmt::skip]
 pub const NEAR_OPTION: Key = Key(b"near-option", b"", b"a similar option is \x01");
 
-/// acrun configure --help shows the options of the source, and man acrun all others
+/// acrun configure --help shows its options, and man acrun all others
 #[rattlefmt::skip]
-pub const SEE_OPTIONS: Key = Key(b"see-options", b"", b"acrun configure --help shows the options of the source, and man acrun all others");
+pub const SEE_OPTIONS: Key = Key(b"see-options", b"", b"acrun configure --help shows its options, and man acrun all others");
 
 /// an argument is an option or NAME=VALUE; man acrun has all options
 #[rattlefmt::skip]
@@ -860,11 +908,11 @@ pub const NO_OPTION: Key = Key(b"no-option", b"", b"an argument is an option or 
 
 /// OPTION names no feature or package
 #[rattlefmt::skip]
-pub const NO_OPTION_NAME: Key = Key(b"no-option-name", b"\x01 names no feature or package", b"a name has letters, digits, `-`, `+`, `.` and `_`; give each option by itself");
+pub const NO_OPTION_NAME: Key = Key(b"no-option-name", b"\x01 names no feature or package", b"a name has letters, digits, `-`, `+`, `.` and `_`");
 
-/// NAME is no name of a variable
+/// NAME is not the name of a variable
 #[rattlefmt::skip]
-pub const NO_ASSIGNED_NAME: Key = Key(b"no-assigned-name", b"\x01 is no name of a variable", b"a name has letters, digits and `_`, and does not begin with a digit");
+pub const NO_ASSIGNED_NAME: Key = Key(b"no-assigned-name", b"\x01 is not the name of a variable", b"a name has letters, digits and `_`, and does not begin with a digit");
 
 /// the option OPTION needs a value
 #[rattlefmt::skip]
@@ -872,7 +920,7 @@ pub const OPTION_WITHOUT_VALUE: Key = Key(b"option-without-value", b"the option 
 
 /// the source declares no option OPTION
 #[rattlefmt::skip]
-pub const UNDECLARED_OPTION: Key = Key(b"undeclared-option", b"the source declares no option \x01", b"acrun configure --help shows the options of the source; without --enable-option-checking=fatal it is a warning");
+pub const UNDECLARED_OPTION: Key = Key(b"undeclared-option", b"the source declares no option \x01", b"acrun configure --help shows the options of the source");
 
 /// there is no command, and no line of the input is `%%`
 #[rattlefmt::skip]
@@ -882,13 +930,13 @@ pub const NO_CALL: Key = Key(b"no-call", b"there is no command, and no line of t
 #[rattlefmt::skip]
 pub const WORD_AFTER_OPTION: Key = Key(b"word-after-option", b"\x01 takes no other word", b"acrun help COMMAND explains a command");
 
-/// -j is no number of children
+/// -j needs a number
 #[rattlefmt::skip]
-pub const NO_NUMBER_OF_CHILDREN: Key = Key(b"no-number-of-children", b"-j is no number of children", b"write -j1 to -j16, without a blank, before the command: acrun -j8 configure");
+pub const NO_NUMBER_OF_CHILDREN: Key = Key(b"no-number-of-children", b"-j needs a number", b"write -j1 to -j16 before the command, as in acrun -j8 configure");
 
-/// WORD is no command
+/// WORD is not a command
 #[rattlefmt::skip]
-pub const NO_COMMAND: Key = Key(b"no-command", b"\x01 is no command", b"");
+pub const NO_COMMAND: Key = Key(b"no-command", b"\x01 is not a command", b"");
 
 /// a similar name is NAME
 #[rattlefmt::skip]
@@ -902,29 +950,29 @@ pub const SEE_COMMANDS: Key = Key(b"see-commands", b"acrun help lists the comman
 #[rattlefmt::skip]
 pub const WORD_AFTER_STATUS: Key = Key(b"word-after-status", b"--recheck is the only word after status", b"");
 
-/// -jN is followed by configure, and N is from 1 to 16
+/// -jN takes a number from 1 to 16, and configure is the word after it
 #[rattlefmt::skip]
-pub const WINDOW_WITHOUT_CONFIGURE: Key = Key(b"window-without-configure", b"-jN is followed by configure, and N is from 1 to 16", b"");
+pub const WINDOW_WITHOUT_CONFIGURE: Key = Key(b"window-without-configure", b"-jN takes a number from 1 to 16, and configure is the word after it", b"");
 
-/// the line LINE is none of a cache
+/// the line LINE is not a line of a cache
 #[rattlefmt::skip]
-pub const NO_CACHE_LINE: Key = Key(b"no-cache-line", b"the line \x01 is none of a cache", b"remove the line, or the whole cache file: it is then made anew");
+pub const NO_CACHE_LINE: Key = Key(b"no-cache-line", b"the line \x01 is not a line of a cache", b"remove the line, or the whole cache: the next run makes a new one");
 
-/// the line LINE sets what is no cached value
+/// the line LINE sets what is not a cached value
 #[rattlefmt::skip]
-pub const NO_CACHE_NAME: Key = Key(b"no-cache-name", b"the line \x01 sets what is no cached value", b"a name in a cache has _cv_ in it; give other variables as arguments of acrun configure");
+pub const NO_CACHE_NAME: Key = Key(b"no-cache-name", b"the line \x01 sets what is not a cached value", b"a name in a cache has _cv_ in it; give others to acrun configure");
 
 /// the cache file has more than 4,194,304 bytes
 #[rattlefmt::skip]
-pub const CACHE_TOO_LARGE: Key = Key(b"cache-too-large", b"the cache file has more than 4,194,304 bytes", b"remove it: it is then made anew");
+pub const CACHE_TOO_LARGE: Key = Key(b"cache-too-large", b"the cache file has more than 4,194,304 bytes", b"remove it: the next run makes a new one");
 
 /// NAME was VALUE in the run that made the cache CACHE
 #[rattlefmt::skip]
-pub const WAS_SET: Key = Key(b"was-set", b"\x01 was \x02 in the run that made the cache \x03", b"give it the old value again, or remove the cache, whose answers hold for that value");
+pub const WAS_SET: Key = Key(b"was-set", b"\x01 was \x02 in the run that made the cache \x03", b"give it that value again, or remove the cache");
 
 /// NAME was not set in the run that made the cache CACHE
 #[rattlefmt::skip]
-pub const WAS_UNSET: Key = Key(b"was-unset", b"\x01 was not set in the run that made the cache \x02", b"leave it unset again, or remove the cache, whose answers hold for that");
+pub const WAS_UNSET: Key = Key(b"was-unset", b"\x01 was not set in the run that made the cache \x02", b"leave it unset again, or remove the cache");
 
 /// , and is now VALUE
 #[rattlefmt::skip]
@@ -950,13 +998,13 @@ pub const WRONG_NO_IN_OUTPUTS: Key = Key(b"wrong-no-in-outputs", b"this run may 
 #[rattlefmt::skip]
 pub const LONG_CACHE: Key = Key(b"long-cache", b"\x01 has more than 4,194,304 bytes, so no run can read it again: remove it", b"");
 
-/// the file is no record of a run: it begins with LINE
+/// the file is not a record of a run: it begins with LINE
 #[rattlefmt::skip]
-pub const NO_RECORD: Key = Key(b"no-record", b"the file is no record of a run: it begins with \x01", b"run acrun configure first; the config.status of GNU Autoconf is a script, and is not read");
+pub const NO_RECORD: Key = Key(b"no-record", b"the file is not a record of a run: it begins with \x01", b"run acrun configure first; acrun does not read Autoconf's scripts");
 
 /// the record has another version: LINE
 #[rattlefmt::skip]
-pub const OTHER_RECORD: Key = Key(b"other-record", b"the record has another version: \x01", b"it was made by a later acrun: run acrun configure again");
+pub const OTHER_RECORD: Key = Key(b"other-record", b"the record has another version: \x01", b"a later acrun made it: run acrun configure again");
 
 /// the line LINE is wrong in the record
 #[rattlefmt::skip]
@@ -966,13 +1014,13 @@ pub const WRONG_RECORD_LINE: Key = Key(b"wrong-record-line", b"the line \x01 is 
 #[rattlefmt::skip]
 pub const CUT_RECORD: Key = Key(b"cut-record", b"the record is cut off", b"run acrun configure again");
 
-/// NAME is no output of this package
+/// NAME is not an output of this package
 #[rattlefmt::skip]
-pub const NO_OUTPUT_NAME: Key = Key(b"no-output-name", b"\x01 is no output of this package", b"");
+pub const NO_OUTPUT_NAME: Key = Key(b"no-output-name", b"\x01 is not an output of this package", b"");
 
-/// configure.in is there, and is not read: give it the name configure.ac
+/// configure.in is there, and acrun does not read it: rename it to configure.ac
 #[rattlefmt::skip]
-pub const OLD_SOURCE_NAME: Key = Key(b"old-source-name", b"configure.in is there, and is not read: give it the name configure.ac", b"");
+pub const OLD_SOURCE_NAME: Key = Key(b"old-source-name", b"configure.in is there, and acrun does not read it: rename it to configure.ac", b"");
 
 /// no compiler job of this run succeeded: see config.log
 #[rattlefmt::skip]
@@ -981,3 +1029,35 @@ pub const NO_COMPILER_WORKS: Key = Key(b"no-compiler-works", b"no compiler job o
 /// a compiler failed that wrote 65,536 bytes of diagnostics or more, which may be why: see config.log
 #[rattlefmt::skip]
 pub const CUT_DIAGNOSTICS: Key = Key(b"cut-diagnostics", b"a compiler failed that wrote 65,536 bytes of diagnostics or more, which may be why: see config.log", b"");
+
+/// The codes of the warnings that something means another thing to Autoconf.
+#[rattlefmt::skip]
+pub(crate) const DIFFERENCES: [&[u8]; 27] = [
+    b"backslash-in-message",
+    b"blank-before-comma",
+    b"quote-in-value",
+    b"list-on-lines",
+    b"forbidden-name",
+    b"ampersand-in-output",
+    b"dnl-in-list",
+    b"hash-in-message",
+    b"comma-in-name",
+    b"library-main",
+    b"dnl-action",
+    b"empty-quotes",
+    b"blank-in-name",
+    b"empty-value",
+    b"empty-case",
+    b"semicolon-after-call",
+    b"login-shell",
+    b"script-variable",
+    b"tilde",
+    b"dollar-quote",
+    b"fewer-includes",
+    b"quoted-includes",
+    b"macro-in-text",
+    b"no-datarootdir",
+    b"config-status-script",
+    b"no-newline-at-end",
+    b"default-headers",
+];

@@ -6,22 +6,27 @@
 //!
 //! ```text
 //! let mut page = Page::new(alloc);
-//! page.put(keys::NO_TEST, &[WordPart::Quoted(b"grep x")]); // `grep x` is no test that is read
+//! page.put(keys::NO_TEST, &[WordPart::Quoted(b"grep x")]); // `grep x` is not a test that acrun supports
 //! ```
+//!
+//! Some warnings are that something means another thing to Autoconf. In `words.txt` they have a mark
+//! of their own, and [`is_difference`] knows them by their codes.
 //!
 //! What `put` adds is proved: the words, with their places filled, or the page says that memory ran
 //! out.
 //!
 //! Read `specs/Filling`, which defines what places are filled with, and `specs/Keys`; then `part`,
-//! `filling`, `key` and `page`.
+//! `filling`, `key` and `page`. `specs/Differences` and `differing` are read by themselves.
 #![tactic(auto)]
 
+mod differing;
 mod filling;
 mod key;
 pub mod keys;
 mod page;
 mod part;
 
+pub use differing::is_difference;
 pub use key::Key;
 pub use page::{Page, Words, warn_by_key};
 pub use part::WordPart;

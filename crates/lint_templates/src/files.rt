@@ -5,7 +5,7 @@ ghost use Rattle.lint_findings.specs.Within.{KeepsWithin};
 
 use crate::advice::variable_advice;
 use crate::given::Given;
-use crate::messages::{Form, warn_at, warn_of_name};
+use crate::messages::{Form, near_of, warn_at, warn_of_name};
 use bstr::ByteSlice;
 use deftable::{SubstList, is_shell_name};
 use lint_findings::{Finding, Span};
@@ -38,8 +38,9 @@ fn warn_once(
     }
     seen.add(name)?;
     let advice = variable_advice(name);
+    let near = near_of(alloc, out.len(), name, &given.variables)?;
     let form = Form::Variable;
-    warn_of_name(alloc, out, text, span, form, name, advice, &given.variables)
+    warn_of_name(alloc, out, text, span, form, name, advice, near)
 }
 
 /// Warns of each name between two `@` that is no output variable, once.

@@ -5,7 +5,7 @@ ghost use Rattle.lint_findings.specs.Within.{KeepsWithin};
 
 use crate::advice::{default_header, definition_advice};
 use crate::given::{Given, add_name};
-use crate::messages::{Form, warn_of_name};
+use crate::messages::{Form, near_of, warn_of_name};
 use bstr::ByteSlice;
 use deftable::{SubstList, is_shell_name};
 use lint_findings::{Finding, Span};
@@ -45,42 +45,96 @@ fn unlisted(alloc: Global, given: &Given, text: &[u8]) -> Result<SubstList, Allo
     Ok(names)
 }
 
-/// The names of default includes that a template undefines, and that nothing defines.
+/// The most names that one warning has.
+const MOST_NAMES: usize = 12;
+
+/// Names that a template undefines, and that nothing defines. One warning is about all of them.
 #[derive(Drop)]
-struct Defaults {
-    /// Where the first name is.
+struct Undefined {
+    /// Where the first name is, and its length.
     first: Option<(usize, usize)>,
-    /// The names, with commas between them.
+    /// The names, with commas between them, up to the number that one warning has.
     names: Vec<u8>,
-    /// The headers, with blanks between them.
+    /// The headers of the names, with blanks between them.
     headers: Vec<u8>,
+    /// How many names there are.
+    count: usize,
 }
 
-impl Defaults {
-    /// Adds a name, which is at this offset.
+impl Undefined {
+    fn none(alloc: Global) -> Undefined {
+        Undefined {
+            first: None,
+            names: Vec::new(alloc),
+            headers: Vec::new(alloc),
+            count: 0,
+        }
+    }
+
+    /// Adds a name, which is at this offset, and its header, which may be empty.
     fn add(&mut self, at: usize, name: &[u8], header: &[u8]) -> Result<(), AllocError> {
-        if self.first.is_some() {
+        if self.first.is_none() {
+            self.first = Some((at, name.len()));
+        }
+        let is_first = self.count == 0;
+        self.count = self.count.saturating_add(1);
+        if self.count > MOST_NAMES {
+            return Ok(());
+        }
+        if !is_first {
             self.names.extend_from_slice(b", ")?;
             self.headers.extend_from_slice(b" ")?;
-        } else {
-            self.first = Some((at, name.len()));
         }
         self.names.extend_from_slice(name)?;
         self.headers.extend_from_slice(header)
     }
 }
 
-/// Warns of the names of default includes, at the first of them.
-fn warn_of_defaults(
+/// The names that a template undefines, and that nothing defines, but for those of which more is
+/// said.
+#[derive(Drop)]
+struct Found {
+    /// Those of default includes.
+    defaults: Undefined,
+    /// Those of which nothing more is known.
+    others: Undefined,
+}
+
+/// Writes what is said of names that are not of default includes.
+fn put_others(page: &mut Page, others: &Undefined) {
+    page.put(
+        keys::NEVER_DEFINED,
+        &[WordPart::AsItIs(others.names.as_slice())],
+    );
+    if others.count > MOST_NAMES {
+        let more = WordPart::Number(others.count.saturating_sub(MOST_NAMES));
+        page.put(keys::AND_MORE_NAMES, &[more]);
+    }
+}
+
+/// Writes what is said of names of default includes.
+fn put_defaults(page: &mut Page, defaults: &Undefined) {
+    page.put(
+        keys::DEFAULT_HEADERS,
+        &[
+            WordPart::AsItIs(defaults.names.as_slice()),
+            WordPart::AsItIs(defaults.headers.as_slice()),
+        ],
+    );
+}
+
+/// Warns of names, at the first of them.
+fn warn_of_all(
     alloc: Global,
     file: usize,
     text: &[u8],
-    defaults: &Defaults,
+    undefined: &Undefined,
+    are_defaults: bool,
     out: &mut Vec<Finding>,
 ) -> Result<(), AllocError>
     ensures within { OnOk result (KeepsWithin file text.now out.old.items out.new.items) }
 {
-    let Some((start, length)) = defaults.first else {
+    let Some((start, length)) = undefined.first else {
         return Ok(());
     };
     let span = Span {
@@ -89,14 +143,11 @@ fn warn_of_defaults(
         end: start.saturating_add(length),
     };
     let mut page = Page::new(alloc);
-    page.put(
-        keys::NEVER_DEFINED,
-        &[WordPart::AsItIs(defaults.names.as_slice())],
-    );
-    page.put(
-        keys::DEFAULT_HEADERS,
-        &[WordPart::AsItIs(defaults.headers.as_slice())],
-    );
+    if are_defaults {
+        put_defaults(&mut page, undefined);
+        return page.warn(alloc, out, text, span, keys::DEFAULT_HEADERS.name());
+    }
+    put_others(&mut page, undefined);
     page.warn(alloc, out, text, span, keys::NEVER_DEFINED.name())
 }
 
@@ -108,7 +159,7 @@ struct Known<'a> {
 }
 
 /// Warns of the name of a line that begins at this offset, if it is undefined and nothing defines
-/// it. One of a default include is added to those.
+/// it. One of a default include, or of which nothing more is known, is added to those.
 fn warn_of_line(
     alloc: Global,
     known: Known<'_>,
@@ -116,7 +167,7 @@ fn warn_of_line(
     text: &[u8],
     at: usize,
     line: &[u8],
-    defaults: &mut Defaults,
+    found: &mut Found,
     out: &mut Vec<Finding>,
 ) -> Result<(), AllocError>
     ensures within { OnOk result (KeepsWithin file text.now out.old.items out.new.items) }
@@ -130,7 +181,7 @@ fn warn_of_line(
     let start = at.saturating_add(column);
     let header = default_header(name);
     if !header.is_empty() {
-        return defaults.add(start, name, header);
+        return found.defaults.add(start, name, header);
     }
     let span = Span {
         file,
@@ -138,40 +189,37 @@ fn warn_of_line(
         end: start.saturating_add(name.len()),
     };
     let advice = definition_advice(name);
-    warn_of_name(
-        alloc,
-        out,
-        text,
-        span,
-        Form::Definition,
-        name,
-        advice,
-        known.candidates,
-    )
+    let form = Form::Definition;
+    let count = out.len().saturating_add(found.others.count);
+    let near = near_of(alloc, count, name, known.candidates)?;
+    if advice.is_none() && near.is_none() {
+        return found.others.add(start, name, b"");
+    }
+    warn_of_name(alloc, out, text, span, form, name, advice, near)
 }
 
 /// Warns of the name of each line that is undefined and that nothing defines. Those of default
-/// includes are added to these.
+/// includes, and those of which nothing more is known, are added to these.
 fn warn_of_lines(
     alloc: Global,
     known: Known<'_>,
     file: usize,
     text: &[u8],
-    defaults: &mut Defaults,
+    found: &mut Found,
     out: &mut Vec<Finding>,
 ) -> Result<(), AllocError>
     ensures within { OnOk result (KeepsWithin file text.now out.old.items out.new.items) }
 {
     let mut at = 0usize;
     for line in text.split(|byte| *byte == b'\n') {
-        warn_of_line(alloc, known, file, text, at, line, defaults, out)?;
+        warn_of_line(alloc, known, file, text, at, line, found, out)?;
         at = at.saturating_add(line.len()).saturating_add(1);
     }
     Ok(())
 }
 
-/// Adds the warnings about the template of a header: each name with `#undef` that no statement
-/// defines (own).
+/// Adds the warnings about the template of a header: the names with `#undef` that no statement
+/// defines. Each of which more can be said has a warning of its own, and the others have one (own).
 ///
 /// # Errors
 ///
@@ -191,14 +239,13 @@ pub fn warn_of_header(
         all: &given.defined,
         candidates: &candidates,
     };
-    let mut defaults = Defaults {
-        first: None,
-        names: Vec::new(alloc),
-        headers: Vec::new(alloc),
+    let mut found = Found {
+        defaults: Undefined::none(alloc),
+        others: Undefined::none(alloc),
     };
-    warn_of_lines(alloc, known, file, text, &mut defaults, out)?;
-    warn_of_defaults(alloc, file, text, &defaults, out)?;
-    Ok(())
+    warn_of_lines(alloc, known, file, text, &mut found, out)?;
+    warn_of_all(alloc, file, text, &found.defaults, true, out)?;
+    warn_of_all(alloc, file, text, &found.others, false, out)
 }
 
 /// Adds the names that the template of a header undefines or defines.

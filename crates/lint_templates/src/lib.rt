@@ -10,7 +10,7 @@
 //! "own" marks a rule that no manual gives.
 //!
 //! [`Given`], in `given`, is what a source gives its templates. `files` reads the templates of
-//! files, and `headers` those of headers. `advice` has what is said of names that Autoconf sets and
+//! files, `headers` those of headers, and `outputs` finds an output that a run reads. `advice` has what is said of names that Autoconf sets and
 //! acrun doesn't, and `messages` writes the messages.
 #![tactic(auto)]
 
@@ -19,7 +19,9 @@ mod files;
 mod given;
 mod headers;
 mod messages;
+mod outputs;
 
 pub use files::warn_of_file;
 pub use given::Given;
 pub use headers::{add_listed, warn_of_header, warn_of_unlisted};
+pub use outputs::warn_of_outputs;

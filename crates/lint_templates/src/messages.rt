@@ -46,28 +46,29 @@ fn slices<'a>(alloc: Global, names: &'a [Bytes]) -> Result<Vec<&'a [u8]>, AllocE
 /// How many findings may have been made before no near name is sought any more.
 const SOUGHT: usize = 200;
 
-/// Writes the question whether a near name was meant, if one is near. After this many findings none
-/// is sought.
-fn put_near(
+/// Returns the nearest of some names, if one is near. After this many findings none is sought.
+pub(crate) fn near_of<'a>(
     alloc: Global,
-    page: &mut Page,
     found: usize,
-    form: Form,
     name: &[u8],
-    names: &SubstList,
-) -> Result<(), AllocError> {
+    names: &'a SubstList,
+) -> Result<Option<&'a [u8]>, AllocError> {
     if found > SOUGHT || name.len() > 80 {
-        return Ok(());
+        return Ok(None);
     }
     let all = slices(alloc, names.names())?;
-    if let Some(near) = near_name(alloc, name, all.as_slice())? {
-        page.put(near_key(form), &[WordPart::AsItIs(near)]);
-    }
-    Ok(())
+    near_name(alloc, name, all.as_slice())
 }
 
-/// Warns of a name that has no value, with this advice, or with the nearest of some names if there
-/// is no advice.
+/// Writes the question whether a near name was meant, if there is one.
+fn put_near(page: &mut Page, form: Form, near: Option<&[u8]>) {
+    if let Some(near) = near {
+        page.put(near_key(form), &[WordPart::AsItIs(near)]);
+    }
+}
+
+/// Warns of a name that has no value, with this advice, or with the near name if there is no
+/// advice.
 pub(crate) fn warn_of_name(
     alloc: Global,
     out: &mut Vec<Finding>,
@@ -76,7 +77,7 @@ pub(crate) fn warn_of_name(
     form: Form,
     name: &[u8],
     advice: Option<Key>,
-    names: &SubstList,
+    near: Option<&[u8]>,
 ) -> Result<(), AllocError>
     ensures within { OnOk result (KeepsWithin span.file text.now out.old.items out.new.items) }
 {
@@ -85,7 +86,7 @@ pub(crate) fn warn_of_name(
     page.put(key, &[WordPart::AsItIs(name)]);
     match advice {
         Some(advice) => page.put(advice, &[]),
-        None => put_near(alloc, &mut page, out.len(), form, name, names)?,
+        None => put_near(&mut page, form, near),
     }
     page.warn(alloc, out, text, span, key.name())
 }

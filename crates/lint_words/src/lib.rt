@@ -10,22 +10,24 @@
 //! let words = option_words(alloc, OptionFault::Unknown(2), &[b"CC=cc", b"--prefx=/usr"])?;
 //! // acrun does not know the macro AC_AIX
 //! let finding = parse_finding(alloc, source, ParseFault::UnknownMacro(749), 749, calls)?;
-//! shell_help(b"if test -f x; then")     // `if` of the shell is not read; write instead AS_IF(..)
+//! shell_help(b"if test -f x; then")     // the shell's `if` is not supported; write AS_IF(..)
 //! ```
 //!
 //! A call fails only if memory runs out. What is said is tested, and what is proved is that each
 //! call ends, where a finding is, and which name is near another.
 //!
-//! Faults of a run are those of options, caches and records: read `specs/Near` and `near`, which
-//! finds a similar name, and then `running`. Faults of a source: read `calls`, which finds the call
-//! that a place is in, and `arguments`, which has what an argument may be; then `parse` has the
-//! faults. Shell text: read `table`, which has what is not read, and then `shell`, which finds it
-//! in a text.
+//! Errors of a run are those of options, caches and records: read `specs/Near` and `near`, which
+//! finds a similar name, and then `running`. Errors of a source: read `calls`, which finds the call
+//! that a place is in, `arguments` and `outputs`, which have what an argument may be, and `forms`,
+//! which has the whole form of a call; then `parse` has the errors. Shell text: read `table`, which
+//! has what is not supported, and then `shell`, which finds it in a text.
 #![tactic(auto)]
 
 mod arguments;
 mod calls;
+mod forms;
 mod near;
+mod outputs;
 mod parse;
 mod running;
 mod shell;

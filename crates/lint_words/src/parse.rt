@@ -5,6 +5,8 @@ ghost use Rattle.lint_findings.specs.declared.finding.Severity.TheVariants.{Erro
 
 use crate::arguments::put_bad_argument;
 use crate::calls::{arguments_at, before_close, call_around, last_name, unquoted};
+use crate::forms::form_of;
+use crate::outputs::put_bad_outputs;
 use crate::shell::argument_help;
 use crate::{near_name, shell_help, test_help};
 use ac_calls::{CallAt, Extent};
@@ -54,6 +56,22 @@ impl<'a> Around<'a> {
         let call = call_around(self.calls, self.at)?;
         let number = call.args.iter().position(|arg| arg.start == self.at)?;
         Some((number, *call.args.get(number)?))
+    }
+
+    /// Returns the number of the argument that begins at the place, from 0, or 0 if none does.
+    fn number(&self) -> usize {
+        match self.found() {
+            Some((number, _)) => number,
+            None => 0,
+        }
+    }
+
+    /// Returns whether a parenthesis closes more than the call that begins at the place.
+    fn has_surplus_close(&self) -> bool {
+        match self.calls.iter().find(|call| call.start == self.at) {
+            Some(call) => after_blanks(from(self.text, call.end)).starts_with(b")"),
+            None => false,
+        }
     }
 
     /// Returns whether an argument begins at the place.
@@ -208,13 +226,22 @@ fn statement_word(text: &[u8]) -> &[u8] {
     if inner.is_empty() { word } else { inner }
 }
 
+/// Returns what is said of text beside the call that begins at the place.
+fn beside_key(around: Around<'_>) -> Key {
+    if around.has_surplus_close() {
+        keys::SURPLUS_PARENTHESIS
+    } else {
+        keys::TEXT_BESIDE_CALL
+    }
+}
+
 /// Writes what is wrong with text that is no statement, and that has no construct by which to say
 /// it.
 fn put_plain_text(alloc: Global, page: &mut Page, around: Around<'_>) -> Result<(), AllocError> {
     let rest = around.rest();
     let name = first_name(rest);
     if row_named(name).is_some() {
-        page.put(keys::TEXT_BESIDE_CALL, &[WordPart::AsItIs(name)]);
+        page.put(beside_key(around), &[WordPart::AsItIs(name)]);
         return Ok(());
     }
     let is_called = !name.is_empty() && from(rest, name.len()).starts_with(b"(");
@@ -329,6 +356,13 @@ fn surplus_key(name: &[u8]) -> Option<Key> {
     None
 }
 
+/// Writes the whole form of a call of this macro.
+fn put_form(page: &mut Page, name: &[u8]) {
+    if let Some(form) = form_of(name) {
+        page.put(keys::WHOLE_FORM, &[WordPart::AsItIs(form)]);
+    }
+}
+
 /// Writes what to do about too few arguments.
 fn put_fewer(page: &mut Page, name: &[u8], args: &[&[u8]]) {
     let is_init = name == b"AC_INIT".as_slice();
@@ -337,9 +371,8 @@ fn put_fewer(page: &mut Page, name: &[u8], args: &[&[u8]]) {
             let file = unquoted(without_end_blanks(file));
             page.put(keys::MISSING_VERSION_OF, &[WordPart::AsItIs(file)])
         }
-        Some(_) => page.put(keys::MISSING_ARGUMENT, &[]),
         None if is_init => page.put(keys::MISSING_VERSION, &[]),
-        None => page.put(keys::SEE_ARGUMENTS, &[]),
+        _ => put_form(page, name),
     }
 }
 
@@ -348,7 +381,7 @@ fn put_more(page: &mut Page, name: &[u8], args: &[&[u8]]) {
     if let Some(key) = surplus_key(name) {
         page.put(key, &[]);
     } else if args.iter().all(|arg| arg.starts_with(b"[")) {
-        page.put(keys::SURPLUS_ARGUMENT, &[]);
+        put_form(page, name);
     } else {
         page.put(keys::COMMA_IN_ARGUMENT, &[]);
     }
@@ -492,19 +525,16 @@ fn put_rest(page: &mut Page, around: Around<'_>, fault: ParseFault) {
     }
 }
 
-/// Returns whether the first argument of a call of this name is a list of outputs.
-fn lists_outputs(name: &[u8]) -> bool {
-    name == b"AC_CONFIG_FILES".as_slice() || name == b"AC_CONFIG_HEADERS".as_slice()
-}
-
 /// Writes what is wrong with an argument.
-fn put_bad_name(page: &mut Page, around: Around<'_>) {
+fn put_bad_name(alloc: Global, page: &mut Page, around: Around<'_>) -> Result<(), AllocError> {
     let (argument, call) = (around.argument(), around.call());
-    if argument.is_empty() && lists_outputs(call) {
+    let Around { text, calls, at } = around;
+    if argument.is_empty() && around.number() == 0 {
         page.put(keys::NAMES_NOTHING, &[WordPart::AsItIs(call)]);
-    } else {
-        put_bad_argument(page, first_line(argument), call);
+    } else if !put_bad_outputs(alloc, page, text, calls, at, argument, call)? {
+        put_bad_argument(page, first_line(argument), call, around.number());
     }
+    Ok(())
 }
 
 /// Writes the words of a fault.
@@ -519,7 +549,7 @@ fn put_fault(
         ParseFault::UnknownMacro(_) => return put_unknown(alloc, page, around.name()),
         ParseFault::UnknownStatement(_) => return put_statement(alloc, page, around),
         ParseFault::ArgCount(_) => return put_count(alloc, page, around),
-        ParseFault::BadName(_) => put_bad_name(page, around),
+        ParseFault::BadName(_) => return put_bad_name(alloc, page, around),
         ParseFault::Shell(fault, _) => put_shell(page, around, fault),
         other => put_rest(page, around, other),
     }

@@ -37,6 +37,8 @@ impl RowCall for Errors {
 const ROWS: &[u8] = br##"
 AC_INIT([a], [1])^JAC_OUTPUT =>
 AC_INIT([a], [1])^JAC_PROG_AWK^JAC_OUTPUT =>  parse-2 18[AC_PROG_AWK]
+// a macro whose name m4 takes for text
+AC_INIT([a], [1])^JIT_PROG_INTLTOOL([0.35])^JAC_OUTPUT =>  parse-3 18[IT_PROG_INTLTOOL([0.35])]
 // each call once
 AC_INIT([a], [1])^JAC_A^JAC_B([AC_C])^JAS_IF([x], [AC_D])^JAC_OUTPUT =>  parse-2 18[AC_A] parse-2 23[AC_B] parse-2 48[AC_D]
 // the first fault may come after a call that has to go
@@ -46,6 +48,9 @@ AC_INIT([a], [1])^JAC_A =>  parse-2 18[AC_A]
 AC_INIT([a], [1])^JAC_A^J] =>  parse-1.3 23[]]
 // nothing before AC_INIT, and nothing after AC_OUTPUT
 x=1 =>  parse-8 0[x=1]
+// what is before AC_INIT, after comments and AC_PREREQ
+# a^Jdnl b^J AC_PREREQ([2.69]) # c^J^J  x=1^JAC_INIT([a], [1])^JAC_OUTPUT =>  parse-8 36[x=1]
+# a^JAC_PROG_CC^JAC_INIT([a], [1])^JAC_OUTPUT =>  parse-8 4[AC_PROG_CC]
 AC_INIT([a], [1]) =>  parse-9 17[]
 AC_INIT([a], [1])^JAC_OUTPUT^J# c^J  x=1 =>  parse-10 34[x=1]
 // the statement at fault

@@ -75,7 +75,7 @@ AC_INIT([a], [1])^JAS_IF([:], [AX_Y])^JAC_OUTPUT =>  a.ac:2:13: error: acrun doe
 // a tab stays
 AC_INIT([a], [1])^JAS_IF([:], [x='y'^IAX_Y])^JAC_OUTPUT =>  a.ac:2:19: error: acrun does not know the macro AX_Y|     2 | AS_IF([:], [x='y'^IAX_Y])|       |                  ^I~~~~|
 // a control byte is shown as a number
-AC_INIT([a], [1])^JAC_SUBST([x^[y])^JAC_OUTPUT =>  a.ac:2:10: error: `x\x1by` is no name of a variable, or no text on one line in AC_SUBST|     2 | AC_SUBST([x\x1by])|       |          ~~~~~~~~|
+AC_INIT([a], [1])^JAC_SUBST([x^[y])^JAC_OUTPUT =>  a.ac:2:10: error: AC_SUBST: `x\x1by` is not the name of a variable|     2 | AC_SUBST([x\x1by])|       |          ~~~~~~~~|
 // the end of the file is marked by one column
 AC_INIT([a], [1]) =>  a.ac:1:18: error: there is no AC_OUTPUT|     1 | AC_INIT([a], [1])|       |                  ~|
 "##;

@@ -2,7 +2,7 @@
 //! message.
 
 use bstr::ByteSlice;
-use lint_table::{Page, WordPart, keys};
+use lint_table::{Page, WordPart, is_difference, keys};
 use std::alloc::Global;
 
 /// Returns whether a message with this part has these words.
@@ -26,4 +26,12 @@ fn forms_of_parts(rt: HostRuntime) {
     let is_value = says(alloc, WordPart::Value(&long), b"x`");
     let is_number = says(alloc, WordPart::Number(1024), b"1024 ");
     assert!(rt; is_plain && is_quoted && is_cut && is_value && is_number);
+}
+
+#[test]
+fn codes_of_differences(rt: HostRuntime) {
+    let is_mark = is_difference(keys::TILDE.name());
+    let is_list = is_difference(keys::DEFAULT_HEADERS.name());
+    let is_other = is_difference(keys::NEVER_DEFINED.name()) || is_difference(b"");
+    assert!(rt; is_mark && is_list && !is_other);
 }

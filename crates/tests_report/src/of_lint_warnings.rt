@@ -4,6 +4,7 @@ use ac_calls::calls_of;
 use ac_tree::Source;
 use acparse::parse;
 use lint_findings::Finding;
+use lint_templates::warn_of_outputs;
 use lint_warnings::{warn_of_calls, warn_of_source};
 use std::alloc::{AllocError, Global};
 use std::test::Fail;
@@ -38,6 +39,7 @@ fn warnings_of(alloc: Global, text: &[u8]) -> Result<Vec<Finding>, AllocError> {
     warn_of_calls(alloc, text, calls.as_slice(), &mut found)?;
     if let Some(source) = source_of(alloc, text) {
         warn_of_source(alloc, text, calls.as_slice(), &source, &mut found)?;
+        warn_of_outputs(alloc, text, &source, &mut found)?;
     }
     Ok(found)
 }
@@ -74,6 +76,9 @@ AC_INIT([a], [1])^JAS_IF([test $a != b || test -n "$c"], [], [test x$d = x, :], 
 AC_INIT([a], [1])^JAS_IF([test -z ${a}$b], [AS_IF([test c = $d], [e=$f])])^JAC_OUTPUT =>  unquoted-word [${a}$b]
 AC_INIT([a], [1])^JAS_IF([test "$a" = "b $c"], [d=$e], [f=$g])^JAC_OUTPUT =>
 AC_INIT([a], [1])^Jif test $a = b; then^JAC_OUTPUT =>  unquoted-word [$a]
+// outputs that a run reads
+AC_INIT([a], [1])^JAC_CONFIG_FILES([a:b b:c configure.ac:d])^JAC_OUTPUT =>  output-over-input [b] output-over-input [configure.ac]
+AC_INIT([a], [1])^JAC_CONFIG_FILES([a])^JAC_CONFIG_HEADERS([b.h:a.in])^JAC_OUTPUT =>
 // declarations of headers that Autoconf's default includes have
 AC_INIT([a], [1])^JAC_PROG_CC^JAC_CHECK_TYPES([size_t, uint8_t], [], [], [#include <stdint.h>])^JAC_OUTPUT =>
 AC_INIT([a], [1])^JAC_PROG_CC^JAC_CHECK_TYPES([size_t, uint8_t])^JAC_CHECK_TYPE([intmax_t])^JAC_OUTPUT =>  fewer-includes [AC_CHECK_TYPES]

@@ -1,0 +1,10 @@
+use Rattle.std.proofs.Common.{arith}
+use Rattle.cmd_lint.proofs.Printed.{all_printed, one_printed}
+use Rattle.cmd_lint.proofs.differing.page_of_differences.Goals as goal
+
+pub findings-preserved : goal.findings-preserved
+findings-preserved c =
+    one_printed c.args.found.now c.findings.finding-index c.finding-item.result _ _ c.findings-test.true c.finding-item.is c.findings.invariant c.in_ok-put_difference.ensures
+
+pub returns : goal.returns
+returns c = all_printed c.args.found.now c.findings.finding-index _ (omega (arith, c.findings-test.false)) c.findings.invariant
