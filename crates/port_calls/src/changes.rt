@@ -33,7 +33,8 @@ pub(crate) struct Change {
 #[derive(Drop)]
 pub(crate) struct Known {
     index: Index,
-    /// Whether a call or the bracket that an argument begins with ends at each offset.
+    /// Whether at each offset the bracket ends that an argument begins with, or a call whose text
+    /// Autoconf leaves at its place.
     borders: Vec<bool>,
     /// Whether each offset is in an argument that has no brackets around it.
     bare: Vec<bool>,
@@ -49,10 +50,16 @@ fn mark(borders: &mut Vec<bool>, at: usize) {
     }
 }
 
-/// Marks the offsets at which the calls, and the brackets that their arguments begin with, end.
-fn mark_calls(borders: &mut Vec<bool>, calls: &[CallAt]) {
+/// Marks the offsets at which the brackets end that arguments begin with, and the calls whose text
+/// Autoconf leaves at their places.
+fn mark_calls(borders: &mut Vec<bool>, text: &[u8], calls: &[CallAt]) {
+    let mut reach: usize = 0;
     for call in calls {
-        mark(borders, call.end);
+        let is_at_top = reach <= call.start;
+        if is_at_top || !is_drawn(part(text, call.start, call.name_end)) {
+            mark(borders, call.end);
+        }
+        reach = reach.max(call.end);
         for arg in &call.args {
             mark(borders, arg.start.saturating_add(1));
         }
@@ -63,7 +70,7 @@ fn mark_calls(borders: &mut Vec<bool>, calls: &[CallAt]) {
 pub(crate) fn known_of(alloc: Global, text: &[u8], calls: &[CallAt]) -> Result<Known, AllocError> {
     let index = Index::new(alloc)?;
     let mut borders = vec![in alloc; false; text.len().saturating_add(1)]?;
-    mark_calls(&mut borders, calls);
+    mark_calls(&mut borders, text, calls);
     let bare = bare_in(alloc, text, calls)?;
     let has_compiler = calls.iter().any(|call| part(text, call.start, call.name_end)
         == b"AC_PROG_CC".as_slice());
@@ -138,23 +145,6 @@ fn joins_next_line(text: &[u8], call: &CallAt) -> bool {
     from(text, after).starts_with(b"dnl")
 }
 
-/// Returns whether the last line of an idiom that begins at its margin is one of AS_IF. Autoconf ends
-/// no line after that.
-fn ends_in_choice(idiom: &[u8]) -> bool {
-    let mut found = false;
-    for line in idiom.split(|byte| *byte == b'\n') {
-        if line.first().is_some_and(|byte| byte.is_ascii_uppercase()) {
-            found = line.starts_with(b"AS_IF(");
-        }
-    }
-    found
-}
-
-/// Returns whether an idiom in the place of a call would be joined to the next line.
-fn is_joined(text: &[u8], call: &CallAt, idiom: &[u8]) -> bool {
-    joins_next_line(text, call) && ends_in_choice(idiom)
-}
-
 /// Appends a newline and the indent.
 fn end_line(out: &mut Vec<u8>, indent: &[u8]) -> Result<(), AllocError>
     ensures { OnOk result (out.new.items ≡ out.old.items ++ (10 ∷ indent.now)) }
@@ -163,20 +153,14 @@ fn end_line(out: &mut Vec<u8>, indent: &[u8]) -> Result<(), AllocError>
     out.extend_from_slice(indent)
 }
 
-/// Returns what is put in the place of a call, with a newline after an idiom that would be joined to
-/// the next line.
-fn put_apart(
-    text: &[u8],
-    indent: &[u8],
-    call: &CallAt,
-    idiom: &[u8],
-    put: Vec<u8>,
-) -> Result<Vec<u8>, AllocError>
+/// Returns what is put in the place of a call, with a newline after it if it would be joined to the
+/// next line.
+fn put_apart(text: &[u8], indent: &[u8], call: &CallAt, put: Vec<u8>) -> Result<Vec<u8>, AllocError>
     requires indent { list_all specs.is_space indent.now ≡ true }
     requires put { specs.IsPut text.now (macro_call_of call.now) put.items }
     ensures { IfOk result (λ v. specs.IsPut text.now (macro_call_of call.now) v.items) }
 {
-    if is_joined(text, call, idiom) {
+    if joins_next_line(text, call) {
         let mut out = put;
         end_line(&mut out, indent)?;
         Ok(out)
@@ -191,14 +175,13 @@ fn noted_apart(
     text: &[u8],
     indent: &[u8],
     call: &CallAt,
-    is_joined: bool,
     put: Vec<u8>,
 ) -> Result<Vec<u8>, AllocError>
     requires indent { list_all specs.is_space indent.now ≡ true }
     requires put { specs.IsNoted text.now (macro_call_of call.now) put.items }
     ensures { IfOk result (λ v. specs.IsNoted text.now (macro_call_of call.now) v.items) }
 {
-    if is_joined {
+    if joins_next_line(text, call) {
         let mut out = put;
         end_line(&mut out, indent)?;
         Ok(out)
@@ -238,7 +221,7 @@ fn to_idiom(
 {
     match idiom_text(alloc, text, spot, call, idiom)? {
         Some(text_put) => {
-            let put = put_apart(text, line_indent(text, spot), call, idiom, text_put)?;
+            let put = put_apart(text, line_indent(text, spot), call, text_put)?;
             Ok(Some(change_to(call, put)))
         }
         None => Ok(None),
@@ -279,7 +262,8 @@ fn without_call(alloc: Global, text: &[u8], spot: Spot, call: &CallAt) -> Result
     }
 }
 
-/// Returns whether what ends at this offset is a call, or the bracket that an argument begins with.
+/// Returns whether what ends at this offset is a call whose text is left there, or the bracket that
+/// an argument begins with.
 fn is_border(known: &Known, at: usize) -> bool {
     known.borders.get(at) == Some(&true)
 }
@@ -570,7 +554,7 @@ fn with_command(
     ensures { IfOk result (λ v. specs.IsNoted text.now (macro_call_of call.now) v.items) }
 {
     let command = with_colon(text, call, put)?;
-    noted_apart(text, indent, call, joins_next_line(text, call), command)
+    noted_apart(text, indent, call, command)
 }
 
 /// Returns what is put in the place of a call below a comment, with the command `:` after it unless
@@ -611,7 +595,7 @@ fn with_said(
     ensures { IfOk result (λ v. specs.IsNoted text.now (macro_call_of call.now) v.items) }
 {
     if !other.idiom.is_empty() {
-        return noted_apart(text, indent, call, is_joined(text, call, other.idiom), put);
+        return noted_apart(text, indent, call, put);
     }
     match said_by(text, call) {
         Some(said) => {
