@@ -1,7 +1,7 @@
 //! What the calls of a text become.
 
-ghost use Rattle.std.specs.Prelude.{◌≡◌, ◌∷◌, ◌++◌, Some, [], true, length, map, IfOk, IfSome, OnOk};
-ghost use Rattle.std.specs.List.{list_all};
+ghost use Rattle.std.specs.Prelude.{◌≡◌, ◌∷◌, ◌++◌, Some, [], true, nat_eq, length, map, bytes_eq, IfOk, IfSome, OnOk};
+ghost use Rattle.std.specs.List.{list_all, starts_with};
 ghost use Rattle.ac_calls.specs.Calls.{macro_call_of};
 ghost use Rattle.port_idioms.specs.Exact.{text_of};
 ghost use Rattle.port_idioms.specs.Rows.{Differs};
@@ -11,14 +11,17 @@ use crate::around::{
     before_idle, begins_statement, ends_statement, indent_of, line_indent, space_len,
 };
 use crate::bare::bare_in;
+use crate::gnu::compiler_in;
 use crate::keeping::{comment_of, put_comment, said_by};
+use crate::names::defined_in;
 use crate::noting::noted_text;
 use crate::spots::Spot;
 use ac_calls::{CallAt, Extent};
 use lint_macros::{Index, entry_name};
-use lint_text::{from, part};
+use lint_text::{before, from, part};
 use port_idioms::{Exact, Idioms, Other, exact_of, filled, other_of};
 use std::alloc::{AllocError, Global};
+use std::collections::BTreeSet;
 use text_cut::trim;
 
 /// What a part of the text is replaced by.
@@ -32,12 +35,16 @@ pub(crate) struct Change {
 /// What is known of a text before its calls are gone over.
 #[derive(Drop)]
 pub(crate) struct Known {
-    index: Index,
+    pub index: Index,
     /// Whether at each offset the bracket ends that an argument begins with, or a call whose text
     /// Autoconf leaves at its place.
     borders: Vec<bool>,
     /// Whether each offset is in an argument that has no brackets around it.
     bare: Vec<bool>,
+    /// The names that the source defines as macros.
+    pub defined: BTreeSet<Vec<u8>>,
+    /// The offset after the call of AC_PROG_CC after which GCC is to be set, if one is.
+    pub at_compiler: Option<usize>,
     /// Whether the source looks for a compiler itself. If not, a macro that is left out may have
     /// done so.
     has_compiler: bool,
@@ -74,10 +81,14 @@ pub(crate) fn known_of(alloc: Global, text: &[u8], calls: &[CallAt]) -> Result<K
     let bare = bare_in(alloc, text, calls)?;
     let has_compiler = calls.iter().any(|call| part(text, call.start, call.name_end)
         == b"AC_PROG_CC".as_slice());
+    let defined = defined_in(alloc, text)?;
+    let at_compiler = compiler_in(text, calls);
     Ok(Known {
         index,
         borders,
         bare,
+        defined,
+        at_compiler,
         has_compiler,
     })
 }
@@ -97,12 +108,86 @@ pub(crate) fn texts<'a>(
     Ok(out)
 }
 
-/// Returns the name that the table has for a call: that of AC_OUTPUT with arguments says so.
+/// Returns the name that the table has for AC_INIT with so many arguments.
+fn init_name(count: usize) -> &'static [u8]
+    ensures { result.now ≡ specs.init_name count }
+{
+    if count == 0 {
+        b"AC_INIT()"
+    } else {
+        b"AC_INIT(file)"
+    }
+}
+
+/// Returns whether a text is this one.
+fn is(text: &[u8], other: &[u8]) -> bool
+    ensures { result ≡ bytes_eq text.now other.now }
+{
+    text == other
+}
+
+/// Returns the name that the table has for a macro that acrun reads, with so many arguments.
+fn read_as(name: &[u8], count: usize) -> &'static [u8]
+    ensures { result.now ≡ specs.read_as name.now count }
+{
+    if is(name, b"AC_INIT") {
+        init_name(count)
+    } else if is(name, b"AC_MSG_RESULT") {
+        b"AC_MSG_RESULT()"
+    } else {
+        b"AC_OUTPUT(files)"
+    }
+}
+
+/// Returns the name that the table has for a call of a macro that acrun reads.
+fn read_name(text: &[u8], call: &CallAt) -> &'static [u8]
+    ensures { result.now ≡ specs.read_name text.now (macro_call_of call.now) }
+{
+    let count = count_of(text, call.args.as_slice());
+    read_as(part(text, call.start, call.name_end), count)
+}
+
+/// Returns whether a text begins with the other text.
+fn begins(text: &[u8], front: &[u8]) -> bool
+    ensures { result ≡ starts_with nat_eq text.now front.now }
+{
+    text.starts_with(front)
+}
+
+/// Returns whether an argument is the name of a macro of Automake, or begins with it.
+fn is_of_automake(arg: &[u8]) -> bool
+    ensures { result ≡ specs.is_of_automake arg.now }
+{
+    begins(arg, b"[AM_") || begins(arg, b"AM_")
+}
+
+/// Returns whether the first argument is the name of a macro of Automake.
+fn asks_automake(text: &[u8], args: &[Extent]) -> bool
+    ensures { result ≡ specs.asks_automake text.now args.now }
+{
+    match args.split_first() {
+        Some((arg, _)) => is_of_automake(part(text, arg.start, arg.end)),
+        None => false,
+    }
+}
+
+/// Returns whether the call asks by m4_ifdef whether there is a macro of Automake.
+fn is_ifdef(text: &[u8], call: &CallAt) -> bool
+    ensures { result ≡ specs.is_ifdef text.now (macro_call_of call.now) }
+{
+    is(part(text, call.start, call.name_end), b"m4_ifdef")
+        && asks_automake(text, call.args.as_slice())
+}
+
+/// Returns the name that the table has for a call: of macros that acrun reads, and of m4_ifdef, it
+/// says what they have.
 pub(crate) fn name_of<'a>(text: &'a [u8], call: &CallAt) -> &'a [u8]
     ensures { result.now ≡ specs.row_name text.now (macro_call_of call.now) }
 {
     if call.is_of_profile {
-        b"AC_OUTPUT(files)"
+        read_name(text, call)
+    } else if is_ifdef(text, call) {
+        b"m4_ifdef(AM)"
     } else {
         entry_name(part(text, call.start, call.name_end), call.args.len())
     }
@@ -204,7 +289,7 @@ fn idiom_text(
 {
     let args = texts(alloc, text, call.args.as_slice())?;
     let indent = indent_of(text, spot, call.start);
-    filled(alloc, idiom, args.as_slice(), indent)
+    filled(alloc, idiom, args.as_slice(), false, indent)
 }
 
 /// Returns the change of a call to an idiom, unless an argument can't be put into it.
@@ -387,6 +472,62 @@ fn kept(
     }
 }
 
+/// Returns the change of a call to what it says to readers, as a comment, with the command `:` after
+/// it.
+fn kept_idle(
+    alloc: Global,
+    text: &[u8],
+    indent: &[u8],
+    call: &CallAt,
+    said: &[u8],
+) -> Result<Change, AllocError>
+    requires dropped { specs.put_for text.now (macro_call_of call.now) ≡ Some [] }
+    requires said { specs.Says text.now (macro_call_of call.now) said.now }
+    requires indent { list_all specs.is_space indent.now ≡ true }
+    ensures { IfOk result (λ change.
+        specs.IsPut text.now (macro_call_of call.now) change.put.items) }
+{
+    let mut put = comment_of(alloc, said, indent)?;
+    put.push(b':')?;
+    Ok(change_to(call, put))
+}
+
+/// Returns the change of a call to what it says to readers, as a comment, with the command `:` after
+/// it if a list of commands may become empty.
+fn kept_by(
+    alloc: Global,
+    known: &Known,
+    text: &[u8],
+    spot: Spot,
+    call: &CallAt,
+    said: &[u8],
+) -> Result<Change, AllocError>
+    requires dropped { specs.put_for text.now (macro_call_of call.now) ≡ Some [] }
+    requires said { specs.Says text.now (macro_call_of call.now) said.now }
+    ensures { IfOk result (λ change.
+        specs.IsPut text.now (macro_call_of call.now) change.put.items) }
+{
+    if can_be_left_out(known, text, spot) {
+        kept(alloc, text, spot, call, said)
+    } else {
+        kept_idle(alloc, text, line_indent(text, spot), call, said)
+    }
+}
+
+/// Returns whether a call begins its line, or an argument.
+fn begins_list(text: &[u8], spot: Spot, call: &CallAt) -> bool {
+    spot.is_first || before(text, call.start).ends_with(b"[")
+}
+
+/// Returns whether a comment that says what a call says can be at its place.
+fn can_be_kept(known: &Known, text: &[u8], spot: Spot, call: &CallAt, said: &[u8]) -> bool {
+    let is_apart = can_be_left_out(known, text, spot)
+        || begins_list(text, spot, call)
+            && can_be_noted(known, call)
+            && !joins_next_line(text, call);
+    !said.is_empty() && known.has_compiler && is_apart
+}
+
 /// Returns the change of a call to what it says to readers, as a comment, or to nothing if a comment
 /// can't be at its place.
 fn kept_or_left_out(
@@ -402,10 +543,10 @@ fn kept_or_left_out(
     ensures { IfOk result (λ o.
         IfSome o (λ change. specs.IsPut text.now (macro_call_of call.now) change.put.items)) }
 {
-    if said.is_empty() || !known.has_compiler || !can_be_left_out(known, text, spot) {
+    if !can_be_kept(known, text, spot, call, said) {
         return left_out(alloc, known, text, spot, call);
     }
-    let change = kept(alloc, text, spot, call, said)?;
+    let change = kept_by(alloc, known, text, spot, call, said)?;
     Ok(Some(change))
 }
 
