@@ -11,7 +11,8 @@ macros alone, and the forms of shell that `port` rewrites. With each go settings
 one of what `port` makes of it without --idioms. Both are run with the same settings in a directory of the same name, and have to leave
 and to print the same. If acrun reads what port wrote, it is run too, and its outputs have to be those of that script. And no line that port
 wrote may be an error for `acrun lint` that the source does not have.
-tools/seeded_compiler.c answers the programs, by what they ask.
+tools/seeded_compiler.c answers the programs, by what they ask. From number 1000000 on a source may also begin with AC_INIT without a version, and
+have variables whose names are spelled as those of macros.
 A difference is allowed if a line `~ ` of macros.txt states it for a macro of the source, or one of the sentences below of docs/language.md.
 
 With --idioms a source has also calls of the macros that have a line `& `, if Autoconf itself has them, and port is given that switch. If
@@ -341,6 +342,14 @@ OF_LANGUAGE = (
     ("Nor are CPP, GREP and EGREP, which Autoconf's checks look for on their way, nor DEFS without a header", r"values (CPP|E?GREP|DEFS)"),
 )
 
+# What docs/language.md states of AC_INIT with an empty name and version, and what acrun then leaves.
+OF_INIT = (
+    "language",
+    "`AC_INIT([], [])` leaves a blank in PACKAGE_STRING, and `docdir` ends in `${PACKAGE_TARNAME}`. In Autoconf PACKAGE_STRING is empty, and "
+    "`docdir` ends in `${PACKAGE}`",
+)
+INIT_LEAVES = {"values PACKAGE_STRING": " ", "config.h PACKAGE_STRING": '" "', "values docdir": "${datarootdir}/doc/${PACKAGE_TARNAME}"}
+
 # What docs/running.md states of `-a` and `-o`, so that no source has such a test of an unquoted variable of no or several words.
 OF_JOINTS = (
     "running",
@@ -386,6 +395,12 @@ def is_missing(value):
     return not value or re.fullmatch(r"@\w+@", value)
 
 
+def is_of_language(name, after):
+    """Returns whether docs/language.md states that acrun leaves a name so."""
+    said(*OF_INIT)
+    return INIT_LEAVES.get(name) == after if name in INIT_LEAVES else of_language().match(name) and is_missing(after)
+
+
 def beside_acrun(room, program, text, setting, names, defined, before):
     """Returns what acrun leaves otherwise than the script of Autoconf did."""
     mine = left_by_acrun(room, program, text, setting, names, defined)
@@ -397,9 +412,12 @@ def beside_acrun(room, program, text, setting, names, defined, before):
     said(*OF_GIVEN)
     given = {f"values {name}" for name in ("OBJEXT", "EXEEXT") for it in (*setting.arguments, *dict(setting.environment)) if it.partition("=")[0] == name}
 
+    if "values PACKAGE_STRING" in found:
+        found = {name: it for name, it in found.items() if name.split(" ")[-1] != "DEFS"}
+
     def is_told(name, value):
         plain = name.removeprefix("src/")
-        return plain in given or of_language().match(plain) and is_missing(value)
+        return plain in given or is_of_language(plain, value)
 
     return {name: it for name, it in found.items() if not is_told(name, it[1])}
 
@@ -592,14 +610,28 @@ def others():
     return [row for row in rows if row[0].partition("(")[0] in known]
 
 
+# From this number on sources have the forms of NAMED and of INIT too. Those of lower numbers stay as they were.
+LATER = 1_000_000
+INIT = ("AC_INIT", "AC_INIT()", "AC_INIT(configure.ac)", "AC_INIT([configure.ac])", "AC_INIT( configure.ac)dnl a note")
+NAMED = (
+    "PKG_CONFIG=a", "LT_CURRENT=2", "AX_FLAGS=\"$PKG_CONFIG b\"", "v1=$PKG_CONFIG", "v2=\"${LT_CURRENT}:${AX_FLAGS}\"", "v1=a$LT_CURRENT v2=b",
+    "PKG_CONFIG=yes; v1=$PKG_CONFIG", "if test \"$PKG_CONFIG\" = yes; then\nLT_CURRENT=3\nv1=\"$LT_CURRENT\"\nfi",
+    "case $LT_CURRENT in\n2) v2=$AX_FLAGS;;\n*) AX_FLAGS=c;;\nesac", "AS_IF([test -n \"$LT_CURRENT\"], [v1=$LT_CURRENT], AX_FLAGS=d)",
+    "test -z \"$AX_FLAGS\" && AX_FLAGS=$PKG_CONFIG", "AC_MSG_NOTICE([v1 is $v1, and $PKG_CONFIG])",
+)
+# Rows of the table whose names are no macros that a source may call anywhere.
+NO_CALLS = ("AC_OUTPUT(files)", "AC_CONFIG_HEADER", "AC_INIT(file)", "AC_INIT()", "m4_ifdef(AM)")
+
+
 class Maker:
     """Makes a source of a number."""
 
     def __init__(self, number, names=None, switches=()):
         self.at = random.Random(number)
+        self.is_later = number >= LATER
         self.all_idioms = switches == IDIOMS
         rows = [*(others() * 3 if self.all_idioms else []), *exact()]
-        self.exact = [it for it in rows if it[0] not in ("AC_OUTPUT(files)", "AC_CONFIG_HEADER") and (not names or it[0] in names)]
+        self.exact = [it for it in rows if it[0] not in NO_CALLS and (not names or it[0] in names)]
         self.count = 0
         self.used = []
 
@@ -762,6 +794,8 @@ class Maker:
         return f"{self.one(['v1', 'v2', 'level'])}={self.one(SET)}"
 
     def simple(self, depth):
+        if self.is_later and self.has(0.5):
+            return self.one(NAMED)
         kind = self.at.randrange(10)
         if kind == 9:
             return self.one(LEFT_AS_IS)
@@ -826,6 +860,8 @@ class Maker:
         """Returns the source, and the blocks of it that may be left out."""
         self.called, self.cached = set(), []
         first = ["AC_INIT([fuzz], [1.0])", "AC_CONFIG_SRCDIR([configure.ac])"[: 0 if self.has(0.9) else None]]
+        if self.is_later and self.has(0.6):
+            first[0] = self.one(INIT)
         header = self.one(["AC_CONFIG_HEADERS([config.h])", "AC_CONFIG_HEADERS([config.h])", "AC_CONFIG_HEADER(config.h)", ""])
         blocks = [
             self.one([

@@ -8,7 +8,7 @@ use crate::lines::{FRONT, Line, comment_line, lines_of};
 use ac_calls::calls_of;
 use lint_findings::Finding;
 use lint_table::{Page, keys};
-use lint_text::{first_line, first_word, from};
+use lint_text::{before, first_line, first_word, from};
 use std::alloc::{AllocError, Global};
 use std::collections::BTreeSet;
 use text_cut::parts;
@@ -121,18 +121,32 @@ fn add_line(alloc: Global, line: usize, words: &[u8], said: &mut Said) -> Result
     Ok(is_new)
 }
 
-/// Returns the lines of comment that are there.
+/// Returns the length of the first part of a line of comment: what is before the first `; `.
+fn first_part_len(words: &[u8]) -> usize {
+    for at in 0..words.len() {
+        if from(words, at).starts_with(b"; ") {
+            return at;
+        }
+    }
+    words.len()
+}
+
+/// Adds a line of comment above the line at an offset, and its first part, since a comment that
+/// says that alone says nothing more.
+fn add_both(alloc: Global, line: usize, words: &[u8], said: &mut Said) -> Result<(), AllocError> {
+    add_line(alloc, line, words, said)?;
+    add_line(alloc, line, before(words, first_part_len(words)), said)?;
+    Ok(())
+}
+
+/// Returns the lines of comment that are there, and their first parts.
 fn said_in(alloc: Global, text: &[u8], lines: &[Line]) -> Result<Said, AllocError> {
     let mut said = BTreeSet::new(alloc);
     for line in lines {
         let rest = from(text, line.start);
         if rest.starts_with(FRONT) {
-            add_line(
-                alloc,
-                line.below,
-                first_line(from(rest, FRONT.len())),
-                &mut said,
-            )?;
+            let words = first_line(from(rest, FRONT.len()));
+            add_both(alloc, line.below, words, &mut said)?;
         }
     }
     Ok(said)

@@ -1,4 +1,4 @@
-//! Which entry of the table is about a call that checks members of a type.
+//! Which entry of the table is about a call, if the arguments say so.
 
 ghost use Rattle.std.specs.Prelude.{◌≡◌, bytes_eq};
 ghost use Rattle.lint_macros.specs.Members as words;
@@ -10,8 +10,8 @@ fn is(name: &[u8], word: &[u8]) -> bool
 }
 
 /// Returns the name of the entry for a call of a macro of this name with so many arguments. It is
-/// the name itself, but a check of members with actions or with includes has an entry of its own
-/// (own).
+/// the name itself, but a check of members with actions or with includes has an entry of its own,
+/// and AM_INIT_AUTOMAKE with a name and a version (own).
 pub fn entry_name(name: &[u8], count: usize) -> &[u8]
     ensures { result.now ≡ words.entry_name name.now count }
 {
@@ -21,6 +21,8 @@ pub fn entry_name(name: &[u8], count: usize) -> &[u8]
         b"AC_CHECK_MEMBERS(actions)"
     } else if is(name, b"AC_CHECK_MEMBER") && 3 < count {
         b"AC_CHECK_MEMBER(includes)"
+    } else if is(name, b"AM_INIT_AUTOMAKE") && 1 < count {
+        b"AM_INIT_AUTOMAKE(name)"
     } else {
         name
     }

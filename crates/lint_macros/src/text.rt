@@ -5,7 +5,15 @@ ghost use Rattle.std.specs.Prelude.{◌≡◌};
 /// The table: records of a kind, names and a text, with a `~` between them.
 #[rattlefmt::skip]
 pub const TABLE: &[u8] = b"\
-drop AM_INIT_AUTOMAKE AM_SILENT_RULES AM_MAINTAINER_MODE AM_PROG_CC_C_O AC_PROG_CC_C_O AM_DEP_TRACK AM_MISSING_PROG AM_SANITY_CHECK AM_SET_DEPDIR AM_OUTPUT_DEPENDENCY_COMMANDS AM_EXTRA_RECURSIVE_TARGETS AM_SUBST_NOTMAKE AM_MAKE_INCLUDE
+idiom AM_INIT_AUTOMAKE
+AC_SUBST([PACKAGE], [$PACKAGE_TARNAME])
+AC_SUBST([VERSION], [$PACKAGE_VERSION])
+AC_DEFINE_UNQUOTED([PACKAGE], [\"$PACKAGE_TARNAME\"], [Name of package])
+AC_DEFINE_UNQUOTED([VERSION], [\"$PACKAGE_VERSION\"], [Version number of package])~idiom AM_INIT_AUTOMAKE(name)
+AC_SUBST([PACKAGE], [$1{NAME}])
+AC_SUBST([VERSION], [$2{VERSION}])
+AC_DEFINE_UNQUOTED([PACKAGE], [\"$PACKAGE\"], [Name of package])
+AC_DEFINE_UNQUOTED([VERSION], [\"$VERSION\"], [Version number of package])~drop AM_SILENT_RULES AM_MAINTAINER_MODE AM_PROG_CC_C_O AC_PROG_CC_C_O AM_DEP_TRACK AM_MISSING_PROG AM_SANITY_CHECK AM_SET_DEPDIR AM_OUTPUT_DEPENDENCY_COMMANDS AM_EXTRA_RECURSIVE_TARGETS AM_SUBST_NOTMAKE AM_MAKE_INCLUDE m4_ifdef(AM)
 there is no Automake: write a plain Makefile.in~idiom AC_PROG_INSTALL
 AS_IF([test -z \"$INSTALL\"], [AC_SUBST([INSTALL], [\"install -c\"])])
 AS_IF([test -z \"$INSTALL_PROGRAM\"], [AC_SUBST([INSTALL_PROGRAM], ['${INSTALL}'])])
@@ -15,7 +23,8 @@ AS_IF([$2{TEST}],
   [$1!{NAME}_TRUE= $1!{NAME}_FALSE='#'],
   [$1!{NAME}_TRUE='#' $1!{NAME}_FALSE=])
 AC_SUBST([$1!{NAME}_TRUE])
-AC_SUBST([$1!{NAME}_FALSE])~drop AC_C_CONST AC_C_INLINE AC_C_VOLATILE AC_C_RESTRICT AC_C_PROTOTYPES AC_C_STRINGIZE AC_C_TYPEOF AC_C_BACKSLASH_A AC_C_CHAR_UNSIGNED AC_CONST AC_INLINE AC_PROG_CC_STDC AC_PROG_CC_C89 AC_PROG_CC_C99 AC_PROG_GCC_TRADITIONAL AM_PROG_CC_STDC AM_C_PROTOTYPES gl_PROG_CC_C99 AC_CHAR_UNSIGNED
+AC_SUBST([$1!{NAME}_FALSE])~idiom AM_COND_IF
+AS_IF([test -z \"$$1!{NAME}_TRUE\"], [$2{ACTION}], [$3{}])~drop AC_C_CONST AC_C_INLINE AC_C_VOLATILE AC_C_RESTRICT AC_C_PROTOTYPES AC_C_STRINGIZE AC_C_TYPEOF AC_C_BACKSLASH_A AC_C_CHAR_UNSIGNED AC_CONST AC_INLINE AC_PROG_CC_STDC AC_PROG_CC_C89 AC_PROG_CC_C99 AC_PROG_GCC_TRADITIONAL AM_PROG_CC_STDC AM_C_PROTOTYPES gl_PROG_CC_C99 AC_CHAR_UNSIGNED
 each compiler of this century has it, and AC_PROG_CC looks for the compiler; a flag such as -std=gnu99 is given in CFLAGS or CC~drop AC_AIX AC_MINIX AC_ZOS_USS AC_EMXOS2 AC_HEADER_STAT AC_FUNC_STAT AC_FUNC_LSTAT AC_FUNC_MEMCMP AC_FUNC_CLOSEDIR_VOID AC_FUNC_SETVBUF_REVERSED AC_FUNC_MKTIME AC_FUNC_STRTOD AC_SETVBUF_REVERSED
 it looks for a fault of systems that are long gone~idiom AC_ISC_POSIX
 AC_SEARCH_LIBS([strerror], [cposix])~idiom AC_STRUCT_TM
@@ -44,8 +53,10 @@ AC_CHECK_FUNC([$1{FUNCTION}])~idiom AC_PROGRAM_CHECK
 AC_CHECK_PROG([$1{VARIABLE}], [$2{PROGRAM}], [$3{VALUE}], [$4{OTHERWISE}])~idiom AC_PROGRAMS_CHECK
 AC_CHECK_PROGS([$1{VARIABLE}], [$2{PROGRAMS}])~idiom AC_PROGRAM_PATH
 AC_PATH_PROG([$1{VARIABLE}], [$2{PROGRAM}])~idiom AC_INIT(file)
-AC_INIT([PACKAGE], [VERSION])
-AC_CONFIG_SRCDIR([$1{FILE}])~idiom AC_OUTPUT(files)
+AC_INIT([], [])
+AC_CONFIG_SRCDIR([$1{FILE}])~idiom AC_INIT()
+AC_INIT([], [])~idiom AC_MSG_RESULT()
+AC_MSG_RESULT([])~idiom AC_OUTPUT(files)
 AC_CONFIG_FILES([$1{FILES}])
 AC_OUTPUT~none configure.in
 the source is called configure.ac: rename it~none AC_PREREQ(version)
@@ -187,7 +198,12 @@ int main (void) { return 0; }]])], [my_cv_os_windows=yes], [my_cv_os_windows=no]
 AS_IF([test \"$my_cv_os_windows\" = yes], [MINGW32=yes], [MINGW32=no])~idiom AC_PROG_RANLIB AM_PROG_RANLIB
 AC_CHECK_PROGS([RANLIB], [ranlib], [:])~idiom AM_PROG_AR AC_PROG_AR
 AC_CHECK_PROGS([AR], [ar])
-AS_IF([test -z \"$AR\"], [AC_MSG_ERROR([there is no ar in PATH])])~idiom AC_PROG_CPP
+AS_IF([test -z \"$AR\"], [AC_MSG_ERROR([there is no ar in PATH])])~idiom GCC
+AC_CACHE_CHECK([whether the compiler is GNU C], [ac_cv_c_compiler_gnu],
+  [AC_COMPILE_IFELSE([AC_LANG_PROGRAM([[#ifndef __GNUC__
+#error another compiler
+#endif]], [])], [ac_cv_c_compiler_gnu=yes], [ac_cv_c_compiler_gnu=no])])
+AS_IF([test \"$ac_cv_c_compiler_gnu\" = yes], [GCC=yes], [GCC=])~idiom AC_PROG_CPP
 AC_ARG_VAR([CPP], [C preprocessor])
 AS_IF([test -z \"$CPP\"], [CPP=\"$CC -E\"])~idiom AC_PROG_LN_S AC_LN_S
 AC_SUBST([LN_S], [\"ln -s\"])~idiom AC_PROG_MKDIR_P AM_PROG_MKDIR_P
@@ -477,7 +493,8 @@ a comment says the same~drop AC_LANG_PUSH AC_LANG_POP AC_LANG_C AC_LANG_SAVE AC_
 C is the only language, and the cache is read and written by itself~drop AH_TEMPLATE AH_VERBATIM AH_TOP AH_BOTTOM AH_HEADER
 its text is in config.h.in itself: a line #undef NAME is made by AC_DEFINE([NAME]), and every other line is copied~none AC_SUBST_FILE
 put the text of the file into the template~none AC_LANG_CPLUSPLUS AC_PROG_CXX AC_PROG_CXXCPP AC_PROG_F77 AC_PROG_FC AC_PROG_OBJC AC_PROG_OBJCXX AC_PROG_GO AC_PROG_JAVA AC_F77_LIBRARY_LDFLAGS AC_FC_LIBRARY_LDFLAGS AX_PROG_CC_FOR_BUILD AX_CXX_COMPILE_STDCXX AX_CXX_COMPILE_STDCXX_11
-only C compilers are tried: let the user give the compiler by AC_ARG_VAR~none LT_INIT LT_PREREQ LT_OUTPUT LT_LANG LT_LIB_M LT_PATH_LD AC_PROG_LIBTOOL AM_PROG_LIBTOOL AC_LIBTOOL_DLOPEN AC_LIBTOOL_WIN32_DLL AC_DISABLE_SHARED AC_DISABLE_STATIC AC_ENABLE_SHARED AC_ENABLE_STATIC AM_DISABLE_SHARED AM_DISABLE_STATIC AM_ENABLE_SHARED AM_ENABLE_STATIC AC_LIBLTDL_CONVENIENCE AC_LIBLTDL_INSTALLABLE
+only C compilers are tried: let the user give the compiler by AC_ARG_VAR~none LT_OUTPUT LT_LANG LT_LIB_M LT_PATH_LD AC_LIBLTDL_CONVENIENCE AC_LIBLTDL_INSTALLABLE
+there is no libtool: a rule of the Makefile links the library~drop LT_INIT LT_PREREQ AC_PROG_LIBTOOL AM_PROG_LIBTOOL AC_LIBTOOL_DLOPEN AC_LIBTOOL_WIN32_DLL AC_DISABLE_SHARED AC_DISABLE_STATIC AC_ENABLE_SHARED AC_ENABLE_STATIC AM_DISABLE_SHARED AM_DISABLE_STATIC AM_ENABLE_SHARED AM_ENABLE_STATIC
 there is no libtool: a rule of the Makefile links the library~none AM_CFLAGS AM_CPPFLAGS AM_LDFLAGS AM_CXXFLAGS AM_YFLAGS AM_LFLAGS AM_MAKEFLAGS AM_DEFAULT_VERBOSITY AC_FD_MSG AC_FD_CC
 a name that begins so is read as a macro: put it in brackets in an assignment, as [AM_CFLAGS]=\"-Wall\", or rename it~none gl_EARLY gl_INIT gl_gcc_warnings gl_MANYWARN_ALL_GCC gl_MANYWARN_COMPLEMENT gl_GCC_VERSION_IFELSE gl_WARN_ADD_MULTIPLE gl_LIBSOURCES gl_SET_LIBSOURCES
 gnulib is not read: check what the sources use by AC_CHECK_FUNCS and AC_CHECK_HEADERS~family AC_LIBTOOL_

@@ -7,9 +7,13 @@ use Rattle.std.proofs.lemmas.List.Elements.{Contains-get_or}
 use Rattle.ac_calls.specs.declared.call.CallAt.{CallAt}
 use Rattle.ac_calls.specs.declared.call.Extent.{Extent}
 use Rattle.ac_calls.specs.Calls.{MacroCall, calls_in, macro_call_of}
-use Rattle.port_calls.specs.Rewritten.{IsPass, IsRewritten, HasToGo, IsAround, DeclaresOption, IsOldHelp, JoinsWords, EndsItsLine, AreSpaces, IsBare, in_brackets}
+use Rattle.port_calls.specs.Rewritten.{IsPass, IsRewritten, HasToGo, IsAround, DeclaresOption, IsOldHelp, JoinsWords, EndsItsLine, AreSpaces, IsBare, in_brackets, NamesVariable, SetsGnu, AreMessages, messages_first}
 use Rattle.port_calls.specs.Rewritten as specs
-use Rattle.port_calls.specs.Put.{MayPut, is_space}
+use Rattle.port_calls.specs.Put.{MayPut, is_space, difference, below}
+use Rattle.lint_macros.specs.Entries.{entry_of}
+use Rattle.lint_macros.specs.declared.text.TheConstants.{TABLE}
+use Rattle.port_idioms.specs.Rows.{put_by, Differs}
+use Rattle.port_idioms.specs.declared.idioms.Idioms.TheVariants.{All}
 use Rattle.port_idioms.specs.declared.idioms.Idioms.{Idioms}
 
 pub pass_bound : (idioms : Idioms) (text : List ℕ) (at : ℕ) (out : List ℕ) → IsPass idioms text at out → at ≤ length text
@@ -20,6 +24,9 @@ pass_bound idioms text at out (specs.IsPass.renamed c end before is declares hel
 pass_bound idioms text at out (specs.IsPass.parted c before is joins) = omega (arith, joins.joint.within)
 pass_bound idioms text at out (specs.IsPass.lined c end indent before is ends (from, to, spaces) blank) = to
 pass_bound idioms text at out (specs.IsPass.bracketed c i arg end before is read has bare) = omega (arith, bare.place.1, bare.place.2)
+pass_bound idioms text at out (specs.IsPass.named c before is names to) = to
+pass_bound idioms text at out (specs.IsPass.checked c put before is all compiler sets to) = to
+pass_bound idioms text at out (specs.IsPass.turned c start end before is all output around messages) = omega arith
 
 -- What follows from what an `Ok` says holds of the `Ok`.
 pub on_ok : {T E P Q : Type 0} → (P → Q) → (r : Result T E) → OnOk r P → OnOk r Q
@@ -61,6 +68,35 @@ bracket_step idioms text at out c i arg end put new_at new before is read has fr
     let copied = specs.IsPass.copied arg.start before from (omega (arith, after, to)) in
     subst (λ a. IsPass idioms text a new) (sym at_is)
     (subst (IsPass idioms text end) (sym (new_is ∙ ap (λ p. (out ++ slice_range text at arg.start) ++ p) put_is)) (specs.IsPass.bracketed c i arg end copied is read has bare))
+
+pub name_step : (idioms : Idioms) (text : List ℕ) (at : ℕ) (out : List ℕ) (c : MacroCall) (put : List ℕ) (new_at : ℕ) (new : List ℕ)
+    → IsPass idioms text at out → Contains (calls_in text) c → NamesVariable text c → at ≤ c.start → c.start ≤ c.end → c.end ≤ length text
+    → put ≡ in_brackets (slice_range text c.start c.end) → (new_at ≡ c.end) × (new ≡ (out ++ slice_range text at c.start) ++ put) → IsPass idioms text new_at new
+name_step idioms text at out c put new_at new before is names from order to put_is (at_is, new_is) =
+    let copied = specs.IsPass.copied c.start before from (omega (arith, order, to)) in
+    subst (λ a. IsPass idioms text a new) (sym at_is)
+    (subst (IsPass idioms text c.end) (sym (new_is ∙ ap (λ p. (out ++ slice_range text at c.start) ++ p) put_is)) (specs.IsPass.named c copied is names to))
+
+-- What is put after AC_PROG_CC sets GCC.
+pub sets_gnu : (put it said indent : List ℕ) → put_by (entry_of (codes "GCC") TABLE.now) ≡ Some it → Differs (codes "GCC") 0 said → list_all is_space indent ≡ true
+    → put ≡ ((10 ∷ indent) ++ difference (codes "GCC") said) ++ below indent it [] → SetsGnu put
+sets_gnu put it said indent has differs blank is = record { it = it; said = said; indent = indent; has = has; differs = differs; blank = blank; is = is }
+
+pub gnu_step : (idioms : Idioms) (text : List ℕ) (at : ℕ) (out : List ℕ) (c : MacroCall) (put : List ℕ) (new_at : ℕ) (new : List ℕ)
+    → IsPass idioms text at out → Contains (calls_in text) c → idioms ≡ All → slice_range text c.start c.name_end ≡ codes "AC_PROG_CC" → SetsGnu put → at ≤ c.end → c.end ≤ length text
+    → (new_at ≡ c.end) × (new ≡ (out ++ slice_range text at c.end) ++ put) → IsPass idioms text new_at new
+gnu_step idioms text at out c put new_at new before is all compiler sets from to (at_is, new_is) =
+    subst (λ a. IsPass idioms text a new) (sym at_is)
+    (subst (IsPass idioms text c.end) (sym new_is) (specs.IsPass.checked c put (specs.IsPass.copied c.end before from to) is all compiler sets to))
+
+pub turn_step : (idioms : Idioms) (text : List ℕ) (at : ℕ) (out : List ℕ) (c : MacroCall) (start end : ℕ) (put : List ℕ) (new_at : ℕ) (new : List ℕ)
+    → IsPass idioms text at out → Contains (calls_in text) c → idioms ≡ All → slice_range text c.start c.name_end ≡ codes "AC_OUTPUT" → at ≤ c.start → c.start ≤ length text
+    → IsAround text c c.start start → AreMessages text start end → put ≡ messages_first (slice_range text start end) (slice_range text c.start c.end)
+    → (new_at ≡ length text) × (new ≡ (out ++ slice_range text at c.start) ++ put) → IsPass idioms text new_at new
+turn_step idioms text at out c start end put new_at new before is all output from to around messages put_is (at_is, new_is) =
+    subst (λ a. IsPass idioms text a new) (sym at_is)
+    (subst (IsPass idioms text (length text)) (sym (new_is ∙ ap (λ p. (out ++ slice_range text at c.start) ++ p) put_is))
+    (specs.IsPass.turned c start end (specs.IsPass.copied c.start before from to) is all output around messages))
 
 pub pass_end : {T E : Type 0} (idioms : Idioms) (r : Result T E) (text : List ℕ) (at : ℕ) (out new : List ℕ) → IsPass idioms text at out
     → new ≡ (if is_ok r then out ++ slice_range text at (length text) else out) → OnOk r (IsPass idioms text (length text) new)

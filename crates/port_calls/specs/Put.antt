@@ -1,6 +1,6 @@
 -- What is put in the place of a call.
-use Rattle.std.specs.Prelude.{◌≡◌, ◌⊎◌, ℕ, suc, ◌==◌, ◌||◌, Bool, true, false, List, [], ◌∷◌, ◌++◌, length, map, slice_get, Option, Some, bytes_eq, codes, if◌then◌else◌}
-use Rattle.std.specs.List.{flat_map, list_all}
+use Rattle.std.specs.Prelude.{◌≡◌, ◌⊎◌, ℕ, suc, ◌==◌, nat_eq, ◌||◌, ◌&&◌, Bool, true, false, List, [], ◌∷◌, ◌++◌, length, map, slice_get, Option, Some, bytes_eq, codes, if◌then◌else◌}
+use Rattle.std.specs.List.{flat_map, list_all, starts_with}
 use Rattle.text_cut.specs.Cuts.{fields, parts, trimmed}
 use Rattle.lint_macros.specs.Entries.{entry_of}
 use Rattle.lint_macros.specs.Members.{entry_name, takes_list}
@@ -17,16 +17,45 @@ use Rattle.lint_text.specs.Parts.{part}
 abbrev pub arg_text : List ℕ → Extent → List ℕ
 arg_text text arg = part text arg.start arg.end
 
--- The name that the table of macros has for a call: that of AC_OUTPUT with arguments says so. For another macro it depends on the number of
--- arguments. (own)
-abbrev pub row_name : List ℕ → MacroCall → List ℕ
-row_name text c = if c.is_of_profile then codes "AC_OUTPUT(files)" else entry_name (part text c.start c.name_end) (length c.args)
-
 -- The number of arguments that are given: none, if the only one has nothing but blanks. To m4 that is the same. (own)
 abbrev pub count_of : List ℕ → List Extent → ℕ
 count_of text [] = 0
 count_of text (arg ∷ []) = if length (trimmed (arg_text text arg)) == 0 then 0 else 1
 count_of text (arg ∷ next ∷ more) = suc (suc (length more))
+
+-- The name that the table of macros has for AC_INIT with so many arguments: without any, or with a file. (own)
+abbrev pub init_name : ℕ → List ℕ
+init_name count = if count == 0 then codes "AC_INIT()" else codes "AC_INIT(file)"
+
+-- The name that the table of macros has for a macro that acrun reads: AC_INIT or AC_MSG_RESULT with so many arguments, or AC_OUTPUT with
+-- some. (own)
+abbrev pub read_as : List ℕ → ℕ → List ℕ
+read_as name count =
+    if bytes_eq name (codes "AC_INIT") then init_name count
+    else if bytes_eq name (codes "AC_MSG_RESULT") then codes "AC_MSG_RESULT()"
+    else codes "AC_OUTPUT(files)"
+
+-- The same for a call. (own)
+abbrev pub read_name : List ℕ → MacroCall → List ℕ
+read_name text c = read_as (part text c.start c.name_end) (count_of text c.args)
+
+-- The argument is the name of a macro of Automake, or begins with it. (own)
+abbrev pub is_of_automake : List ℕ → Bool
+is_of_automake arg = starts_with nat_eq arg (codes "[AM_") || starts_with nat_eq arg (codes "AM_")
+
+-- The first argument is such a name. (own)
+abbrev pub asks_automake : List ℕ → List Extent → Bool
+asks_automake text [] = false
+asks_automake text (arg ∷ more) = is_of_automake (arg_text text arg)
+
+-- The call asks by m4_ifdef whether there is such a macro. (own)
+abbrev pub is_ifdef : List ℕ → MacroCall → Bool
+is_ifdef text c = bytes_eq (part text c.start c.name_end) (codes "m4_ifdef") && asks_automake text c.args
+
+-- The name that the table of macros has for a call: of macros that acrun reads, and of m4_ifdef, it says what they have. For
+-- another macro it depends on the number of arguments. (own)
+abbrev pub row_name : List ℕ → MacroCall → List ℕ
+row_name text c = if c.is_of_profile then read_name text c else if is_ifdef text c then codes "m4_ifdef(AM)" else entry_name (part text c.start c.name_end) (length c.args)
 
 -- What the table of macros puts in the place of a call: the text of an idiom, or nothing if the call has no meaning. (own)
 unfoldable pub put_for : List ℕ → MacroCall → Option (List ℕ)
@@ -57,12 +86,13 @@ pub record Says (text : List ℕ) (c : MacroCall) (said : List ℕ) : Type 0 whe
   pub is : said ≡ text_of (Some (arg_text text arg))
 
 -- What may be put in the place of a call: the idiom that the table has for it, with the call's own arguments and some blanks as the
--- indent; or, if the table puts nothing there, nothing, or `:`, or what the call says to readers, as a comment. A newline and blanks may
--- follow. (own)
+-- indent; or, if the table puts nothing there, nothing, or `:`, or what the call says to readers, as a comment, perhaps with a `:` after
+-- it. A newline and blanks may follow. (own)
 pub data IsPut (text : List ℕ) (c : MacroCall) : List ℕ → Type 0 where
   idiom : (it indent : List ℕ) → put_for text c ≡ Some it → list_all is_space indent ≡ true → IsPut text c (filled (map (arg_text text) c.args) indent it)
   dropped : (put : List ℕ) → put_for text c ≡ Some [] → DoesNothing put → IsPut text c put
   kept : (said indent : List ℕ) → put_for text c ≡ Some [] → Says text c said → list_all is_space indent ≡ true → IsPut text c (comment_of indent said)
+  idle : (said indent : List ℕ) → put_for text c ≡ Some [] → Says text c said → list_all is_space indent ≡ true → IsPut text c (comment_of indent said ++ 58 ∷ [])
   lined : (put indent : List ℕ) → IsPut text c put → list_all is_space indent ≡ true → IsPut text c (put ++ 10 ∷ indent)
 
 -- The idiom of the call, or that it has no meaning, is exact for so many arguments as it has. (own)

@@ -1,10 +1,14 @@
 -- What the calls of a text become. The offsets are those of the text that is read. All of this is own.
-use Rattle.std.specs.Prelude.{◌≡◌, ◌⊎◌, ℕ, ◌+◌, ◌-◌, ◌<◌, ◌≤◌, ◌==◌, ◌||◌, Bool, true, false, List, [], ◌∷◌, ◌++◌, length, slice_range, slice_index, slice_get, Some, Contains, bytes_eq, codes}
+use Rattle.std.specs.Prelude.{◌≡◌, ◌⊎◌, ℕ, ◌+◌, ◌-◌, ◌<◌, ◌≤◌, ◌==◌, ◌||◌, not, Bool, true, false, List, [], ◌∷◌, ◌++◌, length, slice_range, slice_index, slice_get, Some, Contains, bytes_eq, codes}
 use Rattle.std.specs.List.{list_all}
 use Rattle.ac_calls.specs.Calls.{MacroCall, calls_in}
 use Rattle.ac_calls.specs.declared.call.Extent.{Extent}
 use Rattle.port_idioms.specs.Filled.{text_of}
-use Rattle.port_calls.specs.Put.{MayPut, arg_text, is_space}
+use Rattle.lint_macros.specs.Entries.{entry_of}
+use Rattle.lint_macros.specs.declared.text.TheConstants.{TABLE}
+use Rattle.port_idioms.specs.Rows.{put_by, Differs}
+use Rattle.port_idioms.specs.declared.idioms.Idioms.TheVariants.{Exact, All}
+use Rattle.port_calls.specs.Put.{MayPut, arg_text, is_space, difference, below}
 use Rattle.port_idioms.specs.declared.idioms.Idioms.{Idioms}
 
 -- A space, a tab, a carriage return or a newline.
@@ -21,9 +25,18 @@ pub record NamesFiles (text : List ℕ) (c : MacroCall) : Type 0 where
   pub first : slice_get c.args 0 ≡ Some list
   pub given : IsGiven text list
 
--- The call has to go: the table of macros doesn't have its name, or it is AC_OUTPUT of at least one file.
+-- The call is AC_INIT with at most one argument, so that it names no version.
+abbrev pub LacksVersion : List ℕ → MacroCall → Type 0
+LacksVersion text c = (slice_range text c.start c.name_end ≡ codes "AC_INIT") × (length c.args ≤ 1)
+
+-- The call is AC_MSG_RESULT without an argument.
+abbrev pub LacksResult : List ℕ → MacroCall → Type 0
+LacksResult text c = (slice_range text c.start c.name_end ≡ codes "AC_MSG_RESULT") × (length c.args ≤ 0)
+
+-- The call has to go: the table of macros doesn't have its name, or it is AC_OUTPUT of at least one file, AC_INIT without a version, or
+-- AC_MSG_RESULT without an argument.
 abbrev pub HasToGo : List ℕ → MacroCall → Type 0
-HasToGo text c = (c.is_of_profile ≡ false) ⊎ ((slice_range text c.start c.name_end ≡ codes "AC_OUTPUT") × NamesFiles text c)
+HasToGo text c = (c.is_of_profile ≡ false) ⊎ ((slice_range text c.start c.name_end ≡ codes "AC_OUTPUT") × NamesFiles text c) ⊎ LacksVersion text c ⊎ LacksResult text c
 
 -- Between these offsets are the call and, around it, nothing but blanks.
 abbrev pub IsAround : List ℕ → MacroCall → ℕ → ℕ → Type 0
@@ -99,11 +112,75 @@ pub record IsBare (text : List ℕ) (arg : Extent) (end : ℕ) : Type 0 where
 abbrev pub in_brackets : List ℕ → List ℕ
 in_brackets text = 91 ∷ (text ++ 93 ∷ [])
 
--- One pass over the calls of a text has read so much of it, and written this. Everything is copied, with five exceptions: a call that has
+-- A shell takes what is at the place of the call for the name of a variable: the call is a name alone, and `$` or `${` is right before it,
+-- or `=` right after it. (own)
+pub record NamesVariable (text : List ℕ) (c : MacroCall) : Type 0 where
+  pub name : c.end ≡ c.name_end
+  pub unread : c.is_of_profile ≡ false
+  pub place : (slice_range text (c.start - 1) c.start ≡ codes "$") ⊎ (slice_range text (c.start - 2) c.start ≡ 36 ∷ 123 ∷ []) ⊎ (slice_range text c.end (c.end + 1) ≡ codes "=")
+
+-- What is put after AC_PROG_CC, if all idioms are wanted: a newline, some blanks, and below a comment the lines that set GCC. (own)
+pub record SetsGnu (put : List ℕ) : Type 0 where
+  pub it : List ℕ
+  pub said : List ℕ
+  pub indent : List ℕ
+  pub has : put_by (entry_of (codes "GCC") TABLE.now) ≡ Some it
+  pub differs : Differs (codes "GCC") 0 said
+  pub blank : list_all is_space indent ≡ true
+  pub is : put ≡ ((10 ∷ indent) ++ difference (codes "GCC") said) ++ below indent it []
+
+-- A macro of this name prints a message, and does nothing else. (own)
+abbrev pub is_message : List ℕ → Bool
+is_message name = bytes_eq name (codes "AC_MSG_RESULT") || bytes_eq name (codes "AC_MSG_NOTICE") || bytes_eq name (codes "AC_MSG_WARN")
+
+-- At this offset is a call of such a macro. (own)
+pub record IsInMessage (text : List ℕ) (at : ℕ) : Type 0 where
+  pub call : MacroCall
+  pub is_there : Contains (calls_in text) call
+  pub prints : is_message (slice_range text call.start call.name_end) ≡ true
+  pub order : (call.start ≤ at) × (at < call.end)
+
+-- No newline. (own)
+abbrev pub is_inline : ℕ → Bool
+is_inline b = not (b == 10)
+
+-- This offset is in a line that begins with `dnl`, and so is a comment. (own)
+pub record IsInComment (text : List ℕ) (at : ℕ) : Type 0 where
+  pub line : ℕ
+  pub before : line ≤ at
+  pub newline : slice_range text (line - 1) line ≡ 10 ∷ []
+  pub begins : slice_range text line (line + 4) ≡ codes "dnl "
+  pub within : list_all is_inline (slice_range text line at) ≡ true
+
+-- This offset is in a message or in a comment. (own)
+pub data IsTold (text : List ℕ) (at : ℕ) : Type 0 where
+  message : IsInMessage text at → IsTold text at
+  comment : IsInComment text at → IsTold text at
+
+-- No blank. (own)
+abbrev pub is_shown : ℕ → Bool
+is_shown b = not (is_blank b)
+
+-- Between these offsets is nothing but messages, comments and blanks, and from the second one on nothing but blanks. (own)
+pub record AreMessages (text : List ℕ) (start end : ℕ) : Type 0 where
+  pub place : (start ≤ end) × (end ≤ length text)
+  pub plain : (at : ℕ) → start ≤ at → at < end → is_shown (slice_index text at) ≡ true → IsTold text at
+  pub rest : list_all is_blank (slice_range text end (length text)) ≡ true
+
+-- The comment above messages that were after AC_OUTPUT. (own)
+abbrev pub before_output : List ℕ
+before_output = codes "dnl acrun: in place of what is printed after AC_OUTPUT: it is printed before it, where prefix and exec_prefix may be NONE"
+
+-- The messages below this comment, and the call of AC_OUTPUT after them. (own)
+abbrev pub messages_first : List ℕ → List ℕ → List ℕ
+messages_first messages call = ((((before_output ++ 10 ∷ []) ++ messages) ++ 10 ∷ []) ++ call) ++ 10 ∷ []
+
+-- One pass over the calls of a text has read so much of it, and written this. Everything is copied, with eight exceptions: a call that has
 -- to go, with blanks around it, may be replaced by what may be put in its place; in a call that declares an option the old name of
 -- AS_HELP_STRING may become the name; a backslash that joins two lines of a list of words may go; after a call that ends its line a newline
--- and an indent may be put in place of the spaces; and an argument of a macro that
--- acrun reads, which has no brackets outside the calls in it, may get a pair.
+-- and an indent may be put in place of the spaces; an argument of a macro that acrun reads, which has no brackets outside the calls in it,
+-- may get a pair; so may the name of a variable that is spelled as a macro; and if all idioms are wanted, the lines that set GCC may be put
+-- after AC_PROG_CC, and messages after AC_OUTPUT may be put before it, if nothing else is there.
 pub data IsPass (idioms : Idioms) (text : List ℕ) : ℕ → List ℕ → Type 0 where
   begun : IsPass idioms text 0 []
   copied : {at : ℕ} {out : List ℕ} (next : ℕ) → IsPass idioms text at out → at ≤ next → next ≤ length text → IsPass idioms text next (out ++ slice_range text at next)
@@ -116,6 +193,12 @@ pub data IsPass (idioms : Idioms) (text : List ℕ) : ℕ → List ℕ → Type 
       → IsPass idioms text end (out ++ 10 ∷ indent)
   bracketed : {out : List ℕ} (c : MacroCall) (i : ℕ) (arg : Extent) (end : ℕ) → IsPass idioms text arg.start out → Contains (calls_in text) c → c.is_of_profile ≡ true → slice_get c.args i ≡ Some arg
       → IsBare text arg end → IsPass idioms text end (out ++ in_brackets (slice_range text arg.start end))
+  named : {out : List ℕ} (c : MacroCall) → IsPass idioms text c.start out → Contains (calls_in text) c → NamesVariable text c → c.end ≤ length text
+      → IsPass idioms text c.end (out ++ in_brackets (slice_range text c.start c.end))
+  checked : {out : List ℕ} (c : MacroCall) (put : List ℕ) → IsPass idioms text c.end out → Contains (calls_in text) c → idioms ≡ All → slice_range text c.start c.name_end ≡ codes "AC_PROG_CC" → SetsGnu put → c.end ≤ length text
+      → IsPass idioms text c.end (out ++ put)
+  turned : {out : List ℕ} (c : MacroCall) (start end : ℕ) → IsPass idioms text c.start out → Contains (calls_in text) c → idioms ≡ All → slice_range text c.start c.name_end ≡ codes "AC_OUTPUT" → IsAround text c c.start start → AreMessages text start end
+      → IsPass idioms text (length text) (out ++ messages_first (slice_range text start end) (slice_range text c.start c.end))
 
 -- The one text becomes the other by passes over its calls, each of which reads what the one before it wrote.
 pub data IsRewritten (idioms : Idioms) : List ℕ → List ℕ → Type 0 where

@@ -81,7 +81,12 @@ fn is_bare(text: &[u8], calls: &[CallAt], first: usize, arg: Extent, end: usize)
 }
 
 /// Returns the text between two offsets in brackets.
-fn in_brackets(alloc: Global, text: &[u8], start: usize, end: usize) -> Result<Vec<u8>, AllocError>
+pub(crate) fn in_brackets(
+    alloc: Global,
+    text: &[u8],
+    start: usize,
+    end: usize,
+) -> Result<Vec<u8>, AllocError>
     requires { (start ≤ end) × (end ≤ length text.now) }
     ensures { IfOk result (λ v. v.items ≡ specs.in_brackets (slice_range text.now start end)) }
 {

@@ -1,7 +1,7 @@
 //! What the calls of a text become.
 
-ghost use Rattle.std.specs.Prelude.{◌≡◌, ◌∷◌, ◌++◌, Some, [], true, length, map, IfOk, IfSome, OnOk};
-ghost use Rattle.std.specs.List.{list_all};
+ghost use Rattle.std.specs.Prelude.{◌≡◌, ◌∷◌, ◌++◌, Some, [], true, nat_eq, length, map, bytes_eq, IfOk, IfSome, OnOk};
+ghost use Rattle.std.specs.List.{list_all, starts_with};
 ghost use Rattle.ac_calls.specs.Calls.{macro_call_of};
 ghost use Rattle.port_idioms.specs.Exact.{text_of};
 ghost use Rattle.port_idioms.specs.Rows.{Differs};
@@ -11,14 +11,17 @@ use crate::around::{
     before_idle, begins_statement, ends_statement, indent_of, line_indent, space_len,
 };
 use crate::bare::bare_in;
+use crate::gnu::compiler_in;
 use crate::keeping::{comment_of, put_comment, said_by};
+use crate::names::defined_in;
 use crate::noting::noted_text;
 use crate::spots::Spot;
 use ac_calls::{CallAt, Extent};
 use lint_macros::{Index, entry_name};
-use lint_text::{from, part};
+use lint_text::{before, from, part};
 use port_idioms::{Exact, Idioms, Other, exact_of, filled, other_of};
 use std::alloc::{AllocError, Global};
+use std::collections::BTreeSet;
 use text_cut::trim;
 
 /// What a part of the text is replaced by.
@@ -32,11 +35,16 @@ pub(crate) struct Change {
 /// What is known of a text before its calls are gone over.
 #[derive(Drop)]
 pub(crate) struct Known {
-    index: Index,
-    /// Whether a call or the bracket that an argument begins with ends at each offset.
+    pub index: Index,
+    /// Whether at each offset the bracket ends that an argument begins with, or a call whose text
+    /// Autoconf leaves at its place.
     borders: Vec<bool>,
     /// Whether each offset is in an argument that has no brackets around it.
     bare: Vec<bool>,
+    /// The names that the source defines as macros.
+    pub defined: BTreeSet<Vec<u8>>,
+    /// The offset after the call of AC_PROG_CC after which GCC is to be set, if one is.
+    pub at_compiler: Option<usize>,
     /// Whether the source looks for a compiler itself. If not, a macro that is left out may have
     /// done so.
     has_compiler: bool,
@@ -49,10 +57,16 @@ fn mark(borders: &mut Vec<bool>, at: usize) {
     }
 }
 
-/// Marks the offsets at which the calls, and the brackets that their arguments begin with, end.
-fn mark_calls(borders: &mut Vec<bool>, calls: &[CallAt]) {
+/// Marks the offsets at which the brackets end that arguments begin with, and the calls whose text
+/// Autoconf leaves at their places.
+fn mark_calls(borders: &mut Vec<bool>, text: &[u8], calls: &[CallAt]) {
+    let mut reach: usize = 0;
     for call in calls {
-        mark(borders, call.end);
+        let is_at_top = reach <= call.start;
+        if is_at_top || !is_drawn(part(text, call.start, call.name_end)) {
+            mark(borders, call.end);
+        }
+        reach = reach.max(call.end);
         for arg in &call.args {
             mark(borders, arg.start.saturating_add(1));
         }
@@ -63,14 +77,18 @@ fn mark_calls(borders: &mut Vec<bool>, calls: &[CallAt]) {
 pub(crate) fn known_of(alloc: Global, text: &[u8], calls: &[CallAt]) -> Result<Known, AllocError> {
     let index = Index::new(alloc)?;
     let mut borders = vec![in alloc; false; text.len().saturating_add(1)]?;
-    mark_calls(&mut borders, calls);
+    mark_calls(&mut borders, text, calls);
     let bare = bare_in(alloc, text, calls)?;
     let has_compiler = calls.iter().any(|call| part(text, call.start, call.name_end)
         == b"AC_PROG_CC".as_slice());
+    let defined = defined_in(alloc, text)?;
+    let at_compiler = compiler_in(text, calls);
     Ok(Known {
         index,
         borders,
         bare,
+        defined,
+        at_compiler,
         has_compiler,
     })
 }
@@ -90,12 +108,86 @@ pub(crate) fn texts<'a>(
     Ok(out)
 }
 
-/// Returns the name that the table has for a call: that of AC_OUTPUT with arguments says so.
+/// Returns the name that the table has for AC_INIT with so many arguments.
+fn init_name(count: usize) -> &'static [u8]
+    ensures { result.now ≡ specs.init_name count }
+{
+    if count == 0 {
+        b"AC_INIT()"
+    } else {
+        b"AC_INIT(file)"
+    }
+}
+
+/// Returns whether a text is this one.
+fn is(text: &[u8], other: &[u8]) -> bool
+    ensures { result ≡ bytes_eq text.now other.now }
+{
+    text == other
+}
+
+/// Returns the name that the table has for a macro that acrun reads, with so many arguments.
+fn read_as(name: &[u8], count: usize) -> &'static [u8]
+    ensures { result.now ≡ specs.read_as name.now count }
+{
+    if is(name, b"AC_INIT") {
+        init_name(count)
+    } else if is(name, b"AC_MSG_RESULT") {
+        b"AC_MSG_RESULT()"
+    } else {
+        b"AC_OUTPUT(files)"
+    }
+}
+
+/// Returns the name that the table has for a call of a macro that acrun reads.
+fn read_name(text: &[u8], call: &CallAt) -> &'static [u8]
+    ensures { result.now ≡ specs.read_name text.now (macro_call_of call.now) }
+{
+    let count = count_of(text, call.args.as_slice());
+    read_as(part(text, call.start, call.name_end), count)
+}
+
+/// Returns whether a text begins with the other text.
+fn begins(text: &[u8], front: &[u8]) -> bool
+    ensures { result ≡ starts_with nat_eq text.now front.now }
+{
+    text.starts_with(front)
+}
+
+/// Returns whether an argument is the name of a macro of Automake, or begins with it.
+fn is_of_automake(arg: &[u8]) -> bool
+    ensures { result ≡ specs.is_of_automake arg.now }
+{
+    begins(arg, b"[AM_") || begins(arg, b"AM_")
+}
+
+/// Returns whether the first argument is the name of a macro of Automake.
+fn asks_automake(text: &[u8], args: &[Extent]) -> bool
+    ensures { result ≡ specs.asks_automake text.now args.now }
+{
+    match args.split_first() {
+        Some((arg, _)) => is_of_automake(part(text, arg.start, arg.end)),
+        None => false,
+    }
+}
+
+/// Returns whether the call asks by m4_ifdef whether there is a macro of Automake.
+fn is_ifdef(text: &[u8], call: &CallAt) -> bool
+    ensures { result ≡ specs.is_ifdef text.now (macro_call_of call.now) }
+{
+    is(part(text, call.start, call.name_end), b"m4_ifdef")
+        && asks_automake(text, call.args.as_slice())
+}
+
+/// Returns the name that the table has for a call: of macros that acrun reads, and of m4_ifdef, it
+/// says what they have.
 pub(crate) fn name_of<'a>(text: &'a [u8], call: &CallAt) -> &'a [u8]
     ensures { result.now ≡ specs.row_name text.now (macro_call_of call.now) }
 {
     if call.is_of_profile {
-        b"AC_OUTPUT(files)"
+        read_name(text, call)
+    } else if is_ifdef(text, call) {
+        b"m4_ifdef(AM)"
     } else {
         entry_name(part(text, call.start, call.name_end), call.args.len())
     }
@@ -138,23 +230,6 @@ fn joins_next_line(text: &[u8], call: &CallAt) -> bool {
     from(text, after).starts_with(b"dnl")
 }
 
-/// Returns whether the last line of an idiom that begins at its margin is one of AS_IF. Autoconf ends
-/// no line after that.
-fn ends_in_choice(idiom: &[u8]) -> bool {
-    let mut found = false;
-    for line in idiom.split(|byte| *byte == b'\n') {
-        if line.first().is_some_and(|byte| byte.is_ascii_uppercase()) {
-            found = line.starts_with(b"AS_IF(");
-        }
-    }
-    found
-}
-
-/// Returns whether an idiom in the place of a call would be joined to the next line.
-fn is_joined(text: &[u8], call: &CallAt, idiom: &[u8]) -> bool {
-    joins_next_line(text, call) && ends_in_choice(idiom)
-}
-
 /// Appends a newline and the indent.
 fn end_line(out: &mut Vec<u8>, indent: &[u8]) -> Result<(), AllocError>
     ensures { OnOk result (out.new.items ≡ out.old.items ++ (10 ∷ indent.now)) }
@@ -163,20 +238,14 @@ fn end_line(out: &mut Vec<u8>, indent: &[u8]) -> Result<(), AllocError>
     out.extend_from_slice(indent)
 }
 
-/// Returns what is put in the place of a call, with a newline after an idiom that would be joined to
-/// the next line.
-fn put_apart(
-    text: &[u8],
-    indent: &[u8],
-    call: &CallAt,
-    idiom: &[u8],
-    put: Vec<u8>,
-) -> Result<Vec<u8>, AllocError>
+/// Returns what is put in the place of a call, with a newline after it if it would be joined to the
+/// next line.
+fn put_apart(text: &[u8], indent: &[u8], call: &CallAt, put: Vec<u8>) -> Result<Vec<u8>, AllocError>
     requires indent { list_all specs.is_space indent.now ≡ true }
     requires put { specs.IsPut text.now (macro_call_of call.now) put.items }
     ensures { IfOk result (λ v. specs.IsPut text.now (macro_call_of call.now) v.items) }
 {
-    if is_joined(text, call, idiom) {
+    if joins_next_line(text, call) {
         let mut out = put;
         end_line(&mut out, indent)?;
         Ok(out)
@@ -191,14 +260,13 @@ fn noted_apart(
     text: &[u8],
     indent: &[u8],
     call: &CallAt,
-    is_joined: bool,
     put: Vec<u8>,
 ) -> Result<Vec<u8>, AllocError>
     requires indent { list_all specs.is_space indent.now ≡ true }
     requires put { specs.IsNoted text.now (macro_call_of call.now) put.items }
     ensures { IfOk result (λ v. specs.IsNoted text.now (macro_call_of call.now) v.items) }
 {
-    if is_joined {
+    if joins_next_line(text, call) {
         let mut out = put;
         end_line(&mut out, indent)?;
         Ok(out)
@@ -221,7 +289,7 @@ fn idiom_text(
 {
     let args = texts(alloc, text, call.args.as_slice())?;
     let indent = indent_of(text, spot, call.start);
-    filled(alloc, idiom, args.as_slice(), indent)
+    filled(alloc, idiom, args.as_slice(), false, indent)
 }
 
 /// Returns the change of a call to an idiom, unless an argument can't be put into it.
@@ -238,7 +306,7 @@ fn to_idiom(
 {
     match idiom_text(alloc, text, spot, call, idiom)? {
         Some(text_put) => {
-            let put = put_apart(text, line_indent(text, spot), call, idiom, text_put)?;
+            let put = put_apart(text, line_indent(text, spot), call, text_put)?;
             Ok(Some(change_to(call, put)))
         }
         None => Ok(None),
@@ -279,7 +347,8 @@ fn without_call(alloc: Global, text: &[u8], spot: Spot, call: &CallAt) -> Result
     }
 }
 
-/// Returns whether what ends at this offset is a call, or the bracket that an argument begins with.
+/// Returns whether what ends at this offset is a call whose text is left there, or the bracket that
+/// an argument begins with.
 fn is_border(known: &Known, at: usize) -> bool {
     known.borders.get(at) == Some(&true)
 }
@@ -403,6 +472,62 @@ fn kept(
     }
 }
 
+/// Returns the change of a call to what it says to readers, as a comment, with the command `:` after
+/// it.
+fn kept_idle(
+    alloc: Global,
+    text: &[u8],
+    indent: &[u8],
+    call: &CallAt,
+    said: &[u8],
+) -> Result<Change, AllocError>
+    requires dropped { specs.put_for text.now (macro_call_of call.now) ≡ Some [] }
+    requires said { specs.Says text.now (macro_call_of call.now) said.now }
+    requires indent { list_all specs.is_space indent.now ≡ true }
+    ensures { IfOk result (λ change.
+        specs.IsPut text.now (macro_call_of call.now) change.put.items) }
+{
+    let mut put = comment_of(alloc, said, indent)?;
+    put.push(b':')?;
+    Ok(change_to(call, put))
+}
+
+/// Returns the change of a call to what it says to readers, as a comment, with the command `:` after
+/// it if a list of commands may become empty.
+fn kept_by(
+    alloc: Global,
+    known: &Known,
+    text: &[u8],
+    spot: Spot,
+    call: &CallAt,
+    said: &[u8],
+) -> Result<Change, AllocError>
+    requires dropped { specs.put_for text.now (macro_call_of call.now) ≡ Some [] }
+    requires said { specs.Says text.now (macro_call_of call.now) said.now }
+    ensures { IfOk result (λ change.
+        specs.IsPut text.now (macro_call_of call.now) change.put.items) }
+{
+    if can_be_left_out(known, text, spot) {
+        kept(alloc, text, spot, call, said)
+    } else {
+        kept_idle(alloc, text, line_indent(text, spot), call, said)
+    }
+}
+
+/// Returns whether a call begins its line, or an argument.
+fn begins_list(text: &[u8], spot: Spot, call: &CallAt) -> bool {
+    spot.is_first || before(text, call.start).ends_with(b"[")
+}
+
+/// Returns whether a comment that says what a call says can be at its place.
+fn can_be_kept(known: &Known, text: &[u8], spot: Spot, call: &CallAt, said: &[u8]) -> bool {
+    let is_apart = can_be_left_out(known, text, spot)
+        || begins_list(text, spot, call)
+            && can_be_noted(known, call)
+            && !joins_next_line(text, call);
+    !said.is_empty() && known.has_compiler && is_apart
+}
+
 /// Returns the change of a call to what it says to readers, as a comment, or to nothing if a comment
 /// can't be at its place.
 fn kept_or_left_out(
@@ -418,10 +543,10 @@ fn kept_or_left_out(
     ensures { IfOk result (λ o.
         IfSome o (λ change. specs.IsPut text.now (macro_call_of call.now) change.put.items)) }
 {
-    if said.is_empty() || !known.has_compiler || !can_be_left_out(known, text, spot) {
+    if !can_be_kept(known, text, spot, call, said) {
         return left_out(alloc, known, text, spot, call);
     }
-    let change = kept(alloc, text, spot, call, said)?;
+    let change = kept_by(alloc, known, text, spot, call, said)?;
     Ok(Some(change))
 }
 
@@ -570,7 +695,7 @@ fn with_command(
     ensures { IfOk result (λ v. specs.IsNoted text.now (macro_call_of call.now) v.items) }
 {
     let command = with_colon(text, call, put)?;
-    noted_apart(text, indent, call, joins_next_line(text, call), command)
+    noted_apart(text, indent, call, command)
 }
 
 /// Returns what is put in the place of a call below a comment, with the command `:` after it unless
@@ -611,7 +736,7 @@ fn with_said(
     ensures { IfOk result (λ v. specs.IsNoted text.now (macro_call_of call.now) v.items) }
 {
     if !other.idiom.is_empty() {
-        return noted_apart(text, indent, call, is_joined(text, call, other.idiom), put);
+        return noted_apart(text, indent, call, put);
     }
     match said_by(text, call) {
         Some(said) => {

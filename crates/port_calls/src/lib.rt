@@ -4,11 +4,14 @@
 //! output variables. If all idioms are wanted, it is also replaced by one that differs, below a
 //! comment that says in what. What a call says to readers alone becomes a comment. The old name of AS_HELP_STRING is replaced too, a backslash that joins
 //! two lines of a list of words goes, a statement after AC_DEFINE gets a line of its own, and an
-//! argument with a compound statement of a shell gets brackets. All else is copied to the byte.
+//! argument with a compound statement of a shell gets brackets, and so does the name of a variable
+//! that is spelled as a macro. If all idioms are wanted, GCC is set after AC_PROG_CC, and messages after
+//! AC_OUTPUT come before it. All else is copied to the byte.
 //!
 //! ```text
 //! AC_HAVE_FUNCS(getcwd)        // becomes AC_CHECK_FUNCS([getcwd])
 //! AC_C_CONST                   // is left out
+//! x=$PKG_CONFIG                // becomes x=$[PKG_CONFIG]
 //! AM_INIT_AUTOMAKE             // stays
 //! AC_FUNC_MALLOC               // stays, or becomes a line `dnl acrun: in place of AC_FUNC_MALLOC: ..` and an AC_DEFINE
 //! ```
@@ -16,7 +19,8 @@
 //! Read `specs/Put` (what is put) and `specs/Rewritten` (what is copied). `port_idioms` says which
 //! idioms are exact. In `src`, read `spots`, `around` and `bare` (where a call is, and what is
 //! before and after it), `changes`, `keeping` and `noting` (what a call becomes), `passing` (one pass over the
-//! calls) with `joints`, `lines` and `brackets`, and then `passes`. The time of a pass is in
+//! calls) with `joints`, `lines`, `brackets`, `names`, `gnu` and
+//! `output`, and then `passes`. The time of a pass is in
 //! proportion to the length of the text. A call fails only if memory runs out. "own" marks a rule
 //! that no manual gives.
 #![tactic(auto)]
@@ -25,10 +29,13 @@ mod around;
 mod bare;
 mod brackets;
 mod changes;
+mod gnu;
 mod joints;
 mod keeping;
 mod lines;
+mod names;
 mod noting;
+mod output;
 mod passes;
 mod passing;
 mod spots;

@@ -18,7 +18,7 @@ const FRONT: &[u8] = b"dnl acrun: in place of ";
 
 /// Returns the comment above the idiom of a macro of this name.
 #[tactic(auto, unfolding(crate::specs::Put::difference))]
-fn difference(alloc: Global, name: &[u8], said: &[u8]) -> Result<Vec<u8>, AllocError>
+pub(crate) fn difference(alloc: Global, name: &[u8], said: &[u8]) -> Result<Vec<u8>, AllocError>
     ensures { IfOk result (λ v. v.items ≡ specs.difference name.now said.now) }
 {
     let mut out = Vec::from_slice(alloc, FRONT)?;
@@ -39,7 +39,7 @@ fn put_text(out: &mut Vec<u8>, indent: &[u8], text: &[u8]) -> Result<(), AllocEr
 
 /// Appends an idiom with these arguments, after a newline and the indent. Returns whether each
 /// argument could be put there.
-fn put_idiom(
+pub(crate) fn put_idiom(
     alloc: Global,
     out: &mut Vec<u8>,
     idiom: &[u8],
@@ -51,7 +51,7 @@ fn put_idiom(
         → out.new.items
         ≡ out.old.items ++ specs.below indent.now idiom.now (map (λ a. a.now) args.now)) }
 {
-    match filled(alloc, idiom, args, indent)? {
+    match filled(alloc, idiom, args, true, indent)? {
         Some(text) => {
             put_text(out, indent, text.as_slice())?;
             Ok(true)

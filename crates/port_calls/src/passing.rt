@@ -8,8 +8,11 @@ ghost use Rattle.port_calls.specs.Rewritten as specs;
 use crate::around::{are_blank, blank_len};
 use crate::brackets::pass_arguments;
 use crate::changes::{Change, Known, change_of, known_of};
+use crate::gnu::pass_compiler;
 use crate::joints::{first_argument, pass_words};
 use crate::lines::pass_line;
+use crate::names::{names_variable, pass_name};
+use crate::output::pass_output;
 use crate::spots::{Spot, Walk};
 use crate::writing::{Pass, write_change};
 use ac_calls::{CallAt, Extent, calls_of};
@@ -41,7 +44,7 @@ fn names_files(text: &[u8], call: &CallAt) -> bool
 }
 
 /// Returns whether the call is one of AC_OUTPUT.
-fn is_output(text: &[u8], call: &CallAt) -> bool
+pub(crate) fn is_output(text: &[u8], call: &CallAt) -> bool
     ensures { IsTrue result
         → slice_range text.now (macro_call_of call.now).start (macro_call_of call.now).name_end
         ≡ codes "AC_OUTPUT" }
@@ -50,16 +53,63 @@ fn is_output(text: &[u8], call: &CallAt) -> bool
     has_name && &text[call.start..call.name_end] == b"AC_OUTPUT".as_slice()
 }
 
+/// Returns whether the call is one of AC_INIT.
+fn is_init(text: &[u8], call: &CallAt) -> bool
+    ensures { IsTrue result
+        → slice_range text.now (macro_call_of call.now).start (macro_call_of call.now).name_end
+        ≡ codes "AC_INIT" }
+{
+    let has_name = call.start <= call.name_end && call.name_end <= text.len();
+    has_name && &text[call.start..call.name_end] == b"AC_INIT".as_slice()
+}
+
+/// Returns whether the call is one of AC_MSG_RESULT.
+fn is_result(text: &[u8], call: &CallAt) -> bool
+    ensures { IsTrue result
+        → slice_range text.now (macro_call_of call.now).start (macro_call_of call.now).name_end
+        ≡ codes "AC_MSG_RESULT" }
+{
+    let has_name = call.start <= call.name_end && call.name_end <= text.len();
+    has_name && &text[call.start..call.name_end] == b"AC_MSG_RESULT".as_slice()
+}
+
+/// Returns whether the call is AC_INIT with at most one argument.
+fn lacks_version(text: &[u8], call: &CallAt) -> bool
+    ensures { IsTrue result → specs.LacksVersion text.now (macro_call_of call.now) }
+{
+    is_init(text, call) && call.args.len() <= 1
+}
+
+/// Returns whether the call is AC_MSG_RESULT without an argument.
+fn lacks_result(text: &[u8], call: &CallAt) -> bool
+    ensures { IsTrue result → specs.LacksResult text.now (macro_call_of call.now) }
+{
+    is_result(text, call) && call.args.len() <= 0
+}
+
+/// Returns whether the call is AC_OUTPUT of at least one file.
+fn is_output_of_files(text: &[u8], call: &CallAt) -> bool
+    ensures { IsTrue result
+        → (slice_range text.now (macro_call_of call.now).start (macro_call_of call.now).name_end
+        ≡ codes "AC_OUTPUT")
+        × specs.NamesFiles text.now (macro_call_of call.now) }
+{
+    is_output(text, call) && names_files(text, call)
+}
+
 /// Returns whether the call has to go: the table of macros doesn't have its name, or it is
-/// AC_OUTPUT of at least one file.
+/// AC_OUTPUT of at least one file, AC_INIT without a version, or AC_MSG_RESULT without an argument.
 fn has_to_go(text: &[u8], call: &CallAt) -> bool
     ensures { IsTrue result → specs.HasToGo text.now (macro_call_of call.now) }
 {
-    !call.is_of_profile || (is_output(text, call) && names_files(text, call))
+    !call.is_of_profile
+        || is_output_of_files(text, call)
+        || lacks_version(text, call)
+        || lacks_result(text, call)
 }
 
 /// Returns whether the call and, around it, nothing but blanks are between two offsets of the text.
-fn is_around(text: &[u8], call: &CallAt, start: usize, end: usize) -> bool
+pub(crate) fn is_around(text: &[u8], call: &CallAt, start: usize, end: usize) -> bool
     ensures { IsTrue result
         → specs.IsAround text.now (macro_call_of call.now) start end × (end ≤ length text.now)
         × (start ≤ length text.now) }
@@ -212,7 +262,7 @@ fn put_found(
 }
 
 /// Replaces a call if it has to go and has an idiom that is wanted, unless it was in what was
-/// replaced.
+/// replaced. The name of a variable gets brackets.
 fn pass_whole(
     alloc: Global,
     idioms: Idioms,
@@ -229,6 +279,9 @@ fn pass_whole(
     if call.start < pass.at {
         return Ok(());
     }
+    if names_variable(text, call) {
+        return pass_name(alloc, idioms, known, text, call, pass);
+    }
     if has_to_go(text, call) {
         let change = change_of(alloc, idioms, known, text, spot, call)?;
         return put_found(idioms, text, call, change, pass);
@@ -240,7 +293,7 @@ fn pass_whole(
 }
 
 /// Drops backslashes of a list of words, puts arguments in brackets, or otherwise replaces the call
-/// if it has to go.
+/// if it has to go. After AC_PROG_CC GCC may be set, and what is after AC_OUTPUT may come before it.
 fn pass_call(
     alloc: Global,
     idioms: Idioms,
@@ -259,6 +312,8 @@ fn pass_call(
 {
     pass_words(idioms, text, call, pass)?;
     pass_whole(alloc, idioms, known, text, spot, call, pass)?;
+    pass_compiler(alloc, idioms, known, text, spot, call, pass)?;
+    pass_output(alloc, idioms, text, calls, first, spot, call, pass)?;
     pass_arguments(alloc, idioms, text, calls, first, call, pass)
 }
 

@@ -14,6 +14,12 @@ use m4quote::{cpp_name, sh_name};
 use std::alloc::{AllocError, Global};
 use text_cut::{parts, trim};
 
+/// What the names of macros begin with.
+const FRONTS: [&[u8]; 13] = [
+    b"m4_", b"gl_", b"gt_", b"AC_", b"ACX_", b"AH_", b"AM_", b"AS_", b"AU_", b"AX_", b"IT_",
+    b"LT_", b"PKG_",
+];
+
 /// Returns whether m4 may have a definition of the word.
 fn is_known(word: &[u8]) -> bool {
     word == b"dnl".as_slice()
@@ -22,9 +28,20 @@ fn is_known(word: &[u8]) -> bool {
         || word.first().is_some_and(|byte| byte.is_ascii_uppercase()) && word.contains(&b'_')
 }
 
-/// Returns whether m4 may have a definition of a word of the text.
-fn has_macro(text: &[u8]) -> bool {
-    text.split(|byte| !is_word_byte(*byte)).any(is_known)
+/// Returns whether a word begins as the names of macros do that packages don't define themselves.
+fn begins_as_macro(word: &[u8]) -> bool {
+    FRONTS.iter().any(|front| word.starts_with(front))
+}
+
+/// Returns whether m4 may have a definition of a word of the text. If its words are taken for text,
+/// that is asked of those alone that begin as the name of a macro.
+fn has_macro(text: &[u8], are_text: bool) -> bool {
+    let mut words = text.split(|byte| !is_word_byte(*byte));
+    if are_text {
+        words.any(|word| word == b"dnl".as_slice() || begins_as_macro(word))
+    } else {
+        words.any(is_known)
+    }
 }
 
 /// Returns whether the brackets of a text are closed within it, and no parenthesis, comma or
@@ -62,12 +79,26 @@ fn is_verbatim(byte: u8) -> bool {
 }
 
 /// Returns whether m4 puts the one text in the place of the other, which is the same or has
-/// brackets around it, whatever the macros are.
-fn is_certain(written: &[u8], inner: &[u8]) -> bool {
+/// brackets around it, whatever the macros are, or if its words are text.
+fn is_certain(written: &[u8], inner: &[u8], are_text: bool) -> bool {
     if inner.len() < written.len() {
         is_one_text(inner)
     } else {
-        written.iter().all(|byte| is_verbatim(*byte)) && !has_macro(written)
+        written.iter().all(|byte| is_verbatim(*byte)) && !has_macro(written, are_text)
+    }
+}
+
+/// Returns the text that m4 puts in the place of an argument, if that is known without a definition
+/// of any macro, or if its words are text.
+fn text_by(argument: &[u8], are_text: bool) -> Option<&[u8]>
+    ensures text { IfSome result (λ t. t.now ≡ unquoted (trimmed argument.now)) }
+{
+    let written = trim(argument);
+    let inner = unquoted(written);
+    if is_certain(written, inner, are_text) {
+        Some(inner)
+    } else {
+        None
     }
 }
 
@@ -78,23 +109,17 @@ fn is_certain(written: &[u8], inner: &[u8]) -> bool {
 pub fn text_of(argument: &[u8]) -> Option<&[u8]>
     ensures text { IfSome result (λ t. t.now ≡ unquoted (trimmed argument.now)) }
 {
-    let written = trim(argument);
-    let inner = unquoted(written);
-    if is_certain(written, inner) {
-        Some(inner)
-    } else {
-        None
-    }
+    text_by(argument, false)
 }
 
 /// Returns the text of the argument of an index, if that is known. An argument that isn't given is
 /// empty.
-fn text_at<'a>(args: &[&'a [u8]], index: usize) -> Option<&'a [u8]>
+fn text_at<'a>(args: &[&'a [u8]], are_text: bool, index: usize) -> Option<&'a [u8]>
     ensures { IfSome result (λ t.
         t.now ≡ specs.text_of (slice_get (map (λ a. a.now) args.now) index)) }
 {
     match args.get(index) {
-        Some(argument) => text_of(argument),
+        Some(argument) => text_by(argument, are_text),
         None => Some(b""),
     }
 }
@@ -244,13 +269,14 @@ fn put_value(
     out: &mut Vec<u8>,
     place: &Place<'_>,
     args: &[&[u8]],
+    are_text: bool,
 ) -> Result<bool, AllocError>
     ensures { IfOk result (λ b.
         IsTrue b
         → out.new.items
         ≡ out.old.items ++ specs.value (specs.seen place.now) (map (λ a. a.now) args.now)) }
 {
-    match text_at(args, place.index) {
+    match text_at(args, are_text, place.index) {
         Some(text) if can_have(place.form, text) => put_formed(alloc, out, place.form, text),
         _ => Ok(false),
     }
@@ -263,6 +289,7 @@ fn put_place(
     out: &mut Vec<u8>,
     place: &Place<'_>,
     args: &[&[u8]],
+    are_text: bool,
 ) -> Result<bool, AllocError>
     ensures { IfOk result (λ b.
         IsTrue b
@@ -271,7 +298,7 @@ fn put_place(
         ++ (specs.value (specs.seen place.now) (map (λ a. a.now) args.now)
         ++ place.now.rest.now)) }
 {
-    if !put_value(alloc, out, place, args)? {
+    if !put_value(alloc, out, place, args, are_text)? {
         return Ok(false);
     }
     out.extend_from_slice(place.rest)?;
@@ -285,6 +312,7 @@ fn put_sign(
     out: &mut Vec<u8>,
     text: &[u8],
     args: &[&[u8]],
+    are_text: bool,
 ) -> Result<bool, AllocError>
     ensures { IfOk result (λ b.
         IsTrue b
@@ -292,7 +320,7 @@ fn put_sign(
         ≡ out.old.items ++ specs.filled_sign (map (λ a. a.now) args.now) text.now) }
 {
     match place_of(text) {
-        Some(place) => put_place(alloc, out, &place, args),
+        Some(place) => put_place(alloc, out, &place, args, are_text),
         None => {
             out.push(b'$')?;
             out.extend_from_slice(text)?;
@@ -308,6 +336,7 @@ fn put_signs(
     out: &mut Vec<u8>,
     texts: &[&[u8]],
     args: &[&[u8]],
+    are_text: bool,
 ) -> Result<bool, AllocError>
     ensures { IfOk result (λ b.
         IsTrue b
@@ -317,7 +346,7 @@ fn put_signs(
         (map (λ t. t.now) texts.now)) }
 {
     for text in texts {
-        if !put_sign(alloc, out, text, args)? {
+        if !put_sign(alloc, out, text, args, are_text)? {
             return Ok(false);
         }
     }
@@ -332,6 +361,7 @@ fn put_line(
     out: &mut Vec<u8>,
     line: &[u8],
     args: &[&[u8]],
+    are_text: bool,
 ) -> Result<bool, AllocError>
     ensures { IfOk result (λ b.
         IsTrue b
@@ -341,7 +371,7 @@ fn put_line(
     let texts = parts(alloc, line, b'$')?;
     if let Some((first, more)) = texts.as_slice().split_first() {
         out.extend_from_slice(first)?;
-        return put_signs(alloc, out, more, args);
+        return put_signs(alloc, out, more, args, are_text);
     }
     Ok(true)
 }
@@ -353,6 +383,7 @@ fn put_next(
     out: &mut Vec<u8>,
     line: &[u8],
     args: &[&[u8]],
+    are_text: bool,
     indent: &[u8],
 ) -> Result<bool, AllocError>
     ensures { IfOk result (λ b.
@@ -363,7 +394,7 @@ fn put_next(
 {
     out.push(b'\n')?;
     out.extend_from_slice(indent)?;
-    put_line(alloc, out, line, args)
+    put_line(alloc, out, line, args, are_text)
 }
 
 /// Appends the lines of an idiom. Returns whether each argument could be put there.
@@ -372,6 +403,7 @@ fn put_lines(
     out: &mut Vec<u8>,
     texts: &[&[u8]],
     args: &[&[u8]],
+    are_text: bool,
     indent: &[u8],
 ) -> Result<bool, AllocError>
     ensures { IfOk result (λ b.
@@ -384,11 +416,11 @@ fn put_lines(
     let Some((first, more)) = texts.split_first() else {
         return Ok(true);
     };
-    if !put_line(alloc, out, first, args)? {
+    if !put_line(alloc, out, first, args, are_text)? {
         return Ok(false);
     }
     for text in more {
-        if !put_next(alloc, out, text, args, indent)? {
+        if !put_next(alloc, out, text, args, are_text, indent)? {
             return Ok(false);
         }
     }
@@ -398,12 +430,14 @@ fn put_lines(
 /// Returns an idiom with the arguments in their places and the indent at the front of each line but
 /// the first, or `None` if one can't be put there.
 ///
-/// An argument is put in its place without the blanks and the pair of brackets around it.
+/// An argument is put in its place without the blanks and the pair of brackets around it. If it has
+/// no brackets, a word of it may be a macro of the package, unless the words are taken for text.
 #[tactic(auto, unfolding(crate::specs::Filled::filled))]
 pub fn filled(
     alloc: Global,
     idiom: &[u8],
     args: &[&[u8]],
+    are_text: bool,
     indent: &[u8],
 ) -> Result<Option<Vec<u8>>, AllocError>
     ensures filled { IfOk result (λ o.
@@ -411,7 +445,7 @@ pub fn filled(
 {
     let lines = parts(alloc, idiom, b'\n')?;
     let mut out = Vec::new(alloc);
-    if put_lines(alloc, &mut out, lines.as_slice(), args, indent)? {
+    if put_lines(alloc, &mut out, lines.as_slice(), args, are_text, indent)? {
         Ok(Some(out))
     } else {
         Ok(None)

@@ -3,11 +3,12 @@
 //! in what they differ.
 //!
 //! An idiom is written for some numbers of arguments. An argument is put into it only if the text
-//! that m4 puts in its place is known without a definition of any macro.
+//! that m4 puts in its place is known without a definition of any macro, or with one of none of the
+//! package's own if the caller says so.
 //!
 //! ```text
 //! exact_of(alloc, &index, b"AC_HAVE_FUNCS", 1)?             // the idiom AC_CHECK_FUNCS([$1{FUNCTIONS}])
-//! filled(alloc, idiom, &[b"getcwd"], b"  ")?                // AC_CHECK_FUNCS([getcwd])
+//! filled(alloc, idiom, &[b"getcwd"], false, b"  ")?         // AC_CHECK_FUNCS([getcwd])
 //! other_of(alloc, &index, b"AC_FUNC_MALLOC", 0)?            // an idiom; it says " HAVE_MALLOC is 1 without a check"
 //! ```
 //!

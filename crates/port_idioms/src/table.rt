@@ -23,10 +23,13 @@ AC_HAVE_HEADERS 1 1
 AC_HEADER_CHECK 1 1
 AC_HEADER_MAJOR 0 0
 AC_HEADER_STAT 0 0
+AC_INIT() 0 0
+AC_INIT(file) 1 1
 AC_ISC_POSIX 0 0
 AC_LN_S 0 0
 AC_MODE_T 0 0
 AC_MSG_FAILURE 1 1
+AC_MSG_RESULT() 0 0
 AC_OBJEXT 0 0
 AC_OFF_T 0 0
 AC_OUTPUT(files) 1 1
@@ -122,6 +125,10 @@ AC_C_TYPEOF 0 0 nothing is defined, and the compiler is taken to have it
 AC_C_VARARRAYS 0 0 nothing is defined, and the compiler is taken to have it
 AC_DIRENT 0 0 no other header and no library of directories is looked for
 AC_DIR_HEADER 0 0 no other header and no library of directories is looked for
+AC_DISABLE_SHARED 0 1 there is no libtool, so a rule of the Makefile links the library
+AC_DISABLE_STATIC 0 1 there is no libtool, so a rule of the Makefile links the library
+AC_ENABLE_SHARED 0 1 there is no libtool, so a rule of the Makefile links the library
+AC_ENABLE_STATIC 0 1 there is no libtool, so a rule of the Makefile links the library
 AC_FUNC_ALLOCA 0 0 the function is taken to be there, and ALLOCA is empty
 AC_FUNC_CHOWN 0 0 no program is run, so a function that is there counts as one that works
 AC_FUNC_CLOSEDIR_VOID 0 0 the function is taken to work, and nothing is defined
@@ -162,6 +169,8 @@ AC_LANG_SAVE 0 0 C is the only language
 AC_LIBOBJ 1 1 the object is in EXTRA_OBJS and not in LIBOBJS
 AC_LIBSOURCE 1 1 the Makefile has to say where the sources of the objects are
 AC_LIBSOURCES 1 1 the Makefile has to say where the sources of the objects are
+AC_LIBTOOL_DLOPEN 0 1 there is no libtool, so a rule of the Makefile links the library
+AC_LIBTOOL_WIN32_DLL 0 1 there is no libtool, so a rule of the Makefile links the library
 AC_LONG_FILE_NAMES 0 0 HAVE_LONG_FILE_NAMES is defined without a check
 AC_MINGW32 0 0 a program is compiled, and the name of the host is not looked at
 AC_MMAP 0 0 no program is run, so a function that is there counts as one that works
@@ -173,6 +182,7 @@ AC_PROG_EGREP 0 0 no program is looked for
 AC_PROG_FGREP 0 0 no program is looked for
 AC_PROG_GCC_TRADITIONAL 0 0 no flag is added
 AC_PROG_LEX 0 0 no scanner is made, so yytext is taken to be a pointer
+AC_PROG_LIBTOOL 0 1 there is no libtool, so a rule of the Makefile links the library
 AC_PROG_MAKE_SET 0 0 make is taken to set MAKE, so SET_MAKE is empty
 AC_PROG_RANLIB 0 0 no program whose name begins with that of the host is looked for
 AC_REPLACE_FUNCS 1 1 the object is in EXTRA_OBJS and not in LIBOBJS
@@ -214,27 +224,48 @@ AH_TEMPLATE 2 2 the template of the header has to have its line
 AH_TOP 1 1 the template of the header has to have its text
 AH_VERBATIM 2 2 the template of the header has to have its text
 AM_CONDITIONAL 2 2 there is no Automake, so each line of Makefile.in that depends on it begins with @NAME_TRUE@ or @NAME_FALSE@
+AM_COND_IF 2 3 there is no Automake, and the variable of the condition is read
 AM_CONFIG_HEADER 1 1 no stamp file is made
+AM_DEP_TRACK 0 0 there is no Automake
+AM_DISABLE_SHARED 0 1 there is no libtool, so a rule of the Makefile links the library
+AM_DISABLE_STATIC 0 1 there is no libtool, so a rule of the Makefile links the library
+AM_ENABLE_SHARED 0 1 there is no libtool, so a rule of the Makefile links the library
+AM_ENABLE_STATIC 0 1 there is no libtool, so a rule of the Makefile links the library
+AM_EXTRA_RECURSIVE_TARGETS 1 1 there is no Automake
 AM_GNU_GETTEXT 0 1 a library that has gettext is added to LIBS, and a rule of the Makefile makes the catalogues
 AM_GNU_GETTEXT_REQUIRE_VERSION 1 1 a rule of the Makefile makes the catalogues
 AM_GNU_GETTEXT_VERSION 1 1 a rule of the Makefile makes the catalogues
 AM_ICONV 0 0 a library that has iconv is added to LIBS, LIBICONV is empty, and ICONV_CONST is not defined
+AM_INIT_AUTOMAKE 0 1 there is no Automake, and PACKAGE and VERSION are defined also if no-define is given
+AM_INIT_AUTOMAKE(name) 2 3 there is no Automake, and PACKAGE and VERSION are defined also if a third argument is given
 AM_LANGINFO_CODESET 0 0 the function is looked for, and CODESET is taken to be there
+AM_MAINTAINER_MODE 0 1 there is no Automake
+AM_MAKE_INCLUDE 0 0 there is no Automake
 AM_NLS 0 0 a rule of the Makefile makes the catalogues
+AM_OUTPUT_DEPENDENCY_COMMANDS 0 0 there is no Automake
 AM_PATH_PYTHON 0 0 PYTHON is the only variable that is set
 AM_PO_SUBDIRS 0 0 a rule of the Makefile makes the catalogues
 AM_PROG_AR 0 0 no program whose name begins with that of the host is looked for, and ar is not tried
 AM_PROG_CC_C_O 0 0 the compiler is taken to allow -c with -o
 AM_PROG_CC_STDC 0 0 no flag is added
 AM_PROG_LEX 0 0 no scanner is made, so yytext is taken to be a pointer
+AM_PROG_LIBTOOL 0 1 there is no libtool, so a rule of the Makefile links the library
+AM_SANITY_CHECK 0 0 there is no Automake
+AM_SET_DEPDIR 0 0 there is no Automake
+AM_SILENT_RULES 0 1 there is no Automake
+AM_SUBST_NOTMAKE 1 1 there is no Automake
 AM_XGETTEXT_OPTION 1 1 a rule of the Makefile makes the catalogues
 AS_EXIT 1 1 a message is printed, and acrun refuses 0 as the status
 AS_UNSET 1 1 the variable is empty and not unset
 AS_VAR_SET_IF 1 3 a variable that is set to nothing counts as one that is not set
 AX_PTHREAD 0 0 the library is added to LIBS, and PTHREAD_CFLAGS is -pthread without a check
+GCC 0 0 AC_PROG_CC does not set it here, so a program asks for __GNUC__
+LT_INIT 0 1 there is no libtool, so a rule of the Makefile links the library
+LT_PREREQ 0 1 there is no libtool, so a rule of the Makefile links the library
 PKG_PROG_PKG_CONFIG 0 1 no pkg-config is run, so the user gives what it prints
 gl_PROG_CC_C99 0 0 no flag is added
 gl_USE_SYSTEM_EXTENSIONS 0 0 only _GNU_SOURCE and __EXTENSIONS__ are defined, and config.h.in needs a line for each
+m4_ifdef(AM) 2 2 there is no Automake, so there is no such macro
 m4_pattern_forbid 1 1 no word is forbidden";
 
 /// Returns the rows of these macros, with a newline between them.

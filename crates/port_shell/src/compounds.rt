@@ -48,8 +48,10 @@ struct Compound {
     branches: Vec<IfBranch>,
     branch: IfBranch,
     at_else: Option<usize>,
-    /// Whether the word of a `case` was read.
+    /// Whether the word of a `case` was read, or a word in parentheses.
     has_subject: bool,
+    /// Whether the parenthesis is right after a word, as that of a function or of a macro.
+    is_after_word: bool,
     at_in: usize,
     /// The branches of a `case` so far, and the parenthesis after the patterns of the one that was
     /// begun.
@@ -85,7 +87,7 @@ pub(crate) struct Compounds {
     front: Front,
     /// Whether words and operators can't be told apart from here on.
     is_lost: bool,
-    /// Whether the parenthesis that is open is that of a function, or the body of one follows.
+    /// Whether the body of a function follows.
     is_function: bool,
     /// Whether the sign before was a `;`, and its offset.
     semicolon: Option<usize>,
@@ -221,6 +223,7 @@ impl Compounds {
             branch: branch_at(word.end),
             at_else: None,
             has_subject: false,
+            is_after_word: false,
             at_in: 0,
             cases: Vec::new(alloc),
             at_close: 0,
@@ -474,6 +477,15 @@ impl Compounds {
         Ok(last.stage == Stage::Patterns)
     }
 
+    /// Notes that a word is in the parentheses that are open, if they are the innermost.
+    fn fill_paren(&mut self) {
+        if let Some(last) = self.open.last_mut() {
+            if last.kind == Kind::Paren {
+                last.has_subject = true;
+            }
+        }
+    }
+
     /// Reads a word. Returns whether it is a call that is a statement of a list that calls may be
     /// put in.
     pub(crate) fn read_word(
@@ -487,25 +499,26 @@ impl Compounds {
         if self.is_lost || self.read_of_case(text, word, is_quoted)? {
             return Ok(false);
         }
+        self.fill_paren();
         self.read_guard(text, word, is_quoted);
         self.read_echo(text, word, is_quoted)?;
         if self.front == Front::Further {
             return Ok(false);
         }
         if word.is_call {
+            self.is_function = false;
             let is_statement = self.begins_call();
             self.front = Front::AfterCall;
             return Ok(is_statement);
         }
-        if !word.is_plain {
-            self.front = Front::Further;
+        if word.is_plain
+            && (self.read_beginning(alloc, text, word, is_quoted)?
+                || self.read_continuing(text, word, is_quoted)?)
+        {
             return Ok(false);
         }
-        if !self.read_beginning(alloc, text, word, is_quoted)?
-            && !self.read_continuing(text, word, is_quoted)?
-        {
-            self.front = Front::Further;
-        }
+        self.is_function = false;
+        self.front = Front::Further;
         Ok(false)
     }
 
@@ -518,7 +531,7 @@ impl Compounds {
         {
             return Ok(());
         }
-        let is_function = self.front == Front::Further;
+        let is_after_word = self.front == Front::Further;
         let word = Word {
             start: at,
             end: at,
@@ -526,8 +539,22 @@ impl Compounds {
             is_call: false,
         };
         self.begin(alloc, Kind::Paren, word, false)?;
-        self.is_function = is_function;
+        if let Some(last) = self.open.last_mut() {
+            last.is_after_word = is_after_word;
+        }
         Ok(())
+    }
+
+    /// Goes on after a parenthesis that closes. If a word is right before the one that opened, and
+    /// nothing between them, the body of a function follows. With something between them it is the
+    /// call of a macro, as `FOO(x)`.
+    fn end_paren(&mut self, paren: &Compound) {
+        if paren.is_after_word && paren.has_subject {
+            self.front = Front::AfterCall;
+        } else if paren.is_after_word {
+            self.is_function = true;
+            self.front = Front::Statement;
+        }
     }
 
     /// Reads a parenthesis that closes: of a command, of a function, or after patterns.
@@ -540,10 +567,8 @@ impl Compounds {
                 return;
             }
         }
-        let is_function = self.is_function;
-        self.close(Kind::Paren);
-        if is_function {
-            self.front = Front::Statement;
+        if let Some(paren) = self.take(Kind::Paren) {
+            self.end_paren(&paren);
         }
     }
 

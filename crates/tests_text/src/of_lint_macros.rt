@@ -16,7 +16,7 @@ said AC_SUBST_FILE => none AC_SUBST_FILE [put the text of the file into the temp
 said AC_FUNC_NEW => family AC_FUNC_ [check the function by AC_CHECK_FUNCS]
 said AM_PATH_NEW => family AM_PATH_ [let the user give the flags by AC_ARG_VAR, and link a program with them]
 said AC_FUNC_VPRINT => family AC_FUNC_ [check the function by AC_CHECK_FUNCS]
-said AC_INIT(file) => idiom AC_INIT(file) [AC_INIT([PACKAGE], [VERSION])^JAC_CONFIG_SRCDIR([$1{FILE}])]
+said AC_INIT(file) => idiom AC_INIT(file) [AC_INIT([], [])^JAC_CONFIG_SRCDIR([$1{FILE}])]
 said AC_SUBST => nothing
 said AC_SUBST_FILES => nothing
 said  => nothing
@@ -45,6 +45,8 @@ entry AC_CHECK_MEMBERS 4 => AC_CHECK_MEMBERS(includes) yes
 entry AC_CHECK_MEMBER 3 => AC_CHECK_MEMBER no
 entry AC_CHECK_MEMBER 4 => AC_CHECK_MEMBER(includes) no
 entry AC_CHECK_SIZEOF 4 => AC_CHECK_SIZEOF no
+entry AM_INIT_AUTOMAKE 1 => AM_INIT_AUTOMAKE no
+entry AM_INIT_AUTOMAKE 2 => AM_INIT_AUTOMAKE(name) no
 ";
 
 fn name_of(kind: MacroKind) -> &'static [u8] {
