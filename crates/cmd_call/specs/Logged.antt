@@ -4,7 +4,7 @@ use Rattle.file_disk.specs.Known.{Known, Does}
 use Rattle.file_texts.specs.Done.{IsDoneApart}
 use Rattle.file_texts.specs.Held.{Held, AreUnguarded}
 use Rattle.file_texts.specs.Lines.{AreLines}
-use Rattle.file_texts.specs.Steps.{IsReplaced}
+use Rattle.file_texts.specs.Steps.{IsBegun, IsReplaced}
 
 -- What a receiver of files has is so in files: its lines are those of the things that it took, none
 -- of them has a guarded name, and, unless it is closed, what was done to files is what was done for
@@ -18,3 +18,8 @@ pub record IsHeld {D : Type 0} (known : D → Option Known) (o : Held D) : Type 
 -- was done. (own)
 abbrev pub HasLogged : {D : Type 0} → (D → Option Known) → Held D → Held D → List ℕ → Type 0
 HasLogged known old new log = Does (known old.disk) (known new.disk) (λ k deeds. IsReplaced k (codes "config.log") log deeds)
+
+-- If something is known of the files, the log was not written: what was under its name may be gone, a
+-- new file may have been begun there, and nothing else was done. (own)
+abbrev pub HasNoLog : {D : Type 0} → (D → Option Known) → Held D → Held D → Type 0
+HasNoLog known old new = Does (known old.disk) (known new.disk) (λ k deeds. IsBegun k (codes "config.log") deeds)

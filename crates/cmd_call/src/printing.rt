@@ -1,12 +1,12 @@
 //! What the program prints and writes of a run: its messages, the lines of its outputs, and its
 //! log.
 
-ghost use Rattle.std.specs.Prelude.{◌≡◌, ℕ, true, [], ◌∷◌, ◌++◌, take, Ok, OnOk, IfOk, IsTrue, if◌then◌else◌};
+ghost use Rattle.std.specs.Prelude.{◌≡◌, ℕ, true, [], ◌∷◌, ◌++◌, take, Ok, OnOk, OnErr, IfOk, IsTrue, if◌then◌else◌};
 ghost use Rattle.std.specs.Io.KnownBytes.{Appends};
 ghost use Rattle.cfglog.specs.Texts.{is_shown, log_of, messages_of, note_text};
 ghost use Rattle.deftable.specs.declared.note.Stream.TheVariants as streams;
 ghost use Rattle.cmd_call.specs.Errors.{AreTold, error_of, errors_of};
-ghost use Rattle.cmd_call.specs.Logged.{HasLogged};
+ghost use Rattle.cmd_call.specs.Logged.{HasLogged, HasNoLog};
 
 use crate::writes::{Stopped, Writes};
 use cfglog::{log_text, messages_text};
@@ -205,12 +205,15 @@ pub fn print_lines<W: Write>(lines: &[u8], quiet: bool, output: &mut W) -> io::R
 /// # Errors
 ///
 /// Fails if the file can't be written, or if memory runs out. Then the log is not written.
+#[tactic(auto, using(crate::proofs::Logs::no_log_yet))]
 pub fn write_log<D: Disk>(
     alloc: Global,
     outputs: &mut FileOutputs<D>,
     entries: &[Entry],
 ) -> io::Result<()>
-    ensures { OnOk result (HasLogged D.known outputs.old outputs.new (log_of entries.now)) }
+    ensures written { OnOk result (
+        HasLogged D.known outputs.old outputs.new (log_of entries.now)) }
+    ensures begun { OnErr result (HasNoLog D.known outputs.old outputs.new) }
 {
     match log_text(alloc, entries) {
         Ok(text) => outputs.close(LOG.as_bytes(), text.as_slice()),

@@ -3,3 +3,4 @@ mod Agreements
 mod Keeping
 mod Remakings
 mod Examples
+mod Headlines

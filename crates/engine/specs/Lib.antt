@@ -4,3 +4,4 @@ pub mod Configured
 pub mod Agreeing
 pub mod Kept
 pub mod Remaking
+pub mod Headline

@@ -7,6 +7,7 @@ ghost use Rattle.proberun.specs.Ran.{IsWindow, MayRun};
 ghost use Rattle.engine.specs.Judged.{IsRead, going, acceptance};
 ghost use Rattle.engine_frame.specs.Handing.{IfCompleted, ReadsBack, IfNamed, IsCacheOf, CacheReadsBack};
 ghost use Rattle.engine.specs.Configured.{IfStarts, IsNotRun, IfReport, IfPutRefused, IsAnswer, IsDone, IsWhole, IsRefusedPut, IsMeant, IsCut, HasRunPart, artifacts, record_after};
+ghost use Rattle.engine.specs.Headline.{RunsSo};
 ghost use Rattle.engine.specs.Kept.{IsKept};
 ghost use Rattle.engine.specs.Remaking.{Remakes};
 ghost use Rattle.engine_frame.specs.Needed.{script_in};
@@ -194,6 +195,11 @@ pub fn go<C: Crew, O: Outputs>(
     requires window { IsWindow window }
     requires may_run { MayRun (C.account crew.old) }
     requires puts { (O.receipt outputs.old).failures + 256 ≤ 2 ^ 62 }
+    // All of it by cases: a fault, no memory, or a run, with what is started and handed over.
+    ensures whole { IsWhole ((crew.new ≡ crew.old) × (outputs.new ≡ outputs.old)) window
+        (going needs.now (option_map (λ c. c.now) cache.entry) templates.now) templates.now
+        (C.account crew.old) (C.account crew.new) (O.receipt outputs.old) (O.receipt outputs.new)
+        result }
     // What is given is refused with its first fault, or the source is run. Unless it is run,
     // nothing is started or handed over.
     ensures accepted { IsAnswer (
@@ -401,6 +407,12 @@ pub fn configure<C: Crew, O: Outputs>(
         (λ script start.
         result ≡ Err OutOfMemory
         → HasRunPart window script start (C.account crew.old) (C.account crew.new)) }
+    // What is said above of a source that is run, at once.
+    ensures headline { IfStarts
+        (acceptance source.now args.now env.now (option_map (λ c. c.now) cache.entry) templates.now)
+        (λ script start.
+        RunsSo window script start templates.now (C.account crew.old) (C.account crew.new)
+        (O.receipt outputs.old) (O.receipt outputs.new) result) }
     ensures idle { IsIdle (C.account crew.new).events }
     ensures landed { in_flight (C.account crew.new).events ≡ in_flight (C.account crew.old).events }
 {

@@ -16,8 +16,9 @@
 //! The crate `engine_frame` has what comes before and after the run, [`remake`] and
 //! [`recheck_args`] among it. In `specs`, read `Judged` (what follows from the inputs),
 //! `Configured` (the whole), `Kept` (what the cache holds), `Remaking` (the record, given to
-//! [`remake`]) and `Agreeing` (two runs under the same replies); `Told` is small. In `src`, read
-//! `configuring`; `reading` and `outcome` are small, and `agreeing` and `remaking` have a law each.
+//! [`remake`]), `Headline` (what is said of a run, at once) and `Agreeing` (two runs under the same
+//! replies); `Told` is small. In `src`, read `configuring`; `reading` and `outcome` are small, and
+//! `agreeing` and `remaking` have a law each.
 #![tactic(auto)]
 
 mod agreeing;

@@ -1,4 +1,5 @@
 use Rattle.std.proofs.Common.{ap}
+use Rattle.engine.proofs.Headlines.{runs_so}
 use Rattle.engine.proofs.Wholes.{is_answer, is_untouched, is_meant, is_handed, is_reported, is_remade, is_cut, holds_set, judged_forms, reads_back, is_remakable, has_run_part}
 use Rattle.engine.proofs.configuring.configure.Goals as goal
 
@@ -35,3 +36,10 @@ returns-clause-remakes g c = is_remakable _ _ _ _ _ _ _ _ _ c.whole.ensures.whol
 
 pub returns-clause-begun : goal.returns-clause-begun
 returns-clause-begun g c = has_run_part _ _ _ _ _ _ _ _ _ c.whole.ensures.whole (λ s. ap g.C.Crew.account s.0)
+
+pub returns-clause-headline : goal.returns-clause-headline
+returns-clause-headline g c =
+    let whole = c.whole.ensures.whole in
+    runs_so _ _ _ _ _ _ _ _ (is_meant _ _ _ _ _ _ _ _ _ whole) (is_handed _ _ _ _ _ _ _ _ _ whole) (is_remade _ _ _ _ _ _ _ _ _ whole) (is_reported _ _ _ _ _ _ _ _ _ whole) (is_cut _ _ _ _ _ _ _ _ _ whole)
+    (holds_set _ _ _ _ _ _ _ _ _ (judged_forms _ _ _ _ _ (c.sources_have_forms.ensures.commands _) (c.sources_have_forms.ensures.names _)) whole) (reads_back _ _ _ _ _ _ _ _ _ whole) (is_remakable _ _ _ _ _ _ _ _ _ whole)
+    (has_run_part _ _ _ _ _ _ _ _ _ whole (λ s. ap g.C.Crew.account s.0))
