@@ -12,6 +12,7 @@ import shutil
 import subprocess
 import sys
 
+import count_sentences
 import lint_codes
 import macro_table
 import places
@@ -214,6 +215,19 @@ def headings(file):
     return {re.sub(r"[^\w\- ]", "", it.lower()).replace(" ", "-") for it in titles}
 
 
+# The documents that a user reads first, the most words of a sentence there, and words that mean something in the code alone.
+FIRST = [pathlib.Path(it) for it in ("README.md", "docs/tutorial.md", "docs/troubleshooting.md")]
+MOST_WORDS, INNER_WORDS = 30, re.compile(r"(?i)\b(?:pieces?|windows?|pour(?:s|ed)?|accounts?)\b")
+
+
+def sentences_that_are_hard():
+    """A document that a user reads first has a long sentence, or a word that means something in the code alone."""
+    for file in FIRST:
+        for sentence in count_sentences.sentences(file.read_text()):
+            if count_sentences.words(sentence) > MOST_WORDS or INNER_WORDS.search(sentence):
+                yield f"{file}: {sentence}"
+
+
 def macros_that_do_not_agree():
     """The crate lint_macros or the guide is not what is written from macros.txt."""
     yield from macro_table.differences()
@@ -335,6 +349,7 @@ CHECKS = [
     tested_bodies_that_are_not_told,
     edits_over_the_budget,
     broken_links,
+    sentences_that_are_hard,
     macros_that_do_not_agree,
     words_that_do_not_agree,
     codes_that_do_not_agree,
