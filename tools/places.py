@@ -21,7 +21,7 @@ BEGIN, END = "<!-- tools/places.py writes what follows -->", "<!-- up to here --
 WIDTH = 116
 CASES = ["crates/tests_cases/data", "crates/tests_cases/stdout"]
 PAGE = ["docs/language.md", "CHANGELOG.md"]
-MACRO = [*CASES, *PAGE, "docs/guide.md", "README.md", "crates/lint_macros/macros.txt"]
+MACRO = [*CASES, *PAGE, "docs/macros.md", "README.md", "crates/lint_macros/macros.txt"]
 # The crates in which `lint`, `why` and `port` say something of a macro.
 SAYING = ("lint_words", "lint_warnings", "lint_templates", "cmd_why", "cmd_port")
 # In rows of tests a newline is `^J`.

@@ -229,7 +229,7 @@ def sentences_that_are_hard():
 
 
 def macros_that_do_not_agree():
-    """The crate lint_macros or the guide is not what is written from macros.txt."""
+    """The crate lint_macros or docs/macros.md is not what is written from macros.txt."""
     yield from macro_table.differences()
 
 

@@ -13,7 +13,7 @@ if ! command -v cc > /dev/null || ! command -v make > /dev/null; then
     echo "guide: there is no cc or no make, so its commands were not run"
     exit 0
 fi
-[ $# -gt 0 ] || set -- README.md docs/tutorial.md docs/guide.md docs/troubleshooting.md
+[ $# -gt 0 ] || set -- README.md docs/tutorial.md docs/migrate.md docs/macros.md docs/troubleshooting.md
 work=$(mktemp -d) || exit 2
 trap 'rm -rf "$work"' EXIT
 mkdir "$work/bin" && ln -s "$acrun" "$work/bin/acrun" && ln -s "$root/share/acrun-compare" "$work/bin/acrun-compare" || exit 2
