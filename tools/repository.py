@@ -114,10 +114,9 @@ def places_that_are_not_there():
             yield f"{file}: {path} has no {word}"
 
 
-def files_of_changes_that_are_old():
-    """The lists at the end of docs/architecture.md are not what tools/places.py writes."""
-    if places.differences():
-        yield "docs/architecture.md lists other files of a change: run tools/places.py"
+def files_of_changes_that_are_not_there():
+    """tools/places.py lists a document or an example that does not exist."""
+    yield from places.missing()
 
 
 @functools.cache
@@ -343,7 +342,7 @@ CHECKS = [
     unnamed_crates,
     promises_without_clauses,
     places_that_are_not_there,
-    files_of_changes_that_are_old,
+    files_of_changes_that_are_not_there,
     heads_that_name_nothing,
     edits_that_do_not_apply,
     tested_bodies_that_are_not_told,
