@@ -215,7 +215,7 @@ def headings(file):
 
 
 # The documents that a user reads first, the most words of a sentence there, and words that mean something in the code alone.
-FIRST = [pathlib.Path(it) for it in ("README.md", "docs/tutorial.md", "docs/troubleshooting.md")]
+FIRST = [pathlib.Path(it) for it in ("README.md", "docs/tutorial.md", "docs/migrate.md", "docs/troubleshooting.md")]
 MOST_WORDS, INNER_WORDS = 30, re.compile(r"(?i)\b(?:pieces?|windows?|pour(?:s|ed)?|accounts?)\b")
 
 
