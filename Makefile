@@ -41,6 +41,7 @@ demo: all
 	@sh examples/tally/run.sh out/acrun
 	@sh examples/libraries/run.sh out/acrun
 	@sh examples/guide/run.sh out/acrun
+	@sh examples/lost_compiler/run.sh out/acrun
 	@sh examples/help/run.sh out/acrun
 	@sh examples/lint/run.sh out/acrun
 	@sh examples/port/run.sh out/acrun

@@ -77,7 +77,7 @@ class Corpus:
         self.sources, self.right, self.templates, self.arguments, self.statements = [], [], [], [], []
         digest = hashlib.sha256()
         paths = sorted(ROOT.glob("crates/tests_cases/data/*.cases")) + sorted(ROOT.glob("examples/*/configure.ac"))
-        paths += sorted(ROOT.glob("examples/*/**/*.in")) + [ROOT / "docs/guide.md", ROOT / "docs/language.md"]
+        paths += sorted(ROOT.glob("examples/*/**/*.in")) + [ROOT / "docs" / it for it in ("tutorial.md", "migrate.md", "macros.md", "language.md")]
         for path in paths:
             text = path.read_bytes()
             digest.update(text)

@@ -1,24 +1,24 @@
 #!/usr/bin/env python3
-"""Writes what is made of crates/lint_macros/macros.txt: the text of the crate, the list of exact idioms in `port_idioms`, and a part of
-docs/guide.md.
+"""Writes what is made of crates/lint_macros/macros.txt: the text of the crate, the list of exact idioms in `port_idioms`, and
+docs/macros.md.
   macro_table.py           writes all three
   macro_table.py --check   prints a line for each that is not what it would write, and ends with 1 if there is one
   macro_table.py --fill NAME [ARGUMENT]..   prints the entry of a name, with these arguments in its places
 
 The lines of macros.txt, by how they begin:
   `# `      a comment
-  `> `      a heading of the guide, under which the next entries are shown
+  `> `      a heading of docs/macros.md, under which the next entries are shown
   `: `      a sentence below the heading
   KIND      begins an entry: idiom, drop, none or family, and then the names that it is of
-  `| `      a line that the guide shows with an idiom: after the one before it, or before the first of its heading
-  `= `      the arguments of a call, for which the guide shows the idiom; none if there is no such line. Several are lines of a call
+  `| `      a line that docs/macros.md shows with an idiom: after the one before it, or before the first of its heading
+  `= `      the arguments of a call, for which docs/macros.md shows the idiom; none if there is no such line. Several are lines of a call
   `% `      a word of the idiom that no argument is put in the place of, a blank, and the text that is shown there
   `! `      two numbers and names: for a call of these macros with so many arguments, from the first number to the second, the idiom is
             exact. It leaves the same definitions and output variables, and `acrun port` writes it
   `& `      two numbers, names, a colon and words: for a call of these macros with so many arguments `acrun port --idioms` writes the
             idiom, or nothing for a `drop`, below a comment with these words, which say in what it differs from the macro
-  `@ `      what stands around the idiom in the guide, with an `@` in its place; alone: the idiom is not run
-  `+ `      a line before the call and before the idiom, where tools/try_macros.py compares both; the guide does not show it
+  `@ `      what stands around the idiom in docs/macros.md, with an `@` in its place; alone: the idiom is not run
+  `+ `      a line before the call and before the idiom, where tools/try_macros.py compares both; docs/macros.md does not show it
   `$ `      arguments of a run in which that script compares both, in place of one without arguments
   `? `      names of definitions and variables, a colon and a reason: what the idiom leaves otherwise than the macro does, by design.
             That script fails if it doesn't
@@ -40,10 +40,27 @@ ROOT = pathlib.Path(__file__).resolve().parent.parent
 DATA = ROOT / "crates/lint_macros/macros.txt"
 TEXT = ROOT / "crates/lint_macros/src/text.rt"
 EXACT = ROOT / "crates/port_idioms/src/table.rt"
-GUIDE = ROOT / "docs/guide.md"
+PAGE = ROOT / "docs/macros.md"
 PROFILE = ROOT / "crates/ac_macros/src/table.rt"
-BEGIN = "## Macros that are not read\n"
-END = "## Packages that were moved over\n"
+# What the page says before its table.
+INTRODUCTION = """\
+# Macros that acrun doesn't know
+
+What to write in `configure.ac` in place of a macro of Autoconf, Automake or another project that acrun doesn't know.
+What is used most comes first. `acrun lint` prints the same at each call, and `acrun port` writes what is exact.
+[migrate](migrate.md) moves a package over, and [language](language.md) has the macros that acrun supports.
+
+- **In place of a macro of Autoconf** it leaves the same definitions, output variables and shell variables, except
+  for what is named there as a difference. Headers and programs that a macro of Autoconf looks for on its way don't
+  count.
+- **In place of a macro of another project**, such as PKG_CHECK_MODULES, it does what the macro is for in small
+  trials.
+- **As it is**, it passes `autoconf -Wall` and `autoheader -Wall` without a warning, and leaves the same in Autoconf
+  as in acrun.
+
+`tools/try_macros.py` tried this with Autoconf 2.71 and GNU C on GNU/Linux, and `examples/guide/run.sh` runs each
+block. `tools/macro_table.py` writes this page from `crates/lint_macros/macros.txt`.
+"""
 KINDS = ("idiom", "drop", "none", "family")
 PLACE = re.compile(r"\$([1-9@])([!_^<>]?)\{([^}]*)\}")
 
@@ -77,16 +94,16 @@ class Entry:
         return written(self.text(), arguments, dict(self.words))
 
     def sample(self):
-        """Returns the idiom as the guide shows it."""
+        """Returns the idiom as docs/macros.md shows it."""
         return self.within(self.written(self.arguments))
 
     def call(self, name):
-        """Returns a call with the arguments that the guide shows the idiom for."""
+        """Returns a call with the arguments that docs/macros.md shows the idiom for."""
         macro = name.partition("(")[0]
         return f"{macro}({self.call_text})" if self.arguments else macro
 
     def block(self):
-        """Returns the lines of the guide's block."""
+        """Returns the lines of the page's block."""
         return [*self.raw_before, *self.sample().split("\n"), *self.raw_after]
 
     def is_run(self):
@@ -390,7 +407,7 @@ def what_differs(section):
 
 
 def rows():
-    """Yields the rows of the guide's table."""
+    """Yields the rows of the page's table."""
     for section in sections():
         for kind in ("idiom", "other"):
             for entry in section.entries:
@@ -413,24 +430,16 @@ def allowed(is_exact, heading, sentence):
         rows += [(names, listed, reason) for names, listed, reason in entry.allowed if (names[0] in exact_names) == is_exact]
     if not rows:
         return
-    yield from ("", f"### {heading}", "", sentence, "", "| In place of | Otherwise | Why |", "|---|---|---|")
+    yield from ("", f"## {heading}", "", sentence, "", "| In place of | Otherwise | Why |", "|---|---|---|")
     for names, listed, reason in rows:
         yield f"| {', '.join(names)} | {', '.join(f'`` {it} ``' if '`' in it else f'`{it}`' for it in listed)} | {reason} |"
 
 
-def part_of_guide():
-    """Returns the part of the guide: a table of all macros, and a section for each heading."""
-    lines = [
-        BEGIN.rstrip("\n"),
-        "",
-        "`tools/macro_table.py` writes this part of the guide from `crates/lint_macros/macros.txt`. What is used most comes first.",
-        "",
-        "| Macro | What to do |",
-        "|---|---|",
-        *rows(),
-    ]
+def page():
+    """Returns docs/macros.md: a table of all macros, and a section for each heading."""
+    lines = [INTRODUCTION, "| Macro | What to do |", "|---|---|", *rows()]
     for section in filter(is_shown, sections()):
-        lines += ["", f"### {section.heading}", *([""] + section.prose if section.prose else [])]
+        lines += ["", f"## {section.heading}", *([""] + section.prose if section.prose else [])]
         lines += [*table_of_idioms(section), *blocks(section), *what_differs(section)]
     lines += allowed(True, "What an exact replacement leaves otherwise", "`acrun port` writes these without `--idioms` too. A `*` is for any text.")
     lines += allowed(
@@ -442,16 +451,10 @@ def part_of_guide():
     return "\n".join(lines) + "\n"
 
 
-def guide():
-    """Returns the guide with that part before its last heading."""
-    before, _, rest = GUIDE.read_text().partition(BEGIN)
-    return before + part_of_guide() + "\n" + END + rest.partition(END)[2]
-
-
 def differences():
     """Yields a line for each thing that is wrong with the data, and for each file that is not what it would be."""
     yield from wrong()
-    for file, text in ((TEXT, text_of_crate()), (EXACT, text_of_exact()), (GUIDE, guide())):
+    for file, text in ((TEXT, text_of_crate()), (EXACT, text_of_exact()), (PAGE, page())):
         if file.read_text() != text:
             yield f"{file.relative_to(ROOT)} is not what tools/macro_table.py writes"
 
@@ -477,7 +480,7 @@ def main(words):
         print(line)
     TEXT.write_text(text_of_crate())
     EXACT.write_text(text_of_exact())
-    GUIDE.write_text(guide())
+    PAGE.write_text(page())
     return 0
 
 

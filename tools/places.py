@@ -1,11 +1,11 @@
 #!/usr/bin/env python3
-"""Finds the files that a change of the nearest kind touched, for docs/architecture.md.
+"""Prints the files that a change of the nearest kind touched.
 
-    tools/places.py            writes the lists at the end of docs/architecture.md
-    tools/places.py --check    prints what differs from them, and then exits with status 1
-    tools/places.py WORD..     prints the files that use one of these identifiers
+    tools/places.py                  prints the list of each kind of change
+    tools/places.py a message        prints that of the kinds whose names have these words
+    tools/places.py --uses NAME..    prints the files that use one of these identifiers
 
-Whoever adds a message changes the files that name the message that was added last. So the list for
+A file is printed without its suffix: those of `src` have `.rt`, and those of `specs` and `proofs` `.antt`. Whoever adds a message changes the files that name the message that was added last. So the list for
 a kind of change has each file that uses an identifier of the nearest one of that kind, outside
 imports and comments, or has its name in a text. Documents and examples are listed by hand, since
 many of them only use what there is. With those of a macro stands what `lint`, `why` and `port` say of
@@ -16,12 +16,9 @@ import pathlib
 import re
 import sys
 
-DOCUMENT = pathlib.Path("docs/architecture.md")
-BEGIN, END = "<!-- tools/places.py writes what follows -->", "<!-- up to here -->"
-WIDTH = 116
 CASES = ["crates/tests_cases/data", "crates/tests_cases/stdout"]
 PAGE = ["docs/language.md", "CHANGELOG.md"]
-MACRO = [*CASES, *PAGE, "docs/guide.md", "README.md", "crates/lint_macros/macros.txt"]
+MACRO = [*CASES, *PAGE, "docs/macros.md", "README.md", "crates/lint_macros/macros.txt"]
 # The crates in which `lint`, `why` and `port` say something of a macro.
 SAYING = ("lint_words", "lint_warnings", "lint_templates", "cmd_why", "cmd_port")
 # In rows of tests a newline is `^J`.
@@ -116,17 +113,7 @@ def grouped(files):
                 parts.setdefault(file.parts[2], []).append(name)
         inside = "; ".join(f"{part} {', '.join(parts[part])}" for part in ("src", "specs", "proofs")
                            if part in parts)
-        yield f"`{crate}` ({inside})"
-
-
-def filled(text):
-    """Returns a paragraph in lines of at most WIDTH columns."""
-    lines = [""]
-    for word in text.split():
-        if lines[-1] and len(lines[-1]) + 1 + len(word) > WIDTH:
-            lines.append("")
-        lines[-1] += (" " if lines[-1] else "") + word
-    return "\n".join(lines)
+        yield f"{crate} ({inside})"
 
 
 def counted(number, what):
@@ -134,48 +121,33 @@ def counted(number, what):
     return f"{number} {what}" if number == 1 else f"{number} {what}s"
 
 
-def lists():
-    """Returns the lists of all kinds of change."""
-    paragraphs = []
+def lists(chosen):
+    """Yields the list of each kind of change whose name has the chosen words."""
     for change, nearest, words, name, crates, others in KINDS:
+        if chosen.lower() not in change.lower():
+            continue
         files = uses(words, name, crates)
         is_macro = others[:len(MACRO)] == MACRO
         said = [file for file in files if is_macro and file.parts[1] in SAYING]
         files = [file for file in files if file not in said]
         count = f"{counted(len(files), 'file')} in {counted(len({file.parts[1] for file in files}), 'crate')}"
-        besides = ", ".join([*(f"`{it}`" for it in others), *grouped(said)])
-        paragraphs.append(filled(f"**{change}**, as {nearest}, {count}: "
-                                 + ", ".join(grouped(files)) + f". Besides: {besides}."))
-        for it in others:
-            assert pathlib.Path(it).exists(), it
-    return "\n\n".join(paragraphs)
+        yield f"{change}, as {nearest}: {count}"
+        yield from (f"    {it}" for it in [*grouped(files), *others, *grouped(said)])
+        yield ""
 
 
-def written():
-    """Returns the document with the lists as they are now."""
-    text = DOCUMENT.read_text()
-    before, _, rest = text.partition(BEGIN)
-    return before + BEGIN + "\n\n" + lists() + "\n\n" + END + rest.partition(END)[2]
-
-
-def differences():
-    """Returns the lines of the document that are not as they should be."""
-    now, then = written().splitlines(), DOCUMENT.read_text().splitlines()
-    return [f"{DOCUMENT} lacks: {line}" for line in now if line not in then] + [
-        f"{DOCUMENT} has: {line}" for line in then if line not in now
-    ]
+def missing():
+    """Yields a line for each document or example of a list that is not there."""
+    for change, _, _, _, _, others in KINDS:
+        yield from (f"tools/places.py: there is no {it}, of: {change}" for it in others if not pathlib.Path(it).exists())
 
 
 def main():
     arguments = sys.argv[1:]
-    if arguments == ["--check"]:
-        wrong = differences()
-        print("".join(f"{line}\n" for line in wrong), end="")
-        return int(bool(wrong))
-    if arguments:
-        print("".join(f"{file}\n" for file in uses("|".join(arguments))), end="")
+    if arguments[:1] == ["--uses"]:
+        print("".join(f"{file}\n" for file in uses("|".join(arguments[1:]))), end="")
         return 0
-    DOCUMENT.write_text(written())
+    print("".join(f"{line}\n" for line in lists(" ".join(arguments))), end="")
     return 0
 
 

@@ -12,6 +12,7 @@ import shutil
 import subprocess
 import sys
 
+import count_sentences
 import lint_codes
 import macro_table
 import places
@@ -113,10 +114,9 @@ def places_that_are_not_there():
             yield f"{file}: {path} has no {word}"
 
 
-def files_of_changes_that_are_old():
-    """The lists at the end of docs/architecture.md are not what tools/places.py writes."""
-    if places.differences():
-        yield "docs/architecture.md lists other files of a change: run tools/places.py"
+def files_of_changes_that_are_not_there():
+    """tools/places.py lists a document or an example that does not exist."""
+    yield from places.missing()
 
 
 @functools.cache
@@ -214,8 +214,21 @@ def headings(file):
     return {re.sub(r"[^\w\- ]", "", it.lower()).replace(" ", "-") for it in titles}
 
 
+# The documents that a user reads first, the most words of a sentence there, and words that mean something in the code alone.
+FIRST = [pathlib.Path(it) for it in ("README.md", "docs/tutorial.md", "docs/migrate.md", "docs/troubleshooting.md")]
+MOST_WORDS, INNER_WORDS = 30, re.compile(r"(?i)\b(?:pieces?|windows?|pour(?:s|ed)?|accounts?)\b")
+
+
+def sentences_that_are_hard():
+    """A document that a user reads first has a long sentence, or a word that means something in the code alone."""
+    for file in FIRST:
+        for sentence in count_sentences.sentences(file.read_text()):
+            if count_sentences.words(sentence) > MOST_WORDS or INNER_WORDS.search(sentence):
+                yield f"{file}: {sentence}"
+
+
 def macros_that_do_not_agree():
-    """The crate lint_macros or the guide is not what is written from macros.txt."""
+    """The crate lint_macros or docs/macros.md is not what is written from macros.txt."""
     yield from macro_table.differences()
 
 
@@ -329,12 +342,13 @@ CHECKS = [
     unnamed_crates,
     promises_without_clauses,
     places_that_are_not_there,
-    files_of_changes_that_are_old,
+    files_of_changes_that_are_not_there,
     heads_that_name_nothing,
     edits_that_do_not_apply,
     tested_bodies_that_are_not_told,
     edits_over_the_budget,
     broken_links,
+    sentences_that_are_hard,
     macros_that_do_not_agree,
     words_that_do_not_agree,
     codes_that_do_not_agree,

@@ -1,12 +1,12 @@
 #!/usr/bin/env python3
 """Compares each idiom of crates/lint_macros/macros.txt with its macro.
   try_macros.py PROGRAM [NAME]..     PROGRAM is a built acrun; only the idioms of these macros, if there are any
-If Autoconf 2.71 has the macro, it is given a source with the call that the guide shows, and acrun one with the idiom. Both runs have to
+If Autoconf 2.71 has the macro, it is given a source with the call that docs/macros.md shows, and acrun one with the idiom. Both runs have to
 leave the same definitions, output variables, variables that the idiom assigns, outputs, messages and exit status. A name of a `? ` line
 may differ, and has to. Programs may be named with their directory or without. Left out is what Autoconf defines for the headers that it
 includes by itself, and what a macro looks for on its way, unless the idiom has it.
 If Autoconf doesn't have the macro, the idiom is tried by what it is for, as TRIALS says.
-Each block of the guide is also given to acrun and to Autoconf, and both have to leave the same. `autoconf -Wall` and `autoheader -Wall`
+Each block of docs/macros.md is also given to acrun and to Autoconf, and both have to leave the same. `autoconf -Wall` and `autoheader -Wall`
 have to read it without a warning.
 Prints a line for each idiom that is otherwise, and last a count. It takes minutes. Without autoconf only acrun is tried.
 """
@@ -49,7 +49,7 @@ OUTPUTS = ("Makefile", "src/Makefile")
 @dataclasses.dataclass
 class Trial:
     """A run of acrun with the idiom for a call, and what it has to leave. None as a value: the name is not defined and not set. None as
-    arguments: the run has the block of the guide, as it is."""
+    arguments: the run has the block of docs/macros.md, as it is."""
 
     arguments: str | None
     wanted: dict
@@ -322,7 +322,7 @@ class Tries:
         return mine, theirs, [*different(mine, theirs, names)]
 
     def block(self, text):
-        """Returns what is wrong with a block of the guide."""
+        """Returns what is wrong with a block of docs/macros.md."""
         if not self.autoconf:
             mine = left_by_acrun(self.program, source_with(text), text, set())
             return mine.get("why", "")

@@ -13,7 +13,7 @@ import sys
 
 WIDTH = 116
 # From such a line on, a script writes the document, up to the line that ends it if there is one.
-WRITTEN = ("<!-- tools/", "## Macros that are not read")
+WRITTEN = ("<!-- tools/", "# Macros that acrun doesn't know")
 END = "<!-- up to here -->"
 KEPT = re.compile(r"#|\s*\||    |\t|<|!\[|$")
 MARK = re.compile(r"> |(?:  )?(?:- |\d+\. )|")

@@ -1,15 +1,19 @@
 #!/bin/sh
-# Runs what README.md and docs/guide.md show: each command of their sessions, whose output has to be the one that is printed there, and
-# a run of each block of statements and of each statement in a table. Ends with 1 if anything is otherwise, and with 0 if there is no C compiler. The sessions of
-# README.md have what gcc says, so they are passed over if there is no gcc. A line `[N more lines]` of an output is any N lines.
-#   run.sh PROGRAM
+# Runs what the documents show: each command of their sessions, whose output has to be the one that is printed there, and a run of each block
+# of statements and of each statement in a table. Ends with 1 if anything is otherwise, and with 0 if there is no C compiler or no make.
+#   run.sh PROGRAM [DOCUMENT]..
+# Without a DOCUMENT it runs those below. A session below a line `<!-- needs PROGRAM.. -->` is passed over if one of these programs isn't
+# there. In an output, a line `[N more lines]` is any N lines. A line that begins with `$ ` is a command, unless the output has that line there.
+# If WRITE is set in the environment, each DOCUMENT is written with the outputs that were found, except those with such a line.
 set -u
 acrun=$(realpath "$1") || exit 2
+shift
 root=$(realpath "$(dirname "$0")/../..") || exit 2
 if ! command -v cc > /dev/null || ! command -v make > /dev/null; then
     echo "guide: there is no cc or no make, so its commands were not run"
     exit 0
 fi
+[ $# -gt 0 ] || set -- README.md docs/tutorial.md docs/migrate.md docs/macros.md docs/troubleshooting.md
 work=$(mktemp -d) || exit 2
 trap 'rm -rf "$work"' EXIT
 mkdir "$work/bin" && ln -s "$acrun" "$work/bin/acrun" && ln -s "$root/share/acrun-compare" "$work/bin/acrun-compare" || exit 2
@@ -25,11 +29,15 @@ expand() {
         { print; at++ }' "$work/found" "$work/wanted"
 }
 
-# Runs the command that was read, and compares its output with the wanted one.
-run_command() {
-    [ -s "$work/command" ] || return
+# Runs the command that was read.
+begin_command() {
     . "$work/command" > "$work/found" 2>&1
     commands=$((commands + 1))
+}
+
+# Compares the output of the last command, if there is one, with the wanted one.
+end_command() {
+    [ -s "$work/command" ] || return
     if ! expand | cmp -s "$work/found" -; then
         wrong=1
         echo "$document: '$(head -n 1 "$work/command")' prints"
@@ -37,8 +45,24 @@ run_command() {
         echo "$document: and not"
         cat "$work/wanted"
     fi
+    if grep -q -E '^ *\[[0-9]+ more lines\]$' "$work/wanted"; then cat "$work/wanted"; else cat "$work/found"; fi >> "$work/made"
     : > "$work/command"
     : > "$work/wanted"
+}
+
+# Returns whether the output of the last command has the line after those that were read.
+is_output() {
+    [ -s "$work/command" ] && next=$(($(expand | wc -l) + 1)) && [ "$(sed -n "${next}p" "$work/found")" = "$line" ]
+}
+
+# Returns whether the programs are there that a session needs, of a line `<!-- needs PROGRAM.. -->`.
+has_needed() {
+    for each in $needed; do
+        if ! command -v "$each" > /dev/null; then
+            echo "$document: there is no $each, so a session was not run"
+            return 1
+        fi
+    done
 }
 
 # Runs a source that has the block.
@@ -59,10 +83,21 @@ run_document() {
     rm -rf "$work/session" && mkdir "$work/session" && cd "$work/session" || exit 2
     : > "$work/command"
     : > "$work/wanted"
-    where=text
+    : > "$work/made"
+    where=text needed=''
     while IFS= read -r line; do
         case $where:$line in
-        'text:```console') where=session ;;
+        session:*) ;;
+        *) printf '%s\n' "$line" >> "$work/made" ;;
+        esac
+        case $where:$line in
+        'text:<!-- needs '*) needed=${line#'<!-- needs '} needed=${needed%' -->'} ;;
+        'text:```console')
+            where=session
+            has_needed || where=passed
+            needed=''
+            ;;
+        'passed:```') where=text ;;
         'text:```m4') where=block && : > "$work/statements" ;;
         'text:| `'*'` | `'*'` |')
             statement=${line##*'` | `'}
@@ -70,7 +105,8 @@ run_document() {
             run_block
             ;;
         'session:```')
-            run_command
+            end_command
+            printf '%s\n' "$line" >> "$work/made"
             where=text
             ;;
         'block:```')
@@ -79,30 +115,36 @@ run_document() {
             ;;
         block:*) printf '%s\n' "$line" >> "$work/statements" ;;
         session:"$ "*"<<'END'")
-            run_command
+            end_command
+            printf '%s\n' "$line" >> "$work/made"
             printf '%s\n' "${line#??}" > "$work/command"
             where=input
             ;;
         input:END)
             printf '%s\n' "$line" >> "$work/command"
+            begin_command
             where=session
             ;;
         input:*) printf '%s\n' "$line" >> "$work/command" ;;
         session:"$ "*)
-            run_command
-            printf '%s\n' "${line#??}" > "$work/command"
+            if is_output; then
+                printf '%s\n' "$line" >> "$work/wanted"
+            else
+                end_command
+                printf '%s\n' "$line" >> "$work/made"
+                printf '%s\n' "${line#??}" > "$work/command"
+                begin_command
+            fi
             ;;
         session:*) printf '%s\n' "$line" >> "$work/wanted" ;;
         esac
     done < "$root/$document"
+    [ -z "${WRITE-}" ] || cat "$work/made" > "$root/$document"
 }
 
-if command -v gcc > /dev/null; then
-    run_document README.md
-else
-    echo "README.md: there is no gcc, so its commands were not run"
-fi
-run_document docs/guide.md
+for each_document; do
+    run_document "$each_document"
+done
 if [ "$wrong" -eq 0 ]; then
     echo "guide: $commands commands and $blocks blocks, each as it should be"
 fi

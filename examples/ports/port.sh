@@ -10,13 +10,13 @@
 #   autoconf     commands that make the package's own script, `autoconf` if there are none
 #   tests        commands that run the package's own tests
 #   tools        commands that the tests need
-# NAME/known has the differences that may be there, as `acrun-compare -x` reads them, and why. What docs/language.md and the guide name as a
+# NAME/known has the differences that may be there, as `acrun-compare -x` reads them, and why. What docs/language.md and docs/migrate.md name as a
 # difference from Autoconf, and `acrun-compare -k` leaves out, isn't there.
 # The edits are of configure.ac and templates alone, as the archive has them, and have the new lines alone: see apply.sh. `acrun port` has
 # to leave nothing after them. What is needed: the network, APT with an archive of Debian, make, a C compiler, Autoconf 2.71, and the
 # libraries of the package. If one is missing, or if the machine's archives have the package in another version alone, it says so and ends
 # with 77. It ends with 1 if something is otherwise than it should be.
-# If ROWS is set in the environment, it prints the package's rows of docs/guide.md too.
+# If ROWS is set in the environment, it prints the package's rows of docs/ports.md too.
 # If PORTED=DIRECTORY is set, it copies the sources there as they are moved over, with no script of Autoconf, and ends: it needs no Autoconf
 # then.
 # To make the edits anew, set UNEDITED=DIRECTORY in the environment, which copies the sources there, edit a copy of them, and set
