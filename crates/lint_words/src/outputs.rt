@@ -117,14 +117,14 @@ fn put_wrong_form(page: &mut Page, list: &[u8], name: &[u8]) -> bool {
 
 /// Writes what is wrong with the list of outputs that begins at this offset, which is an argument of
 /// the macro of this name. Returns whether that is known.
-pub(crate) fn put_bad_outputs(
+pub(crate) fn put_bad_outputs<'a>(
     alloc: Global,
     page: &mut Page,
-    text: &[u8],
+    text: &'a [u8],
     calls: &[CallAt],
     at: usize,
     list: &[u8],
-    name: &[u8],
+    name: &'a [u8],
 ) -> Result<bool, AllocError> {
     if !MACROS.iter().any(|other| *other == name) {
         return Ok(false);

@@ -1,5 +1,5 @@
 -- What one step of a pass makes.
-use Rattle.std.proofs.Common.{◌≡◌, ℕ, ◌≤◌, List, ◌++◌, length, Result, Ok, Err, is_ok, OnOk, if◌then◌else◌, slice_range, true, ◌∷◌, sym, subst, ap, ◌∙◌, map, get_or, ◌<◌, ◌+◌, [], append-nil, Option, Some, None, arith}
+use Rattle.std.proofs.Common.{◌≡◌, ℕ, zero, suc, ◌≤◌, List, ◌++◌, length, Result, Ok, Err, is_ok, OnOk, if◌then◌else◌, slice_range, true, ◌∷◌, sym, subst, ap, ◌∙◌, map, get_or, ◌<◌, ◌+◌, [], append-nil, Option, Some, None, arith}
 use Rattle.std.specs.Prelude.{Contains, IfSome, codes, slice_get}
 use Rattle.std.specs.List.{list_all}
 use Rattle.std.proofs.lemmas.List.{get_or-map, length-map}
@@ -113,3 +113,10 @@ has_call calls all i c is lt here =
     let within : i < length (map macro_call_of calls) = subst (λ n. i < n) (sym (length-map calls macro_call_of)) lt in
     let found : get_or (map macro_call_of calls) i (macro_call_of c) ≡ macro_call_of c = get_or-map macro_call_of calls i c (macro_call_of c) lt ∙ ap macro_call_of (sym here) in
     subst (λ l. Contains l (macro_call_of c)) is (subst (Contains (map macro_call_of calls)) found (Contains-get_or (map macro_call_of calls) i (macro_call_of c) within))
+
+-- What holds of all numbers before this one, and of it, holds of those before the next.
+pub before_next : (P : ℕ → Type 0) (at k : ℕ) → (k < at → P k) → P at → k < at + 1 → P k
+before_next P zero zero less here below = here
+before_next P zero (suc k) less here below = absurd (omega (arith, below))
+before_next P (suc at) zero less here below = less (omega arith)
+before_next P (suc at) (suc k) less here below = before_next (λ n. P (suc n)) at k (λ is. less (omega (arith, is))) here (omega (arith, below))
