@@ -37,8 +37,7 @@ def picture(one, four):
 
 
 def main():
-    table = re.search(TABLE, (ROOT / "docs/performance.md").read_text())
-    rows = re.findall(ROW, table[1]) if table else []
+    rows = re.findall(ROW, "".join(re.findall(TABLE, (ROOT / "docs/performance.md").read_text())))
     if not rows:
         sys.exit("docs/performance.md has no table of times with Autoconf's configure as 1")
     text = picture(*([float(row[i]) for row in rows] for i in (0, 1)))
