@@ -23,7 +23,7 @@ MACRO = [*CASES, *PAGE, "docs/macros.md", "README.md", "crates/lint_macros/macro
 SAYING = ("lint_words", "lint_warnings", "lint_templates", "cmd_why", "cmd_port")
 # In rows of tests a newline is `^J`.
 LINES = "J?(?:start refused|failed program was)"
-CODES = ["docs/running.md", "share/acrun.1"]
+CODES = ["docs/errors.md"]
 LINT = ["examples/lint/sources.txt", "examples/lint/expected.txt"]
 
 # The change, the nearest one, its identifiers, its name as texts of the code have it, the crates to

@@ -233,12 +233,13 @@ def macros_that_do_not_agree():
 
 
 def words_that_do_not_agree():
-    """The crate lint_table is not what is written from words.txt, a key is not used, or a call has other parts than its words."""
+    """The crate lint_table or the list of docs/errors.md is not what is written from words.txt, a key is not used, or a call has other
+    parts than its words."""
     yield from word_table.differences()
 
 
 def codes_that_do_not_agree():
-    """docs/running.md or share/acrun.1 lists other codes of findings than the sources have."""
+    """docs/errors.md lists other codes of findings than the sources have."""
     yield from lint_codes.differences()
 
 

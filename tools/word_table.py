@@ -1,7 +1,8 @@
 #!/usr/bin/env python3
-"""Writes the crate lint_table's keys from crates/lint_table/words.txt, which has what acrun says of errors and warnings.
+"""Writes the crate lint_table's keys from crates/lint_table/words.txt, which has what acrun says of errors and warnings, and a list of
+these texts into docs/errors.md.
 
-    tools/word_table.py            writes crates/lint_table/src/keys.rt and crates/lint_table/specs/Differences.antt
+    tools/word_table.py            writes crates/lint_table/src/keys.rt, crates/lint_table/specs/Differences.antt and the list
     tools/word_table.py --check    prints what is wrong with the words and with the calls that name them, and then exits with status 1
     tools/word_table.py --show     prints each key with its message and its help, as a reader sees them
 
@@ -41,6 +42,10 @@ WORDS, KEYS = CRATES / "lint_table/words.txt", CRATES / "lint_table/src/keys.rt"
 DIFFERENCES = CRATES / "lint_table/specs/Differences.antt"
 # The forms of calls: the file that has them for the program, and the document that explains them.
 FORMS, LANGUAGE = CRATES / "lint_words/src/forms.rt", ROOT / "docs/language.md"
+# The page that lists the texts, the marks around its list, and what a line of help begins with that is to be written as it is.
+ERRORS = ROOT / "docs/errors.md"
+BEGIN, END = "<!-- tools/word_table.py writes what follows -->", "<!-- up to here -->"
+CODE = re.compile(r" |A[CS]_\w+\(|AC_OUTPUT$|tr |tail ")
 # What isn't plain English, or names what a user doesn't have: "is no X" is "is not a X", and "is not read" is "is not supported".
 HARD = re.compile(r"(?<!there )\b(?:is|are) no \w+|\b(?:is|are) not read\b|\bby itself\b|\banew\b|\bfaults?\b|\bpieces?\b|\bwindows?\b|docs/\w+")
 # The most characters of the first line of a help, and of the others.
@@ -55,8 +60,9 @@ MACRO = r"\b(?:AC|AM|AS|AX|m4)_\w+"
 class Entry:
     """What is said under a key."""
 
-    def __init__(self, key, places):
-        self.key, self.places, self.message, self.lines, self.same, self.severity = key, places, "", [], None, None
+    def __init__(self, key, places, heading):
+        self.key, self.places, self.heading = key, places, heading
+        self.message, self.lines, self.same, self.severity = "", [], None, None
 
     def constant(self):
         return self.key.upper().replace("-", "_")
@@ -68,16 +74,19 @@ class Entry:
 @functools.cache
 def entries():
     """Returns the entries by their keys."""
-    found, entry = {}, None
+    found, entry, heading, before = {}, None, "", ""
     for number, line in enumerate(WORDS.read_text().splitlines(), 1):
         sign, _, text = line.partition(" ")
         if not line or line.startswith("#"):
+            heading = line[2:] if line and not before else heading
+            before = line
             continue
+        before = line
         if re.fullmatch(r"[a-z][a-z0-9-]*(?: [A-Z]+)*", line):
             key, *places = line.split()
             if key in found:
                 sys.exit(f"{WORDS}:{number}: {key} is there twice")
-            entry = found[key] = Entry(key, places)
+            entry = found[key] = Entry(key, places, heading)
         elif entry and sign in (":", "error:", "warning:", "difference:") and not entry.message:
             entry.message, entry.severity = text, sign[:-1] or None
         elif entry and sign == "=" and not entry.same:
@@ -132,6 +141,43 @@ def named(entry, text):
 def shown(entry):
     """Returns the message of an entry, or the first line of its help, with the names of its places."""
     return named(entry, entry.message or help_of(entry).split("\n")[0])
+
+
+def help_in_line(entry):
+    """Returns the help of an entry in one line, with what is to be written in code."""
+    lines = named(entry, help_of(entry)).split("\n")
+    lines = [line for line in lines if line.strip() not in ("", ":")]
+    return " ".join(f"`{line.strip()}`" if CODE.match(line) and "`" not in line else line.strip() for line in lines)
+
+
+def cell(text):
+    """Returns a text as a cell of a table."""
+    return text.replace("|", "\\|").replace("<", "&lt;") if "`" not in text else text.replace("|", "\\|")
+
+
+def text_of_list():
+    """Returns the list of the page: below each heading the messages that have no code of their own, and help that is given for several."""
+    lines, heading, listed = [""], None, set()
+    for entry in entries().values():
+        row = (named(entry, entry.message).strip(), help_in_line(entry))
+        if entry.severity or row in listed:
+            continue
+        listed.add(row)
+        if entry.heading != heading:
+            heading = entry.heading
+            title, _, rest = heading.partition(". ")
+            lines += ["", f"### {title}", "", *([rest, ""] if rest else []), "| What it says | What to do |", "|---|---|"]
+        lines.append(f"| {' | '.join(map(cell, row))} |")
+    return "\n".join([*lines, "", ""])
+
+
+def text_of_page():
+    """Returns the page with the list between its marks."""
+    front, begin, rest = ERRORS.read_text().partition(BEGIN)
+    end = rest.find(END)
+    if not begin or end < 0:
+        sys.exit(f"{ERRORS} has no place for the list")
+    return front + begin + text_of_list() + rest[end:]
 
 
 def literal(text):
@@ -260,7 +306,7 @@ def differences():
     yield from wrong_calls()
     yield from unknown_macros()
     yield from wrong_forms()
-    for file, text in ((KEYS, text_of_crate()), (DIFFERENCES, text_of_definition())):
+    for file, text in ((KEYS, text_of_crate()), (DIFFERENCES, text_of_definition()), (ERRORS, text_of_page())):
         if not file.exists() or file.read_text() != text:
             yield f"{file.relative_to(ROOT)} is not what tools/word_table.py writes"
 
@@ -280,6 +326,7 @@ def main(words):
     if not wrong:
         KEYS.write_text(text_of_crate())
         DIFFERENCES.write_text(text_of_definition())
+        ERRORS.write_text(text_of_page())
     return int(bool(wrong))
 
 
