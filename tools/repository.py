@@ -16,6 +16,7 @@ import count_sentences
 import lint_codes
 import macro_table
 import places
+import promise_table
 import word_table
 
 CRATES = pathlib.Path("crates")
@@ -187,6 +188,11 @@ def tested_bodies_that_are_not_told():
             yield f"docs/promises.md does not list, of {crate}: {name} (`{test}`)"
 
 
+def promises_by_crate_that_do_not_agree():
+    """docs/promises-by-crate.md is not what is written from the sources, or a public function has no sentence."""
+    yield from promise_table.differences()
+
+
 def edits_over_the_budget():
     """There are more must-fail edits, or more crates that have some, than the gate has time for."""
     edits = [*CRATES.glob("*/must-fail/*.edit")]
@@ -347,6 +353,7 @@ CHECKS = [
     heads_that_name_nothing,
     edits_that_do_not_apply,
     tested_bodies_that_are_not_told,
+    promises_by_crate_that_do_not_agree,
     edits_over_the_budget,
     broken_links,
     sentences_that_are_hard,
