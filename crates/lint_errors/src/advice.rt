@@ -208,17 +208,17 @@ fn in_brackets(alloc: Global, text: &[u8], call: &CallAt) -> Result<Bytes, Alloc
     page.help()
 }
 
-/// Macros whose definition is another macro in Autoconf 2.71, each with that one.
-const NEWER: [(&[u8], &[u8]); 2] = [
-    (b"AC_AIX", b"AC_USE_SYSTEM_EXTENSIONS"),
-    (b"AC_MINIX", b"AC_USE_SYSTEM_EXTENSIONS"),
-];
+/// Returns whether a macro is defined as AC_USE_SYSTEM_EXTENSIONS in Autoconf 2.71.
+fn is_of_extensions(name: &[u8]) -> bool {
+    name == b"AC_AIX".as_slice() || name == b"AC_MINIX".as_slice()
+}
 
 /// Returns the name of the macro that a macro is defined as, or its own.
 fn newer_name(name: &[u8]) -> &[u8] {
-    match NEWER.iter().find(|row| row.0 == name) {
-        Some(row) => row.1,
-        None => name,
+    if is_of_extensions(name) {
+        b"AC_USE_SYSTEM_EXTENSIONS"
+    } else {
+        name
     }
 }
 

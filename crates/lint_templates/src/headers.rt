@@ -245,7 +245,8 @@ pub fn warn_of_header(
     };
     warn_of_lines(alloc, known, file, text, &mut found, out)?;
     warn_of_all(alloc, file, text, &found.defaults, true, out)?;
-    warn_of_all(alloc, file, text, &found.others, false, out)
+    warn_of_all(alloc, file, text, &found.others, false, out)?;
+    Ok(())
 }
 
 /// Adds the names that the template of a header undefines or defines.

@@ -1,6 +1,6 @@
 //! Warnings about outputs that a run reads.
 
-ghost use Rattle.std.specs.Prelude.{OnOk};
+ghost use Rattle.std.specs.Prelude.{◌≡◌, OnOk};
 ghost use Rattle.lint_findings.specs.Within.{KeepsWithin};
 
 use ac_tree::Source;
