@@ -101,6 +101,23 @@ fn warn_of_output(
 /// The most outputs that are warned of.
 const MOST: usize = 20;
 
+/// Warns of an output that has the name of an input, if there are fewer findings than this number.
+fn warn_below(
+    alloc: Global,
+    text: &[u8],
+    inputs: &Inputs,
+    output: &Output,
+    most: usize,
+    out: &mut Vec<Finding>,
+) -> Result<(), AllocError>
+    ensures within { OnOk result (KeepsWithin 0 text.now out.old.items out.new.items) }
+{
+    if most <= out.len() {
+        return Ok(());
+    }
+    warn_of_output(alloc, text, inputs, output, out)
+}
+
 /// Warns of the first outputs that have the name of an input.
 fn warn_of_each(
     alloc: Global,
@@ -113,17 +130,14 @@ fn warn_of_each(
 {
     let most = out.len().saturating_add(MOST);
     for output in outputs {
-        if out.len() < most {
-            warn_of_output(alloc, text, inputs, output, out)?;
-        }
+        warn_below(alloc, text, inputs, output, most, out)?;
     }
     Ok(())
 }
 
 /// Adds a warning for each output of a source that has the name of one of its templates, or that of
 /// the source, up to a number. A run in the directory of the source doesn't write such an output
-/// (own). The text is
-/// that of the source.
+/// (own). The text is that of the source.
 ///
 /// # Errors
 ///
@@ -139,5 +153,6 @@ pub fn warn_of_outputs(
 {
     let inputs = inputs_of(alloc, source)?;
     warn_of_each(alloc, text, &inputs, source.files().as_slice(), out)?;
-    warn_of_each(alloc, text, &inputs, source.headers().as_slice(), out)
+    warn_of_each(alloc, text, &inputs, source.headers().as_slice(), out)?;
+    Ok(())
 }
