@@ -26,15 +26,16 @@ fn has_shortage(entry: &Entry) -> bool {
     }
 }
 
-/// Appends what a child of the log is for: its check, and outside a check its command.
+/// Appends what a child is for, of which the log has these entries before it: its check, and outside
+/// a check its command.
 fn put_place(
     alloc: Global,
     out: &mut Vec<u8>,
-    log: &[Entry],
-    place: usize,
+    before: &[Entry],
+    child: &Entry,
 ) -> Result<(), AllocError> {
     out.extend_from_slice(b", ")?;
-    match (open_check(&log[..place]), words_in(&log[place])) {
+    match (open_check(before), words_in(child)) {
         (Some(check), _) => put_cut(alloc, out, check),
         (None, Some(words)) => put_command(alloc, out, words),
         (None, None) => Ok(()),
@@ -82,8 +83,9 @@ fn child_words(
     let mut conftest = None;
     if let Some(place) = place_of(log, number) {
         if place < log.len() {
-            put_place(alloc, &mut words, log, place)?;
-            conftest = conftest_in(&log[place]);
+            let child = &log[place];
+            put_place(alloc, &mut words, &log[..place], child)?;
+            conftest = conftest_in(child);
         }
     }
     words.extend_from_slice(b": ")?;
