@@ -6,14 +6,14 @@ use Rattle.lint_table.specs.Differences.{is_difference}
 use Rattle.std.specs.List.Sorted.{IsSorted}
 use Rattle.lint_findings.specs.Order.{place_cmp}
 use Rattle.cmd_lint.specs.Differing.{ArePrinted, IsAdded, IsPage}
-use Rattle.cmd_lint.specs.Differing.ArePrinted as printed
+use Rattle.cmd_lint.specs.Differing as specs
 
 -- One more finding
 pub one_printed : (found : List Finding) (i : ℕ) (finding : Finding) (old new : List ℕ) → i < length found → finding ≡ get_or found i finding
     → ArePrinted (take i found) old → IsAdded (is_difference finding.code) old new → ArePrinted (take (i + 1) found) new
 one_printed found i finding old new within at before added =
     let same : take i found ++ finding ∷ [] ≡ take (i + 1) found = ap (λ f. take i found ++ f ∷ []) at ∙ sym (take_more found i finding within) in
-    subst (λ list. ArePrinted list new) same (printed.next finding new before added)
+    subst (λ list. ArePrinted list new) same (specs.ArePrinted.next finding new before added)
 
 -- All of them
 pub all_printed : (found : List Finding) (i : ℕ) (page : List ℕ) → length found ≤ i → ArePrinted (take i found) page → ArePrinted found page
