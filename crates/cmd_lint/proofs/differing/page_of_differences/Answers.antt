@@ -1,6 +1,11 @@
-use Rattle.std.proofs.Common.{arith}
+use Rattle.std.proofs.Common.{arith, subst, sym, []}
+use Rattle.cmd_lint.specs.Differing.{ArePrinted}
+use Rattle.cmd_lint.specs.Differing as specs
 use Rattle.cmd_lint.proofs.Printed.{all_printed, one_printed}
 use Rattle.cmd_lint.proofs.differing.page_of_differences.Goals as goal
+
+pub findings-init : goal.findings-init
+findings-init c = subst (ArePrinted []) (sym c.new-page.ensures.items) specs.ArePrinted.none
 
 pub findings-preserved : goal.findings-preserved
 findings-preserved c =
