@@ -53,6 +53,16 @@ def unlisted_crates():
         yield f"crates.txt and crates/ do not agree on {name}"
 
 
+def stray_files():
+    """A file or folder at the top is none of those that CONTRIBUTING.md explains, such as one that a program left."""
+    known = {"CHANGELOG.md", "CONTRIBUTING.md", "HANDLES", "LICENSE", "Makefile", "README.md", "crates.txt", "bench", "crates", "docs",
+             "examples", "share", "tools"}
+    listed = subprocess.run(["git", "ls-files"], capture_output=True, text=True).stdout.splitlines()
+    for name in sorted({file.partition("/")[0] for file in listed} - known):
+        if not name.startswith("."):
+            yield f"{name} is tracked, and no part of the repository"
+
+
 def below(crate, uses):
     """Returns the crates of the repository that a crate stands on, directly or not."""
     return {it for use in uses[crate] if use in uses for it in {use, *below(use, uses)}}
@@ -345,6 +355,7 @@ def picture_is_old():
 CHECKS = [
     unused_libraries,
     unlisted_crates,
+    stray_files,
     modules_named_as_crates,
     unnamed_crates,
     promises_without_clauses,
