@@ -13,6 +13,7 @@ import subprocess
 import sys
 
 import count_sentences
+import fuzz_exact
 import lint_codes
 import macro_table
 import places
@@ -243,6 +244,11 @@ def sentences_that_are_hard():
                 yield f"{file}: {sentence}"
 
 
+def differences_that_are_not_stated():
+    """A sentence of a document, by which tools/fuzz_exact.py allows a difference, isn't there."""
+    yield from fuzz_exact.unsaid()
+
+
 def macros_that_do_not_agree():
     """The crate lint_macros or docs/macros.md is not what is written from macros.txt."""
     yield from macro_table.differences()
@@ -368,6 +374,7 @@ CHECKS = [
     edits_over_the_budget,
     broken_links,
     sentences_that_are_hard,
+    differences_that_are_not_stated,
     macros_that_do_not_agree,
     words_that_do_not_agree,
     codes_that_do_not_agree,
