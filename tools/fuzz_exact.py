@@ -260,8 +260,8 @@ def stated(text, all_idioms=False):
 # What docs/commands.md states of all idioms that are not exact.
 OF_IDIOMS = (
     "commands",
-    "Its messages and the order of definitions may be others, and of the cache variables that the macro sets it sets those that it names. "
-    "CPP, GREP and EGREP, which a macro looks for on its way, may be no output variables after it",
+    "Its messages and the order of definitions may differ. It sets only those cache variables of the macro that it names. "
+    "- CPP, GREP and EGREP, which a macro looks for on its way, may not be output variables after it.",
 )
 ON_THE_WAY = re.compile(r"(output|values|src/values) (CPP|E?GREP)$")
 
