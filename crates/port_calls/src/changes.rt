@@ -8,7 +8,8 @@ ghost use Rattle.port_idioms.specs.Rows.{Differs};
 ghost use Rattle.port_calls.specs.Put as specs;
 
 use crate::around::{
-    before_idle, begins_statement, ends_statement, indent_of, line_indent, space_len,
+    before_idle, begins_statement, ends_in_word, ends_statement, indent_of, line_indent, space_len,
+    without_end_blanks,
 };
 use crate::bare::bare_in;
 use crate::gnu::compiler_in;
@@ -48,6 +49,8 @@ pub(crate) struct Known {
     /// Whether the source looks for a compiler itself. If not, a macro that is left out may have
     /// done so.
     has_compiler: bool,
+    /// The offset after the first call of AC_PROG_CC that is in no argument of another one.
+    after_compiler: Option<usize>,
 }
 
 /// Marks an offset.
@@ -73,6 +76,19 @@ fn mark_calls(borders: &mut Vec<bool>, text: &[u8], calls: &[CallAt]) {
     }
 }
 
+/// Returns the offset after the first call of AC_PROG_CC that is in no argument of another one.
+fn after_compiler(text: &[u8], calls: &[CallAt]) -> Option<usize> {
+    let mut reach: usize = 0;
+    for call in calls {
+        let is_at_top = reach <= call.start;
+        if is_at_top && part(text, call.start, call.name_end) == b"AC_PROG_CC".as_slice() {
+            return Some(call.end);
+        }
+        reach = reach.max(call.end);
+    }
+    None
+}
+
 /// Returns what is known of a text with these calls.
 pub(crate) fn known_of(alloc: Global, text: &[u8], calls: &[CallAt]) -> Result<Known, AllocError> {
     let index = Index::new(alloc)?;
@@ -83,6 +99,7 @@ pub(crate) fn known_of(alloc: Global, text: &[u8], calls: &[CallAt]) -> Result<K
         == b"AC_PROG_CC".as_slice());
     let defined = defined_in(alloc, text)?;
     let at_compiler = compiler_in(text, calls);
+    let after_compiler = after_compiler(text, calls);
     Ok(Known {
         index,
         borders,
@@ -90,6 +107,7 @@ pub(crate) fn known_of(alloc: Global, text: &[u8], calls: &[CallAt]) -> Result<K
         defined,
         at_compiler,
         has_compiler,
+        after_compiler,
     })
 }
 
@@ -392,11 +410,19 @@ fn is_drawn(name: &[u8]) -> bool {
     name.ends_with(b"_ONCE") || DRAWN.iter().any(|other| *other == name)
 }
 
+/// Returns whether the compiler is known that the idiom of a call reads: it reads none, or
+/// AC_PROG_CC is before the call.
+fn knows_compiler(known: &Known, text: &[u8], call: &CallAt) -> bool {
+    part(text, call.start, call.name_end) != b"AC_PROG_CPP".as_slice()
+        || known.after_compiler.is_some_and(|end| end <= call.start)
+}
+
 /// Returns whether the idiom of a call does the same at its place.
-fn is_same_here(text: &[u8], spot: Spot, call: &CallAt) -> bool {
+fn is_same_here(known: &Known, text: &[u8], spot: Spot, call: &CallAt) -> bool {
     begins_statement(text, spot, call.start)
         && ends_statement(from(text, call.end))
         && (spot.is_at_top || !is_drawn(part(text, call.start, call.name_end)))
+        && knows_compiler(known, text, call)
 }
 
 /// Returns the change of a call to nothing, unless the source doesn't look for a compiler, or a `:`
@@ -514,22 +540,25 @@ fn kept_by(
     }
 }
 
-/// Returns whether a call begins its line, or an argument.
+/// Returns whether a call begins its line, an argument, or what follows `then` or `else`.
 fn begins_list(text: &[u8], spot: Spot, call: &CallAt) -> bool {
-    spot.is_first || before(text, call.start).ends_with(b"[")
+    let front = part(text, spot.line, call.start);
+    spot.is_first
+        || before(text, call.start).ends_with(b"[")
+        || ends_in_word(without_end_blanks(front))
 }
 
 /// Returns whether a comment that says what a call says can be at its place.
-fn can_be_kept(known: &Known, text: &[u8], spot: Spot, call: &CallAt, said: &[u8]) -> bool {
+fn can_be_kept(known: &Known, text: &[u8], spot: Spot, call: &CallAt) -> bool {
     let is_apart = can_be_left_out(known, text, spot)
         || begins_list(text, spot, call)
             && can_be_noted(known, call)
             && !joins_next_line(text, call);
-    !said.is_empty() && known.has_compiler && is_apart
+    known.has_compiler && is_apart
 }
 
-/// Returns the change of a call to what it says to readers, as a comment, or to nothing if a comment
-/// can't be at its place.
+/// Returns the change of a call to what it says to readers, as a comment, or to nothing if it says
+/// nothing. If a comment can't be at its place, the call stays.
 fn kept_or_left_out(
     alloc: Global,
     known: &Known,
@@ -543,8 +572,11 @@ fn kept_or_left_out(
     ensures { IfOk result (λ o.
         IfSome o (λ change. specs.IsPut text.now (macro_call_of call.now) change.put.items)) }
 {
-    if !can_be_kept(known, text, spot, call, said) {
+    if said.is_empty() {
         return left_out(alloc, known, text, spot, call);
+    }
+    if !can_be_kept(known, text, spot, call) {
+        return Ok(None);
     }
     let change = kept_by(alloc, known, text, spot, call, said)?;
     Ok(Some(change))
@@ -869,7 +901,7 @@ pub(crate) fn change_of(
         IfSome o (λ change.
         specs.MayPut idioms text.now (macro_call_of call.now) change.put.items)) }
 {
-    if !is_same_here(text, spot, call) {
+    if !is_same_here(known, text, spot, call) {
         return Ok(None);
     }
     match exact_change(alloc, known, text, spot, call)? {
