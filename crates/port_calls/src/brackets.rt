@@ -1,4 +1,5 @@
-//! Writes arguments that have a compound statement of a shell in brackets.
+//! Writes arguments in brackets: those that have a compound statement of a shell, and actions with
+//! calls.
 
 ghost use Rattle.std.specs.Prelude.{◌≡◌, ◌≤◌, ◌<◌, true, Some, map, length, slice_get, slice_index, slice_range, ℕ, Contains, IfOk, OnOk, IsTrue};
 ghost use Rattle.ac_calls.specs.Calls.{calls_in, macro_call_of};
@@ -7,7 +8,7 @@ ghost use Rattle.port_calls.specs.Rewritten as specs;
 use crate::around::{are_blank, has_compound, without_end_blanks};
 use crate::writing::{Pass, write_change};
 use ac_calls::{CallAt, Extent};
-use lint_text::part;
+use lint_text::{is_word_byte, part};
 use port_idioms::Idioms;
 use std::alloc::{AllocError, Global};
 
@@ -173,8 +174,186 @@ fn pass_argument(
     }
 }
 
+// ---- actions
+
+fn is_two_or_three(index: usize) -> bool
+    ensures { result ≡ (index == 2 || index == 3) }
+{
+    index == 2 || index == 3
+}
+
+fn is_one_to_three(index: usize) -> bool
+    ensures { result ≡ (index == 1 || index == 2 || index == 3) }
+{
+    index == 1 || index == 2 || index == 3
+}
+
+fn is_one_or_two(index: usize) -> bool
+    ensures { result ≡ (index == 1 || index == 2) }
+{
+    index == 1 || index == 2
+}
+
+/// Returns whether a macro of this name does what its argument at an index says.
+fn does_argument(name: &[u8], index: usize) -> bool
+    ensures { result ≡ specs.does_argument name.now index }
+{
+    ((name == b"AC_TRY_COMPILE".as_slice()
+        || name == b"AC_TRY_LINK".as_slice()
+        || name == b"PKG_CHECK_MODULES".as_slice())
+        && is_two_or_three(index))
+        || (name == b"AC_TRY_RUN".as_slice() && is_one_to_three(index))
+        || ((name == b"AC_TRY_LINK_FUNC".as_slice() || name == b"AC_TRY_CPP".as_slice())
+            && is_one_or_two(index))
+}
+
+/// Returns whether the call is one of a macro that does what its argument at an index says.
+fn does_it(text: &[u8], call: &CallAt, index: usize) -> bool
+    ensures { IsTrue result → specs.DoesArgument text.now (macro_call_of call.now) index }
+{
+    let has_name = call.start <= call.name_end && call.name_end <= text.len();
+    has_name && does_argument(&text[call.start..call.name_end], index)
+}
+
+/// Writes an action up to an offset in brackets, unless it has some outside its calls, or is not
+/// after what was read.
+fn put_enclosed(
+    alloc: Global,
+    idioms: Idioms,
+    text: &[u8],
+    calls: &[CallAt],
+    first: usize,
+    call: &CallAt,
+    index: usize,
+    arg: Extent,
+    end: usize,
+    pass: &mut Pass,
+) -> Result<(), AllocError>
+    requires calls { map macro_call_of calls.now ≡ calls_in text.now }
+    requires call { Contains (calls_in text.now) (macro_call_of call.now) }
+    requires does { specs.DoesArgument text.now (macro_call_of call.now) index }
+    requires arg { slice_get (macro_call_of call.now).args index ≡ Some arg }
+    requires begun { specs.IsPass idioms text.now pass.old.at pass.old.out.items }
+    ensures { OnOk result (specs.IsPass idioms text.now pass.new.at pass.new.out.items) }
+{
+    let _ = idioms;
+    let _ = call;
+    let _ = index;
+    if arg.start < pass.at || !is_bare(text, calls, first, arg, end) {
+        return Ok(());
+    }
+    let put = in_brackets(alloc, text, arg.start, end)?;
+    write_change(text, arg.start, end, put.as_slice(), pass)
+}
+
+/// Macros that Autoconf makes the same of if brackets are around their call: none of them requires
+/// another one.
+const SIMPLE: [&[u8]; 6] = [
+    b"AC_DEFINE",
+    b"AC_DEFINE_UNQUOTED",
+    b"AC_MSG_RESULT",
+    b"AC_MSG_WARN",
+    b"AC_MSG_NOTICE",
+    b"AC_MSG_ERROR",
+];
+
+/// Returns whether a macro of this name is one of these.
+fn is_simple(name: &[u8]) -> bool {
+    SIMPLE.iter().any(|other| *other == name)
+}
+
+/// Returns whether at least one call begins in an argument, and all that do are simple.
+fn has_simple_calls(text: &[u8], calls: &[CallAt], first: usize, arg: Extent) -> bool {
+    let mut has_one = false;
+    for i in first..calls.len() {
+        let call = &calls[i];
+        if arg.end <= call.start {
+            return has_one;
+        }
+        if arg.start <= call.start {
+            if !is_simple(part(text, call.start, call.name_end)) {
+                return false;
+            }
+            has_one = true;
+        }
+    }
+    has_one
+}
+
+/// Returns whether a comment may be in a text, of a shell or of m4.
+fn may_have_comment(text: &[u8]) -> bool {
+    text.contains(&b'#')
+        || text
+            .split(|byte| !is_word_byte(*byte))
+            .any(|word| word == b"dnl".as_slice())
+}
+
+/// Returns the offset after the last byte of an action that is no blank, if it is no longer than
+/// `LONGEST`, its calls are simple, and no comment is in it.
+fn action_end(text: &[u8], calls: &[CallAt], first: usize, arg: Extent) -> Option<usize> {
+    let written = without_end_blanks(part(text, arg.start, arg.end));
+    let is_short = written.len() <= LONGEST;
+    if is_short && has_simple_calls(text, calls, first, arg) && !may_have_comment(written) {
+        Some(arg.start.saturating_add(written.len()))
+    } else {
+        None
+    }
+}
+
+/// Writes an action of a call at an index in brackets, if it has none and its calls are simple.
+fn pass_action(
+    alloc: Global,
+    idioms: Idioms,
+    text: &[u8],
+    calls: &[CallAt],
+    first: usize,
+    call: &CallAt,
+    index: usize,
+    pass: &mut Pass,
+) -> Result<(), AllocError>
+    requires calls { map macro_call_of calls.now ≡ calls_in text.now }
+    requires call { Contains (calls_in text.now) (macro_call_of call.now) }
+    requires begun { specs.IsPass idioms text.now pass.old.at pass.old.out.items }
+    ensures { OnOk result (specs.IsPass idioms text.now pass.new.at pass.new.out.items) }
+{
+    let Some(arg) = argument_at(call, index) else {
+        return Ok(());
+    };
+    if !does_it(text, call, index) {
+        return Ok(());
+    }
+    match action_end(text, calls, first, arg) {
+        Some(end) => put_enclosed(
+            alloc, idioms, text, calls, first, call, index, arg, end, pass,
+        ),
+        None => Ok(()),
+    }
+}
+
+/// Writes the actions of a call in brackets that have none.
+fn pass_actions(
+    alloc: Global,
+    idioms: Idioms,
+    text: &[u8],
+    calls: &[CallAt],
+    first: usize,
+    call: &CallAt,
+    pass: &mut Pass,
+) -> Result<(), AllocError>
+    requires calls { map macro_call_of calls.now ≡ calls_in text.now }
+    requires call { Contains (calls_in text.now) (macro_call_of call.now) }
+    requires begun { specs.IsPass idioms text.now pass.old.at pass.old.out.items }
+    ensures { OnOk result (specs.IsPass idioms text.now pass.new.at pass.new.out.items) }
+{
+    for index in 1..call.args.len() {
+        pass_action(alloc, idioms, text, calls, first, call, index, pass)?;
+    }
+    Ok(())
+}
+
 /// Writes each argument of a call in brackets that has none, if acrun reads the macro and a compound
-/// statement of a shell is in the argument. The first one is no list of statements.
+/// statement of a shell is in the argument. The first one is no list of statements. Of a macro that
+/// acrun doesn't read it writes actions with calls so.
 pub(crate) fn pass_arguments(
     alloc: Global,
     idioms: Idioms,
@@ -190,7 +369,7 @@ pub(crate) fn pass_arguments(
     ensures { OnOk result (specs.IsPass idioms text.now pass.new.at pass.new.out.items) }
 {
     if !call.is_of_profile {
-        return Ok(());
+        return pass_actions(alloc, idioms, text, calls, first, call, pass);
     }
     for index in 1..call.args.len() {
         pass_argument(alloc, idioms, text, calls, first, call, index, pass)?;
