@@ -19,7 +19,7 @@ the cut run did not save: so they are the earlier children of the cut test, of a
 alone, those of tests that left no value to be saved, and all that the cut run did not reach. To which test a child belongs is
 read in config.log.
 
-The generator keeps the premises on which a run that was cut ends as an uncut one (docs/running.md):
+The generator keeps the premises on which a run that was cut ends as an uncut one (docs/how-it-runs.md):
 
 - A program is tried only in the commands of AC_CACHE_CHECK.
 - No cache name is assigned, except in the commands of its own AC_CACHE_CHECK.

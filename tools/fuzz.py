@@ -1,5 +1,5 @@
 #!/usr/bin/env python3
-"""Runs the program on mutated inputs, and reports each run that does not end as docs/running.md says.
+"""Runs the program on mutated inputs, and reports each run that does not end as docs/commands.md says.
 
     tools/fuzz.py PROGRAM [--from N] [--count N] [--seconds N] [--jobs N] [--memory MB] [--slowest SECONDS] [--other PROGRAM]
     tools/fuzz.py PROGRAM --replay N        runs input N again, and shows what it is and what comes of it

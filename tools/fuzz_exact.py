@@ -14,11 +14,11 @@ wrote may be an error for `acrun lint` that the source does not have.
 tools/seeded_compiler.c answers the programs, by what they ask. From number 1000000 on a source may also begin with AC_INIT without a version, and
 have variables whose names are spelled as those of macros, conditions on several lines, actions without brackets that are calls, and the macros
 of LATER_NAMES; with --idioms also `==`, `-eq`, `-ne`, `exit` and `echo` without words.
-A difference is allowed if a line `~ ` of macros.txt states it for a macro of the source, or one of the sentences below of docs/language.md.
+A difference is allowed if a line `~ ` of macros.txt states it for a macro of the source, or one of the sentences below of docs/differences.md.
 
 With --idioms a source has also calls of the macros that have a line `& `, if Autoconf itself has them, and port is given that switch. If
 there is such a call, what is printed and the order of definitions are not compared, and of the cache variables only those that are named in what port writes: a
-sentence of docs/running.md says so. A line `? ` of a macro with a line `& ` states differences too.
+sentence of docs/commands.md says so. A line `? ` of a macro with a line `& ` states differences too.
 Prints the differences of each source that has some, and last a count. The exit status is 1 if one differs. It needs Autoconf 2.71, m4 and a
 C compiler.
 """
@@ -258,9 +258,9 @@ def stated(text, all_idioms=False):
     return found
 
 
-# What docs/running.md states of all idioms that are not exact.
+# What docs/commands.md states of all idioms that are not exact.
 OF_IDIOMS = (
-    "running",
+    "commands",
     "Its messages and the order of definitions may be others, and of the cache variables that the macro sets it sets those that it names. "
     "CPP, GREP and EGREP, which a macro looks for on its way, may be no output variables after it",
 )
@@ -334,7 +334,7 @@ def template_names(body):
 # The cache variables of what Autoconf looks for by itself.
 OF_DEFAULT_INCLUDES = re.compile(r"ac_cv_header_(stdio|stdlib|string|inttypes|stdint|strings|sys_stat|sys_types|unistd)_h$")
 
-# What docs/language.md states of acrun, and the names that it is said of. Each sentence has to be there.
+# What docs/differences.md states of acrun, and the names that it is said of. Each sentence has to be there.
 OF_LANGUAGE = (
     ("HAVE_STDINT_H, HAVE_UNISTD_H and their kin are defined only if AC_CHECK_HEADERS names the header",
      r"config\.h (HAVE_(STDIO|STDLIB|STRING|INTTYPES|STDINT|STRINGS|SYS_STAT|SYS_TYPES|UNISTD)_H|STDC_HEADERS)"),
@@ -344,54 +344,67 @@ OF_LANGUAGE = (
     ("Nor are CPP, GREP and EGREP, which Autoconf's checks look for on their way, nor DEFS without a header", r"values (CPP|E?GREP|DEFS)"),
 )
 
-# What docs/language.md states of AC_INIT with an empty name and version, and what acrun then leaves.
+# What docs/differences.md states of AC_INIT with an empty name and version, and what acrun then leaves.
 OF_INIT = (
-    "language",
+    "differences",
     "`AC_INIT([], [])` leaves a blank in PACKAGE_STRING, and `docdir` ends in `${PACKAGE_TARNAME}`. In Autoconf PACKAGE_STRING is empty, and "
     "`docdir` ends in `${PACKAGE}`",
 )
 INIT_LEAVES = {"values PACKAGE_STRING": " ", "config.h PACKAGE_STRING": '" "', "values docdir": "${datarootdir}/doc/${PACKAGE_TARNAME}"}
 
-# What docs/running.md states of `-a` and `-o`, so that no source has such a test of an unquoted variable of no or several words.
+# What docs/commands.md states of `-a` and `-o`, so that no source has such a test of an unquoted variable of no or several words.
 OF_JOINTS = (
-    "running",
+    "commands",
     "If an unquoted variable is empty or has a blank, the whole `test` is an error for a shell, and after `port` only its part of it.",
 )
 
-# What docs/running.md states of an unquoted variable in a test, so that no source with idioms that differ has one.
-OF_WORDS = ("running", "a shell makes no word of it if it is empty, and several if it has blanks")
+# What docs/language.md states of an unquoted variable, so that no source with idioms that differ has one in a test.
+OF_WORDS = ("language", "A variable is never split into fields")
 
-# What docs/language.md states of a test whose unquoted variable is empty, which may be an error for a shell, as its lines say.
-OF_TESTS = ("language", "If an unquoted variable is empty, it is an empty word of a test. A shell drops it.")
+# What docs/differences.md states of a test whose unquoted variable is empty, which may be an error for a shell, as its lines say.
+OF_TESTS = ("differences", "If an unquoted variable is empty, it is an empty word of a test. A shell drops it.")
 TEST_ERROR = re.compile(r"\b(test|\[): .*(unexpected operator|argument expected|unknown operand|too many arguments)")
 
-# What docs/running.md states of `unset`, so that no source with it has `${v2-none}`, and of statements whose messages may be others.
-OF_UNSET = ("running", "An `unset` of one variable becomes an assignment of nothing, which `${name-word}` can tell apart")
+# What docs/commands.md states of `unset`, so that no source with it has `${v2-none}`, and of statements whose messages may be others.
+OF_UNSET = ("commands", "An `unset` of one variable becomes an assignment of nothing, which `${name-word}` can tell apart")
 OF_STATEMENTS = re.compile(r"(?m)^ *(exit \d|unset \w+|echo.*)$| (==|-eq|-ne) ")
 
-# What docs/running.md states of a source without AC_PROG_CC, so that acrun is given none.
-OF_COMPILER = ("running", "linked and CC has no word, the run prints `configure: error: no acceptable C compiler found in $PATH`")
+# What docs/how-it-runs.md states of a source without AC_PROG_CC, so that acrun is given none.
+OF_COMPILER = ("how-it-runs", "linked and CC has no word, the run prints `configure: error: no acceptable C compiler found in $PATH`")
 
-# What docs/language.md states of `dnl`. So it follows calls alone, and acrun is given no source in which it follows one whose text doesn't
+# What docs/differences.md states of `dnl`. So it follows calls alone, and acrun is given no source in which it follows one whose text doesn't
 # end in a newline.
-OF_DNL = ("language", "A line that `dnl` drops counts as a newline. Autoconf joins what is before it with the next line")
+OF_DNL = ("differences", "A line that `dnl` drops counts as a newline. Autoconf joins what is before it with the next line")
 
-# What docs/language.md states of variables that the check of a compiler sets in Autoconf.
-OF_GIVEN = ("language", "If an argument or the environment gives OBJEXT or EXEEXT a value, AC_SUBST writes that value")
+# What docs/differences.md states of variables that the check of a compiler sets in Autoconf.
+OF_GIVEN = ("differences", "If an argument or the environment gives OBJEXT or EXEEXT a value, AC_SUBST writes that value")
 
 
 @functools.lru_cache
+def is_said(document, sentence):
+    """Returns whether a document states something."""
+    return sentence in " ".join((HERE.parent / f"docs/{document}.md").read_text().split())
+
+
 def said(document, sentence):
     """Ends the script if a document doesn't state what is left out here."""
-    if sentence not in " ".join((HERE.parent / f"docs/{document}.md").read_text().split()):
+    if not is_said(document, sentence):
         sys.exit(f"docs/{document}.md does not say: {sentence}")
+
+
+def unsaid():
+    """Yields a line for each sentence that is looked for here, and that its document doesn't have."""
+    stated_once = (OF_IDIOMS, OF_INIT, OF_JOINTS, OF_WORDS, OF_TESTS, OF_COMPILER, OF_DNL, OF_GIVEN)
+    for document, sentence in (*stated_once, *(("differences", sentence) for sentence, _ in OF_LANGUAGE)):
+        if not is_said(document, sentence):
+            yield f"docs/{document}.md does not say what tools/fuzz_exact.py looks for: {sentence}"
 
 
 @functools.lru_cache
 def of_language():
-    """Returns the pattern of the names that docs/language.md states to differ."""
+    """Returns the pattern of the names that docs/differences.md states to differ."""
     for sentence, _ in OF_LANGUAGE:
-        said("language", sentence)
+        said("differences", sentence)
     return re.compile("|".join(f"(?:{pattern})$" for _, pattern in OF_LANGUAGE))
 
 
@@ -402,7 +415,7 @@ def is_missing(value):
 
 
 def is_of_language(name, after):
-    """Returns whether docs/language.md states that acrun leaves a name so."""
+    """Returns whether docs/differences.md states that acrun leaves a name so."""
     said(*OF_INIT)
     return INIT_LEAVES.get(name) == after if name in INIT_LEAVES else of_language().match(name) and is_missing(after)
 
@@ -590,7 +603,7 @@ LAST = (
     "AC_OUTPUT(values \\\n src/values)",
     "AC_CONFIG_FILES([values])\nAC_OUTPUT()",
 )
-# Variables that acrun does not set, or not where Autoconf's checks look for them on their way, as docs/language.md states.
+# Variables that acrun does not set, or not where Autoconf's checks look for them on their way, as docs/differences.md states.
 UNSET = ("OBJEXT", "EXEEXT", "SHELL", "CPP", "GREP", "EGREP")
 READ = ("prefix", "exec_prefix", "bindir", "LIBS", "CFLAGS", "CPPFLAGS", "CC", "enable_foo", "with_bar", "PACKAGE_NAME")
 GIVEN = {

@@ -1,5 +1,5 @@
 #!/usr/bin/env python3
-"""Runs `acrun why` on mutated logs, records and caches, and reports each run that does not end as docs/running.md says.
+"""Runs `acrun why` on mutated logs, records and caches, and reports each run that does not end as docs/commands.md says.
 
     tools/fuzz_why.py PROGRAM [--from N] [--count N] [--seconds N]
     tools/fuzz_why.py PROGRAM --replay N        shows log N, the word, and what comes of it

@@ -13,6 +13,7 @@ import subprocess
 import sys
 
 import count_sentences
+import fuzz_exact
 import lint_codes
 import macro_table
 import places
@@ -22,6 +23,10 @@ import word_table
 CRATES = pathlib.Path("crates")
 # The budget of must-fail edits, which `rt ci` tries one by one.
 MOST_EDITS, MOST_CRATES = 90, 15
+# The most lines of docs/promises.md.
+MOST_PROMISES = 160
+# What comments name in the form of code, and is none: variables of a source, and files of a run.
+NOT_OF_CODE = {"conftestN", "enable_NAME", "with_NAME", "enable_shared", "with_x"}
 
 
 def rows():
@@ -76,25 +81,72 @@ def modules_named_as_crates():
             yield f"crates/{crate} has a module {name}, which is the name of a crate below"
 
 
+@functools.cache
+def contracts(crate):
+    """Returns the functions of a crate that have clauses."""
+    return [it for file in (CRATES / crate / "src").rglob("*.rt") for it in promise_table.functions(file) if it.clauses]
+
+
+def faults_of_citation(cited):
+    """Yields what is wrong with the indented lines after a promise: `crate`: `function`: `clause`, `clause`; ... Definitions: `Name`. A
+    function is of the crate, and has these clauses. A definition is of one of the crates, or of one below."""
+    uses = rows()
+    promised, _, definitions = cited.partition("Definitions: ")
+    crate, named = "", set()
+    for item in re.split(r"[.;]\s", promised):
+        names = re.findall(r"`([^`]*)`", item)
+        if names and names[0] in uses:
+            crate = names.pop(0)
+            named.add(crate)
+            item = item.partition(": ")[2]
+        if not crate and names:
+            yield f"no crate is named before {names[0]}"
+            return
+        if not names:
+            continue
+        before, _, labels = item.rpartition(": ")
+        path = re.findall(r"`([^`]*)`", before)
+        chosen = re.findall(r"`([^`]*)`", labels)
+        known = contracts(crate)
+        if item.strip().startswith("law") or not path:
+            for name in chosen:
+                if not any(name in (it.name, it.owner, it.trait) for it in known):
+                    yield f"{crate} has no {name}"
+            continue
+        found = [it for it in known if it.name == path[-1] and (len(path) == 1 or path[0] in (it.owner, it.trait))]
+        for name in sorted({*chosen} - {label for it in found for label, _ in it.clauses}):
+            yield f"{crate}: {'::'.join(path)} has no clause {name}"
+    known = set().union(*(defined_names(it) for crate in named for it in {crate, *below(crate, uses)}))
+    for name in sorted({*re.findall(r"`([^`]*)`", definitions)} - known):
+        yield f"{', '.join(sorted(named))} and the crates below have no definition {name}"
+
+
 def promises_without_clauses():
-    """docs/promises.md has a line over 120 columns, or cites a name that is in none of the crates that it may be of: the one of
-    the heading, those below it, and those that the same lines name."""
+    """docs/promises.md has a line over 120 columns, more lines than are read in ten minutes, or cites a clause or a definition that
+    isn't there."""
     text = pathlib.Path("docs/promises.md").read_text()
     for number, line in enumerate(text.splitlines(), 1):
-        if len(line) > 120:
+        if len(line) > 120 and not line.startswith("|"):
             yield f"docs/promises.md:{number} has {len(line)} columns"
+    if text.count("\n") > MOST_PROMISES:
+        yield f"docs/promises.md has {text.count(chr(10))} lines; {MOST_PROMISES} are the most"
+    for block in re.findall(r"(?m)(?:^> .*\n)+", text):
+        yield from (f"docs/promises.md: {wrong}" for wrong in faults_of_citation(" ".join(block.replace("\n> ", " ")[2:].split())))
+
+
+@functools.cache
+def words_of_code(crate):
+    """Returns the words of a crate outside comments."""
+    return {*re.findall(r"\w+", re.sub(r"(?m)//.*$|--(?: .*)?$", "", sources(crate)))}
+
+
+def sentences_that_name_nothing():
+    """A comment that docs/promises-by-crate.md shows has a name of code that neither the crate nor one below has."""
     uses = rows()
-    words = {crate: {*re.findall(r"\w+", sources(crate))} for crate in uses}
-    for section in re.split(r"(?m)^#+ ", text):
-        crate = section.partition("\n")[0]
-        for cited in re.findall(r"(?m)(?:^> .*\n)+", section):
-            names = {*re.findall(r"\w+", " ".join(re.findall(r"`([^`]*)`", cited)))}
-            if crate not in uses:
-                yield f"docs/promises.md: there is no crate {crate}"
-                break
-            places = {crate, *below(crate, uses), *(names & {*uses})}
-            for name in sorted(names - {*uses}.union(*(words[it] for it in places))):
-                yield f"docs/promises.md: {crate} and the crates below it have no {name}"
+    for crate in promise_table.crates():
+        known = NOT_OF_CODE.union(uses, *(words_of_code(it) for it in {crate, *below(crate, uses)}))
+        for name in sorted({*re.findall(r"`(\w*(?:_|[a-z][A-Z])\w*)`", "\n".join(promise_table.section(crate)))} - known):
+            yield f"crates/{crate}: a comment names {name}, and there is none"
 
 
 def unnamed_crates():
@@ -134,7 +186,7 @@ def files_of_changes_that_are_not_there():
 def defined_names(crate):
     """Returns the names of the modules, functions, definitions and files of a crate."""
     names = {*re.findall(r"(?m)^\s*(?:pub(?:\(crate\))? )?(?:mod|fn|record) (\w+)", sources(crate))}
-    names.update(re.findall(r"(?m)^ *(?:abbrev |unfoldable |pub ){0,3}(\w+) :", sources(crate)))
+    names.update(one or other for one, other in re.findall(r"(?m)^ *(?:(?:abbrev |unfoldable |pub ){0,3}(\w+) :|pub data (\w+))", sources(crate)))
     return names.union(file.stem for part in ("specs", "proofs") for file in (CRATES / crate / part).rglob("*.antt"))
 
 
@@ -182,20 +234,14 @@ def edits_that_do_not_apply():
             yield f"{edit}: {wrong}"
 
 
-def tested_bodies_that_are_not_told():
-    """A wrong body that tests alone refuse names no test, or docs/promises.md does not list it with that test: the name of the edit,
-    with blanks, in an item that has the test."""
-    text = pathlib.Path("docs/promises.md").read_text().partition("\n## Wrong bodies that would pass\n")[2].partition("\n## ")[0]
-    items = [" ".join(it.split()) for it in re.split(r"(?m)^- ", text)]
+def tested_bodies_without_a_test():
+    """A wrong body that tests alone refuse names no test, or not what that says. docs/promises-by-crate.md lists each of them."""
     for edit in sorted(CRATES.glob("*/tested-bodies/*.edit")):
         said = dict(line.split(": ", 1) for line in edit.read_text().splitlines() if line.startswith(("test: ", "fails: ")))
-        test, crate = said.get("test", ""), edit.parts[1]
+        test = said.get("test", "")
         files = [CRATES / "tests_cases" / it if test.startswith("tests_cases ") else pathlib.Path(it) for it in test.split()[1:]]
         if not said.get("fails") or not test or test.split()[0] not in rows() or not all(it.is_file() for it in files):
             yield f"{edit}: it names no test, or not what that says"
-        name = edit.stem.replace("-", " ")
-        if not any(f"`{crate}`" in it and name in it and f"`{test}`" in it for it in items):
-            yield f"docs/promises.md does not list, of {crate}: {name} (`{test}`)"
 
 
 def promises_by_crate_that_do_not_agree():
@@ -241,6 +287,11 @@ def sentences_that_are_hard():
         for sentence in count_sentences.sentences(file.read_text()):
             if count_sentences.words(sentence) > MOST_WORDS or INNER_WORDS.search(sentence):
                 yield f"{file}: {sentence}"
+
+
+def differences_that_are_not_stated():
+    """A sentence of a document, by which tools/fuzz_exact.py allows a difference, isn't there."""
+    yield from fuzz_exact.unsaid()
 
 
 def macros_that_do_not_agree():
@@ -359,15 +410,17 @@ CHECKS = [
     modules_named_as_crates,
     unnamed_crates,
     promises_without_clauses,
+    sentences_that_name_nothing,
     places_that_are_not_there,
     files_of_changes_that_are_not_there,
     heads_that_name_nothing,
     edits_that_do_not_apply,
-    tested_bodies_that_are_not_told,
+    tested_bodies_without_a_test,
     promises_by_crate_that_do_not_agree,
     edits_over_the_budget,
     broken_links,
     sentences_that_are_hard,
+    differences_that_are_not_stated,
     macros_that_do_not_agree,
     words_that_do_not_agree,
     codes_that_do_not_agree,
