@@ -346,7 +346,11 @@ fn has_hard(text: &[u8]) -> bool
 
 /// Returns a condition that is spelled otherwise, if it is then a test.
 #[tactic(auto, using(crate::proofs::Spelling::respelled))]
-fn respelled_if_read(alloc: Global, text: &[u8], put: Vec<u8>) -> Result<Option<Vec<u8>>, AllocError>
+fn respelled_if_read(
+    alloc: Global,
+    text: &[u8],
+    put: Vec<u8>,
+) -> Result<Option<Vec<u8>>, AllocError>
     requires plain { list_any specs.is_hard text.now ≡ false }
     requires spelled { specs.IsSpelled text.now (length text.now) put.items }
     ensures { IfOk result (λ o. IfSome o (λ v. specs.IsRespelled text.now v.items)) }

@@ -16,12 +16,7 @@ const FRONT: &[u8] = b"dnl acrun: in place of ";
 
 /// Returns a comment with these words and a text, each after the indent.
 #[tactic(auto, unfolding(crate::specs::Told::noted_so))]
-fn noted_so(
-    alloc: Global,
-    indent: &[u8],
-    said: &[u8],
-    put: &[u8],
-) -> Result<Vec<u8>, AllocError>
+fn noted_so(alloc: Global, indent: &[u8], said: &[u8], put: &[u8]) -> Result<Vec<u8>, AllocError>
     ensures { IfOk result (λ v. v.items ≡ specs.noted_so indent.now said.now put.now) }
 {
     let mut out = Vec::from_slice(alloc, indent)?;
@@ -88,7 +83,17 @@ fn pass_call(
     }
     match accepted_call(alloc, name, args)? {
         Some(call) => put_call(
-            alloc, text, start, at, end, command, name, args, said, call.as_slice(), pass,
+            alloc,
+            text,
+            start,
+            at,
+            end,
+            command,
+            name,
+            args,
+            said,
+            call.as_slice(),
+            pass,
         ),
         None => Ok(()),
     }
@@ -213,7 +218,12 @@ fn cleared_below(alloc: Global, indent: &[u8], name: &[u8]) -> Result<Vec<u8>, A
         ≡ specs.noted_so indent.now (codes "unset: the variable is empty") (name.now ++ 61 ∷ [])) }
 {
     let put = cleared(alloc, name)?;
-    noted_so(alloc, indent, b"unset: the variable is empty", put.as_slice())
+    noted_so(
+        alloc,
+        indent,
+        b"unset: the variable is empty",
+        put.as_slice(),
+    )
 }
 
 /// Writes an assignment in place of a line that unsets a variable, unless the line was in what was

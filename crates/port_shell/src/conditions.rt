@@ -65,8 +65,23 @@ fn is_test_after(
 fn is_if_test(text: &[u8], start: usize, from: usize, to: usize, at_then: usize) -> bool
     ensures { IsTrue result → specs.IsTestAt text.now start from to }
 {
-    is_test_after(text, start, b"if", start.saturating_add(2), from, to, at_then)
-        || is_test_after(text, start, b"elif", start.saturating_add(4), from, to, at_then)
+    is_test_after(
+        text,
+        start,
+        b"if",
+        start.saturating_add(2),
+        from,
+        to,
+        at_then,
+    ) || is_test_after(
+        text,
+        start,
+        b"elif",
+        start.saturating_add(4),
+        from,
+        to,
+        at_then,
+    )
 }
 
 /// Returns the first argument of a call.

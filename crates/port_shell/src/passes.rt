@@ -14,11 +14,7 @@ const PASSES: usize = 70;
 
 /// Returns the text with its conditions written otherwise, or if none is, with its statements
 /// rewritten, or `None` if nothing can be.
-fn passed_once(
-    alloc: Global,
-    idioms: Idioms,
-    text: &[u8],
-) -> Result<Option<Vec<u8>>, AllocError>
+fn passed_once(alloc: Global, idioms: Idioms, text: &[u8]) -> Result<Option<Vec<u8>>, AllocError>
     ensures { IfOk result (λ o.
         IfSome o (λ v. specs.IsPass idioms text.now (length text.now) v.items)) }
 {
