@@ -7,7 +7,7 @@ use Rattle.std.proofs.lemmas.List.Elements.{Contains-get_or}
 use Rattle.ac_calls.specs.declared.call.CallAt.{CallAt}
 use Rattle.ac_calls.specs.declared.call.Extent.{Extent}
 use Rattle.ac_calls.specs.Calls.{MacroCall, calls_in, macro_call_of}
-use Rattle.port_calls.specs.Rewritten.{IsPass, IsRewritten, HasToGo, IsAround, DeclaresOption, IsOldHelp, JoinsWords, EndsItsLine, AreSpaces, IsBare, in_brackets, DoesArgument, NamesVariable, SetsGnu, AreMessages, messages_first}
+use Rattle.port_calls.specs.Rewritten.{IsPass, IsRewritten, HasToGo, IsAround, DeclaresOption, IsOldHelp, JoinsWords, EndsItsLine, AreSpaces, IsBare, IsBareAlone, in_brackets, DoesArgument, NamesVariable, SetsGnu, AreMessages, messages_first}
 use Rattle.port_calls.specs.Rewritten as specs
 use Rattle.port_calls.specs.Put.{MayPut, is_space, difference, below}
 use Rattle.lint_macros.specs.Entries.{entry_of}
@@ -71,7 +71,7 @@ bracket_step idioms text at out c i arg end put new_at new before is read has fr
     (subst (IsPass idioms text end) (sym (new_is ∙ ap (λ p. (out ++ slice_range text at arg.start) ++ p) put_is)) (specs.IsPass.bracketed c i arg end copied is read has bare))
 
 pub enclose_step : (idioms : Idioms) (text : List ℕ) (at : ℕ) (out : List ℕ) (c : MacroCall) (i : ℕ) (arg : Extent) (end : ℕ) (put : List ℕ) (new_at : ℕ) (new : List ℕ)
-    → IsPass idioms text at out → Contains (calls_in text) c → DoesArgument text c i → slice_get c.args i ≡ Some arg → at ≤ arg.start → IsBare text arg end × (arg.start ≤ end) × (end ≤ length text)
+    → IsPass idioms text at out → Contains (calls_in text) c → DoesArgument text c i → slice_get c.args i ≡ Some arg → at ≤ arg.start → IsBareAlone text arg end × (arg.start ≤ end) × (end ≤ length text)
     → put ≡ in_brackets (slice_range text arg.start end) → (new_at ≡ end) × (new ≡ (out ++ slice_range text at arg.start) ++ put) → IsPass idioms text new_at new
 enclose_step idioms text at out c i arg end put new_at new before is does has from (bare, after, to) put_is (at_is, new_is) =
     let copied = specs.IsPass.copied arg.start before from (omega (arith, after, to)) in

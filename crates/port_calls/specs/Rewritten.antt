@@ -119,6 +119,14 @@ does_argument name index =
 abbrev pub DoesArgument : List ℕ → MacroCall → ℕ → Type 0
 DoesArgument text c index = does_argument (slice_range text c.start c.name_end) index ≡ true
 
+-- The same of an argument of a macro that acrun doesn't read: the calls are those of the argument's text up to this offset, read alone.
+pub record IsBareAlone (text : List ℕ) (arg : Extent) (end : ℕ) : Type 0 where
+  pub place : (arg.start ≤ end) × (end ≤ arg.end) × (arg.end ≤ length text)
+  pub whole : Extent
+  pub all : whole.start ≡ 0
+  pub alone : IsBare (slice_range text arg.start end) whole (length (slice_range text arg.start end))
+  pub blank : list_all is_blank (slice_range text end arg.end) ≡ true
+
 -- A text in brackets.
 abbrev pub in_brackets : List ℕ → List ℕ
 in_brackets text = 91 ∷ (text ++ 93 ∷ [])
@@ -205,7 +213,7 @@ pub data IsPass (idioms : Idioms) (text : List ℕ) : ℕ → List ℕ → Type 
   bracketed : {out : List ℕ} (c : MacroCall) (i : ℕ) (arg : Extent) (end : ℕ) → IsPass idioms text arg.start out → Contains (calls_in text) c → c.is_of_profile ≡ true → slice_get c.args i ≡ Some arg
       → IsBare text arg end → IsPass idioms text end (out ++ in_brackets (slice_range text arg.start end))
   enclosed : {out : List ℕ} (c : MacroCall) (i : ℕ) (arg : Extent) (end : ℕ) → IsPass idioms text arg.start out → Contains (calls_in text) c → DoesArgument text c i → slice_get c.args i ≡ Some arg
-      → IsBare text arg end → IsPass idioms text end (out ++ in_brackets (slice_range text arg.start end))
+      → IsBareAlone text arg end → IsPass idioms text end (out ++ in_brackets (slice_range text arg.start end))
   named : {out : List ℕ} (c : MacroCall) → IsPass idioms text c.start out → Contains (calls_in text) c → NamesVariable text c → c.end ≤ length text
       → IsPass idioms text c.end (out ++ in_brackets (slice_range text c.start c.end))
   checked : {out : List ℕ} (c : MacroCall) (put : List ℕ) → IsPass idioms text c.end out → Contains (calls_in text) c → idioms ≡ All → slice_range text c.start c.name_end ≡ codes "AC_PROG_CC" → SetsGnu put → c.end ≤ length text

@@ -2,12 +2,13 @@
 //! calls.
 
 ghost use Rattle.std.specs.Prelude.{◌≡◌, ◌≤◌, ◌<◌, true, Some, map, length, slice_get, slice_index, slice_range, ℕ, Contains, IfOk, OnOk, IsTrue};
+ghost use Rattle.std.specs.List.{list_all};
 ghost use Rattle.ac_calls.specs.Calls.{calls_in, macro_call_of};
 ghost use Rattle.port_calls.specs.Rewritten as specs;
 
 use crate::around::{are_blank, has_compound, without_end_blanks};
 use crate::writing::{Pass, write_change};
-use ac_calls::{CallAt, Extent};
+use ac_calls::{CallAt, Extent, calls_of};
 use lint_text::{is_word_byte, part};
 use port_idioms::Idioms;
 use std::alloc::{AllocError, Global};
@@ -215,21 +216,49 @@ fn does_it(text: &[u8], call: &CallAt, index: usize) -> bool
     has_name && does_argument(&text[call.start..call.name_end], index)
 }
 
-/// Writes an action up to an offset in brackets, unless it has some outside its calls, or is not
-/// after what was read.
+/// Returns the extent of a whole text.
+fn whole_of(text: &[u8]) -> Extent
+    ensures { (result.start ≡ 0) × (result.end ≡ length text.now) }
+{
+    Extent {
+        start: 0,
+        end: text.len(),
+    }
+}
+
+/// Returns whether each bracket of a text is in one of its calls.
+fn is_bare_alone(text: &[u8], calls: &[CallAt], whole: Extent) -> bool
+    requires calls { map macro_call_of calls.now ≡ calls_in text.now }
+    ensures { IsTrue result → specs.IsBare text.now whole (length text.now) }
+{
+    is_bare(text, calls, 0, whole, text.len())
+}
+
+/// Returns whether an offset is in an argument, and nothing but blanks from it on.
+fn is_blank_after(text: &[u8], arg: Extent, end: usize) -> bool
+    ensures { IsTrue result
+        → ((arg.start ≤ end) × (end ≤ arg.end) × (arg.end ≤ length text.now))
+        × (list_all specs.is_blank (slice_range text.now end arg.end) ≡ true) }
+{
+    let is_there = arg.start <= end && end <= arg.end && arg.end <= text.len();
+    is_there && are_blank(&text[end..arg.end])
+}
+
+/// Writes an action up to an offset in brackets, unless it has some outside the calls in it.
 fn put_enclosed(
     alloc: Global,
     idioms: Idioms,
     text: &[u8],
-    calls: &[CallAt],
-    first: usize,
+    inner: &[CallAt],
     call: &CallAt,
     index: usize,
     arg: Extent,
     end: usize,
     pass: &mut Pass,
 ) -> Result<(), AllocError>
-    requires calls { map macro_call_of calls.now ≡ calls_in text.now }
+    requires place { ((arg.start ≤ end) × (end ≤ arg.end) × (arg.end ≤ length text.now))
+        × (list_all specs.is_blank (slice_range text.now end arg.end) ≡ true) }
+    requires inner { map macro_call_of inner.now ≡ calls_in (slice_range text.now arg.start end) }
     requires call { Contains (calls_in text.now) (macro_call_of call.now) }
     requires does { specs.DoesArgument text.now (macro_call_of call.now) index }
     requires arg { slice_get (macro_call_of call.now).args index ≡ Some arg }
@@ -239,7 +268,8 @@ fn put_enclosed(
     let _ = idioms;
     let _ = call;
     let _ = index;
-    if arg.start < pass.at || !is_bare(text, calls, first, arg, end) {
+    let whole = whole_of(&text[arg.start..end]);
+    if arg.start < pass.at || !is_bare_alone(&text[arg.start..end], inner, whole) {
         return Ok(());
     }
     let put = in_brackets(alloc, text, arg.start, end)?;
@@ -262,22 +292,14 @@ fn is_simple(name: &[u8]) -> bool {
     SIMPLE.iter().any(|other| *other == name)
 }
 
-/// Returns whether at least one call begins in an argument, and all that do are simple.
-fn has_simple_calls(text: &[u8], calls: &[CallAt], first: usize, arg: Extent) -> bool {
-    let mut has_one = false;
-    for i in first..calls.len() {
-        let call = &calls[i];
-        if arg.end <= call.start {
-            return has_one;
-        }
-        if arg.start <= call.start {
-            if !is_simple(part(text, call.start, call.name_end)) {
-                return false;
-            }
-            has_one = true;
+/// Returns whether there is a call, and all are simple.
+fn are_simple(text: &[u8], calls: &[CallAt]) -> bool {
+    for call in calls {
+        if !is_simple(part(text, call.start, call.name_end)) {
+            return false;
         }
     }
-    has_one
+    !calls.is_empty()
 }
 
 /// Returns whether a comment may be in a text, of a shell or of m4.
@@ -289,14 +311,51 @@ fn may_have_comment(text: &[u8]) -> bool {
 }
 
 /// Returns the offset after the last byte of an action that is no blank, if it is no longer than
-/// `LONGEST`, its calls are simple, and no comment is in it.
-fn action_end(text: &[u8], calls: &[CallAt], first: usize, arg: Extent) -> Option<usize> {
+/// `LONGEST`, and no comment is in it.
+fn action_end(text: &[u8], arg: Extent) -> Option<usize> {
     let written = without_end_blanks(part(text, arg.start, arg.end));
-    let is_short = written.len() <= LONGEST;
-    if is_short && has_simple_calls(text, calls, first, arg) && !may_have_comment(written) {
+    if written.len() <= LONGEST && !may_have_comment(written) {
         Some(arg.start.saturating_add(written.len()))
     } else {
         None
+    }
+}
+
+/// Writes an action up to an offset in brackets, if it has calls and all are simple.
+fn enclose(
+    alloc: Global,
+    idioms: Idioms,
+    text: &[u8],
+    call: &CallAt,
+    index: usize,
+    arg: Extent,
+    end: usize,
+    pass: &mut Pass,
+) -> Result<(), AllocError>
+    requires call { Contains (calls_in text.now) (macro_call_of call.now) }
+    requires does { specs.DoesArgument text.now (macro_call_of call.now) index }
+    requires arg { slice_get (macro_call_of call.now).args index ≡ Some arg }
+    requires begun { specs.IsPass idioms text.now pass.old.at pass.old.out.items }
+    ensures { OnOk result (specs.IsPass idioms text.now pass.new.at pass.new.out.items) }
+{
+    if !is_blank_after(text, arg, end) {
+        return Ok(());
+    }
+    let inner = calls_of(alloc, &text[arg.start..end])?;
+    if are_simple(&text[arg.start..end], inner.as_slice()) {
+        put_enclosed(
+            alloc,
+            idioms,
+            text,
+            inner.as_slice(),
+            call,
+            index,
+            arg,
+            end,
+            pass,
+        )
+    } else {
+        Ok(())
     }
 }
 
@@ -305,13 +364,10 @@ fn pass_action(
     alloc: Global,
     idioms: Idioms,
     text: &[u8],
-    calls: &[CallAt],
-    first: usize,
     call: &CallAt,
     index: usize,
     pass: &mut Pass,
 ) -> Result<(), AllocError>
-    requires calls { map macro_call_of calls.now ≡ calls_in text.now }
     requires call { Contains (calls_in text.now) (macro_call_of call.now) }
     requires begun { specs.IsPass idioms text.now pass.old.at pass.old.out.items }
     ensures { OnOk result (specs.IsPass idioms text.now pass.new.at pass.new.out.items) }
@@ -322,10 +378,8 @@ fn pass_action(
     if !does_it(text, call, index) {
         return Ok(());
     }
-    match action_end(text, calls, first, arg) {
-        Some(end) => put_enclosed(
-            alloc, idioms, text, calls, first, call, index, arg, end, pass,
-        ),
+    match action_end(text, arg) {
+        Some(end) => enclose(alloc, idioms, text, call, index, arg, end, pass),
         None => Ok(()),
     }
 }
@@ -335,18 +389,15 @@ fn pass_actions(
     alloc: Global,
     idioms: Idioms,
     text: &[u8],
-    calls: &[CallAt],
-    first: usize,
     call: &CallAt,
     pass: &mut Pass,
 ) -> Result<(), AllocError>
-    requires calls { map macro_call_of calls.now ≡ calls_in text.now }
     requires call { Contains (calls_in text.now) (macro_call_of call.now) }
     requires begun { specs.IsPass idioms text.now pass.old.at pass.old.out.items }
     ensures { OnOk result (specs.IsPass idioms text.now pass.new.at pass.new.out.items) }
 {
     for index in 1..call.args.len() {
-        pass_action(alloc, idioms, text, calls, first, call, index, pass)?;
+        pass_action(alloc, idioms, text, call, index, pass)?;
     }
     Ok(())
 }
@@ -369,7 +420,7 @@ pub(crate) fn pass_arguments(
     ensures { OnOk result (specs.IsPass idioms text.now pass.new.at pass.new.out.items) }
 {
     if !call.is_of_profile {
-        return pass_actions(alloc, idioms, text, calls, first, call, pass);
+        return pass_actions(alloc, idioms, text, call, pass);
     }
     for index in 1..call.args.len() {
         pass_argument(alloc, idioms, text, calls, first, call, index, pass)?;

@@ -110,12 +110,22 @@ fn kept_by(
     }
 }
 
-/// Returns whether a call begins its line, an argument, or what follows `then` or `else`.
+/// Returns whether a line ends after a call.
+fn ends_line(text: &[u8], call: &CallAt) -> bool {
+    let after = call.end.saturating_add(space_len(from(text, call.end)));
+    match text.get(after) {
+        Some(byte) => *byte == b'\n',
+        None => true,
+    }
+}
+
+/// Returns whether a call begins its line or an argument, or is between `then` or `else` and the end
+/// of the line.
 fn begins_list(text: &[u8], spot: Spot, call: &CallAt) -> bool {
-    let front = part(text, spot.line, call.start);
+    let front = without_end_blanks(part(text, spot.line, call.start));
     spot.is_first
         || before(text, call.start).ends_with(b"[")
-        || ends_in_word(without_end_blanks(front))
+        || ends_in_word(front) && ends_line(text, call)
 }
 
 /// Returns whether a comment that says what a call says can be at its place.
