@@ -7,6 +7,7 @@ ghost use Rattle.ac_calls.specs.Calls.{calls_in, macro_call_of};
 ghost use Rattle.port_calls.specs.Rewritten as specs;
 
 use crate::around::{are_blank, has_compound, without_end_blanks};
+use crate::names::{is_before_value, names_variable};
 use crate::writing::{Pass, write_change};
 use ac_calls::{CallAt, Extent, calls_of};
 use lint_text::{is_word_byte, part};
@@ -134,11 +135,30 @@ fn put_brackets(
 /// calls of the argument.
 const LONGEST: usize = 2000;
 
+/// Returns whether a variable is set in an argument whose name is spelled as that of a macro.
+fn sets_variable(text: &[u8], calls: &[CallAt], first: usize, arg: Extent) -> bool {
+    for i in first..calls.len() {
+        let call = &calls[i];
+        if arg.end <= call.start {
+            return false;
+        }
+        if arg.start <= call.start
+            && names_variable(text, call)
+            && is_before_value(text, call.end)
+        {
+            return true;
+        }
+    }
+    false
+}
+
 /// Returns the offset after the last byte of an argument that is no blank, if it is no longer than
-/// `LONGEST`, and one of its lines begins a compound statement of a shell.
-fn compound_end(text: &[u8], arg: Extent) -> Option<usize> {
+/// `LONGEST`, and one of its lines begins a compound statement of a shell, or it sets a variable
+/// whose name is spelled as that of a macro.
+fn compound_end(text: &[u8], calls: &[CallAt], first: usize, arg: Extent) -> Option<usize> {
     let written = without_end_blanks(part(text, arg.start, arg.end));
-    if written.len() <= LONGEST && has_compound(written) {
+    let is_short = written.len() <= LONGEST;
+    if is_short && (has_compound(written) || sets_variable(text, calls, first, arg)) {
         Some(arg.start.saturating_add(written.len()))
     } else {
         None
@@ -167,7 +187,7 @@ fn pass_argument(
     let Some(arg) = argument_at(call, index) else {
         return Ok(());
     };
-    match compound_end(text, arg) {
+    match compound_end(text, calls, first, arg) {
         Some(end) => put_brackets(
             alloc, idioms, text, calls, first, call, index, arg, end, pass,
         ),

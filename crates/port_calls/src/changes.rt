@@ -39,7 +39,7 @@ pub(crate) struct Known {
     /// Autoconf leaves at its place.
     borders: Vec<bool>,
     /// Whether each offset is in an argument that has no brackets around it.
-    bare: Vec<bool>,
+    pub bare: Vec<bool>,
     /// The names that the source defines as macros.
     pub defined: BTreeSet<Vec<u8>>,
     /// The offset after the call of AC_PROG_CC after which GCC is to be set, if one is.
