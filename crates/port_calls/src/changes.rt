@@ -46,7 +46,7 @@ pub(crate) struct Known {
     pub at_compiler: Option<usize>,
     /// Whether the source looks for a compiler itself. If not, a macro that is left out may have
     /// done so.
-    has_compiler: bool,
+    pub has_compiler: bool,
     /// The offset after the first call of AC_PROG_CC that is in no argument of another one.
     after_compiler: Option<usize>,
 }
