@@ -18,8 +18,8 @@ is_status b = nat_lt 48 b && nat_lt b 58
 -- empty line, and `exit` with a digit that isn't 0 ends the run with that status.
 pub data Speaks (command : List ℕ) : List ℕ → List (List ℕ) → List ℕ → Type 0 where
   blank : IsBlankEcho command → Speaks command (codes "AC_MSG_RESULT") ([] ∷ []) (codes "echo: -q drops the line")
-  ends : (digit : ℕ) → command ≡ codes "exit " ++ digit ∷ [] → is_status digit ≡ true
-      → Speaks command (codes "AC_MSG_ERROR") (command ∷ (digit ∷ []) ∷ []) (codes "exit: an error is printed")
+  ends : (status : List ℕ) → command ≡ codes "exit " ++ status → length status ≡ 1 → list_all is_status status ≡ true
+      → Speaks command (codes "AC_MSG_ERROR") (command ∷ status ∷ []) (codes "exit: an error is printed")
 
 -- A byte of a variable's name.
 abbrev pub is_of_name : ℕ → Bool

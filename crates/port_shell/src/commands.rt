@@ -136,17 +136,41 @@ fn is_status(byte: u8) -> bool
     48 < byte && byte < 58
 }
 
+/// Returns whether a text is one digit that isn't 0.
+fn is_digit(text: &[u8]) -> bool
+    ensures { IsTrue result
+        → (length text.now ≡ 1) × (list_all specs.is_status text.now ≡ true) }
+{
+    text.len() == 1 && text.iter().all(|byte| is_status(*byte))
+}
+
+/// Returns the text after a front, if it begins with that.
+fn rest_after<'a>(text: &'a [u8], front: &[u8]) -> Option<&'a [u8]>
+    ensures { IfSome result (λ rest. text.now ≡ front.now ++ rest.now) }
+{
+    text.strip_prefix(front)
+}
+
+/// Returns what is given to `exit`, if it is a digit other than 0.
+fn checked_status<'a>(command: &[u8], status: &'a [u8]) -> Option<&'a [u8]>
+    requires { command.now ≡ codes "exit " ++ status.now }
+    ensures { IfSome result (λ s.
+        specs.Speaks command.now (codes "AC_MSG_ERROR") (command.now ∷ s.now ∷ [])
+        (codes "exit: an error is printed")) }
+{
+    let _ = command;
+    if is_digit(status) { Some(status) } else { None }
+}
+
 /// Returns the digit that a command gives to `exit`, if it isn't 0.
 fn status_of(command: &[u8]) -> Option<&[u8]>
     ensures { IfSome result (λ s.
         specs.Speaks command.now (codes "AC_MSG_ERROR") (command.now ∷ s.now ∷ [])
         (codes "exit: an error is printed")) }
 {
-    let status = command.strip_prefix(b"exit ")?;
-    if status.len() == 1 && is_status(status[0]) {
-        Some(status)
-    } else {
-        None
+    match rest_after(command, b"exit ") {
+        Some(status) => checked_status(command, status),
+        None => None,
     }
 }
 
@@ -194,12 +218,23 @@ fn is_name(text: &[u8]) -> bool
     0 < text.len() && text.iter().all(|byte| is_of_name(*byte))
 }
 
+/// Returns what is given to `unset`, if it is a name.
+fn checked_name<'a>(command: &[u8], name: &'a [u8]) -> Option<&'a [u8]>
+    requires { command.now ≡ codes "unset " ++ name.now }
+    ensures { IfSome result (λ n. specs.Unsets command.now n.now) }
+{
+    let _ = command;
+    if is_name(name) { Some(name) } else { None }
+}
+
 /// Returns the name of the variable that a command unsets, if it is one.
 fn name_of(command: &[u8]) -> Option<&[u8]>
     ensures { IfSome result (λ n. specs.Unsets command.now n.now) }
 {
-    let name = command.strip_prefix(b"unset ")?;
-    if is_name(name) { Some(name) } else { None }
+    match rest_after(command, b"unset ") {
+        Some(name) => checked_name(command, name),
+        None => None,
+    }
 }
 
 /// Returns an assignment of nothing to a variable.
