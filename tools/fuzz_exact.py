@@ -646,7 +646,7 @@ NO_CALLS = ("AC_OUTPUT(files)", "AC_CONFIG_HEADER", "AC_INIT(file)", "AC_INIT()"
 LATER_NAMES = ("AC_DIAGNOSE", "AC_PROG_CXX")
 # Actions without brackets.
 BARE = (
-    "AC_DEFINE({0})", "AC_DEFINE({0}, 1, [a text, it])", "AC_MSG_NOTICE(a text)", "AC_DEFINE({0}) v1=yes", "v2=no AC_DEFINE_UNQUOTED({0}, \"$v1\")",
+    "AC_DEFINE({0})", "AC_DEFINE({0}, 1, [a text, it])", "AC_MSG_NOTICE(a text)", "AC_DEFINE({0}) v1=yes", "AC_DEFINE_UNQUOTED({0}, \"$v1\")",
     "\n  AC_MSG_WARN([a text, it])\n  AC_DEFINE({0}, [two words])", "AC_DEFINE([{0}], [], [a text])\n",
 )
 # Statements that port rewrites with --idioms. A shell without `==` takes a test with it for false, and so no word is equal here.
@@ -982,7 +982,7 @@ def joined(first, blocks, last):
 
 
 # Errors about what a source has itself, which port may leave on another line.
-OF_SOURCE = re.compile(r"not read|not run|is no statement|does not know|no macro that acrun knows|other text beside it")
+OF_SOURCE = re.compile(r"a test on its own|not read|not run|is no statement|does not know|no macro that acrun knows|other text beside it")
 
 
 def without_excerpts(message):

@@ -32,7 +32,8 @@ pub record IsIfTest (text : List ℕ) (start from to : ℕ) : Type 0 where
   pub order : (start ≤ after) × (after < from)
   pub before : AreBlank text after from
   pub ends : IsListEnd text to at_then
-  pub follows : IsWord text at_then (codes "then") (at_then + 4)
+  pub after_then : ℕ
+  pub follows : IsWord text at_then (codes "then") after_then
 
 -- A call of AS_IF is at the first of these offsets, and its condition is between the other two: its first argument is that in brackets.
 pub record IsCallTest (text : List ℕ) (start from to : ℕ) : Type 0 where

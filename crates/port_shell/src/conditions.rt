@@ -3,7 +3,7 @@
 ghost use Rattle.std.specs.Prelude.{◌≡◌, ◌⊎◌, ◌≤◌, ◌<◌, ◌+◌, ◌++◌, ◌∷◌, true, Some, map, length, slice_get, slice_index, slice_range, codes, Contains, IfOk, IfSome, OnOk, IsTrue};
 ghost use Rattle.std.specs.List.{list_all};
 ghost use Rattle.ac_calls.specs.Calls.{calls_in, macro_call_of};
-ghost use Rattle.port_compounds.specs.Places.{is_space};
+ghost use Rattle.port_compounds.specs.Places.{is_space, AreBlank, IsWord};
 ghost use Rattle.port_idioms.specs.declared.idioms.Idioms.TheVariants.{All};
 ghost use Rattle.port_joints.specs.Joints.{Becomes};
 ghost use Rattle.port_joints.specs.Spelled.{IsRespelled};
@@ -38,50 +38,48 @@ struct Place {
     call: Option<usize>,
 }
 
-/// Returns whether a word is at an offset, and between two others a condition with `then` after it.
+/// Returns whether `if` or `elif` is between two offsets.
+fn is_keyword(text: &[u8], start: usize, after: usize) -> bool
+    ensures { IsTrue result
+        → IsWord text.now start (codes "if") after ⊎ IsWord text.now start (codes "elif") after }
+{
+    is_word(text, start, b"if", after) || is_word(text, start, b"elif", after)
+}
+
+/// Returns whether there are blanks alone between two offsets, and at least one.
+fn is_gap(text: &[u8], after: usize, from: usize) -> bool
+    ensures { IsTrue result → (after < from) × AreBlank text.now after from }
+{
+    after < from && from <= text.len() && are_blank(&text[after..from])
+}
+
+/// Returns whether `if` or `elif` is between the first two offsets, and its condition between the
+/// next two, with `then` after it.
 fn is_test_after(
     text: &[u8],
     start: usize,
-    word: &[u8],
     after: usize,
     from: usize,
     to: usize,
     at_then: usize,
+    after_then: usize,
 ) -> bool
-    requires { (word.now ≡ codes "if") ⊎ (word.now ≡ codes "elif") }
     ensures { IsTrue result → specs.IsIfTest text.now start from to }
 {
-    is_word(text, start, word, after)
-        && start <= after
-        && after < from
-        && from <= text.len()
-        && are_blank(&text[after..from])
+    start <= after
+        && is_keyword(text, start, after)
+        && is_gap(text, after, from)
         && is_list_end(text, to, at_then)
-        && at_then <= text.len()
-        && is_word(text, at_then, b"then", at_then + 4)
+        && is_word(text, at_then, b"then", after_then)
 }
 
 /// Returns whether `if` or `elif` is at an offset, and its condition between two others.
 fn is_if_test(text: &[u8], start: usize, from: usize, to: usize, at_then: usize) -> bool
-    ensures { IsTrue result → specs.IsTestAt text.now start from to }
+    ensures { IsTrue result → specs.IsIfTest text.now start from to }
 {
-    is_test_after(
-        text,
-        start,
-        b"if",
-        start.saturating_add(2),
-        from,
-        to,
-        at_then,
-    ) || is_test_after(
-        text,
-        start,
-        b"elif",
-        start.saturating_add(4),
-        from,
-        to,
-        at_then,
-    )
+    let end = at_then.saturating_add(4);
+    is_test_after(text, start, start.saturating_add(2), from, to, at_then, end)
+        || is_test_after(text, start, start.saturating_add(4), from, to, at_then, end)
 }
 
 /// Returns the first argument of a call.
@@ -115,15 +113,23 @@ fn is_in_brackets(text: &[u8], arg: Extent, from: usize, to: usize) -> bool
         && text[to] == b']'
 }
 
+/// Returns whether a call with this first argument is one of AS_IF at an offset, and its condition
+/// is between two others.
+fn is_test_in(text: &[u8], call: &CallAt, arg: Extent, start: usize, from: usize, to: usize) -> bool
+    requires call { Contains (calls_in text.now) (macro_call_of call.now) }
+    requires arg { slice_get (macro_call_of call.now).args 0 ≡ Some arg }
+    ensures { IsTrue result → specs.IsCallTest text.now start from to }
+{
+    call.start == start && is_choice(text, call) && is_in_brackets(text, arg, from, to)
+}
+
 /// Returns whether a call is one of AS_IF at an offset, and its condition is between two others.
 fn is_test_of_call(text: &[u8], call: &CallAt, start: usize, from: usize, to: usize) -> bool
     requires { Contains (calls_in text.now) (macro_call_of call.now) }
-    ensures { IsTrue result → specs.IsTestAt text.now start from to }
+    ensures { IsTrue result → specs.IsCallTest text.now start from to }
 {
     match first_argument(call) {
-        Some(arg) => {
-            call.start == start && is_choice(text, call) && is_in_brackets(text, arg, from, to)
-        }
+        Some(arg) => is_test_in(text, call, arg, start, from, to),
         None => false,
     }
 }
@@ -139,7 +145,7 @@ fn is_call_test(
     to: usize,
 ) -> bool
     requires { map macro_call_of calls.now ≡ calls_in text.now }
-    ensures { IsTrue result → specs.IsTestAt text.now start from to }
+    ensures { IsTrue result → specs.IsCallTest text.now start from to }
 {
     index < calls.len() && is_test_of_call(text, &calls[index], start, from, to)
 }
