@@ -1,7 +1,7 @@
 //! Writes arguments in brackets: those that have a compound statement of a shell, and actions with
 //! calls.
 
-ghost use Rattle.std.specs.Prelude.{◌≡◌, ◌≤◌, ◌<◌, true, Some, map, length, slice_get, slice_index, slice_range, ℕ, Contains, IfOk, OnOk, IsTrue};
+ghost use Rattle.std.specs.Prelude.{◌≡◌, ◌≤◌, ◌<◌, ◌==◌, ◌||◌, true, Some, map, length, slice_get, slice_index, slice_range, ℕ, Contains, IfOk, OnOk, IsTrue};
 ghost use Rattle.std.specs.List.{list_all};
 ghost use Rattle.ac_calls.specs.Calls.{calls_in, macro_call_of};
 ghost use Rattle.port_calls.specs.Rewritten as specs;
