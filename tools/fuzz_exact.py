@@ -12,7 +12,8 @@ one of what `port` makes of it without --idioms. Both are run with the same sett
 and to print the same. If acrun reads what port wrote, it is run too, and its outputs have to be those of that script. And no line that port
 wrote may be an error for `acrun lint` that the source does not have.
 tools/seeded_compiler.c answers the programs, by what they ask. From number 1000000 on a source may also begin with AC_INIT without a version, and
-have variables whose names are spelled as those of macros.
+have variables whose names are spelled as those of macros, conditions on several lines, actions without brackets that are calls, and the macros
+of LATER_NAMES; with --idioms also `==`, `-eq`, `-ne`, `exit` and `echo` without words.
 A difference is allowed if a line `~ ` of macros.txt states it for a macro of the source, or one of the sentences below of docs/differences.md.
 
 With --idioms a source has also calls of the macros that have a line `& `, if Autoconf itself has them, and port is given that switch. If
@@ -272,6 +273,7 @@ def of_idioms(found, ported):
     is_printed = re.compile(r"standard |order of definitions$")
     unset = {name for name, (_, after) in found.items() if name.startswith("cache ") and after is None and not is_word(name[6:], ported)}
     unset |= {name for name, (_, after) in found.items() if ON_THE_WAY.match(name) and is_missing(after)}
+    unset |= {name for name, (before, after) in found.items() if name.startswith("variable ") and before is None and after == ""}
     return {name: it for name, it in found.items() if not is_printed.match(name) and name not in unset}
 
 
@@ -362,6 +364,10 @@ OF_WORDS = ("language", "A variable is never split into fields")
 # What docs/differences.md states of a test whose unquoted variable is empty, which may be an error for a shell, as its lines say.
 OF_TESTS = ("differences", "If an unquoted variable is empty, it is an empty word of a test. A shell drops it.")
 TEST_ERROR = re.compile(r"\b(test|\[): .*(unexpected operator|argument expected|unknown operand|too many arguments)")
+
+# What docs/commands.md states of `unset`, so that no source with it has `${v2-none}`, and of statements whose messages may be others.
+OF_UNSET = ("commands", "An `unset` of one variable becomes an assignment of nothing, which `${name-word}` can tell apart")
+OF_STATEMENTS = re.compile(r"(?m)^ *(exit \d|unset \w+|echo.*)$| (==|-eq|-ne) ")
 
 # What docs/how-it-runs.md states of a source without AC_PROG_CC, so that acrun is given none.
 OF_COMPILER = ("how-it-runs", "linked and CC has no word, the run prints `configure: error: no acceptable C compiler found in $PATH`")
@@ -469,7 +475,7 @@ def compared(room, text, ported, settings, switches, program=""):
     names = template_names(bodies[0])
     assigned = sorted({*re.findall(r"\b([A-Za-z_]\w*)=", text + ported), *(["INSTALL"] if "AC_PROG_INSTALL" in text else [])})
     patterns, found, defined = stated(text, switches == IDIOMS), [], candidates(bodies, ported)
-    has_other_idiom = switches == IDIOMS and any(is_word(name, text) for name, *_ in others())
+    has_other_idiom = switches == IDIOMS and (any(is_word(name, text) for name, *_ in others()) or bool(OF_STATEMENTS.search(text)))
     for setting in settings:
         by_acrun = program and is_for_acrun(setting) and not joins_dnl(text)
         creates = bool(by_acrun) or setting.seed % 4 == 0
@@ -547,6 +553,7 @@ ARGUMENTS = {
     "AC_TRY_CPP": [("#include <stdio.h>", "#include <foo.h>\n#ifndef FOO\n#error none\n#endif"), "action", "action"],
     "AS_VAR_COPY": [("copy", "v1"), ("level", "enable_foo", "v2")],
     "m4_pattern_allow": [("^AC_FOO$", "^fz_")],
+    "AC_DIAGNOSE": [("obsolete", "syntax"), TEXTS],
 }
 MEMBERS = ("struct stat.st_blksize", "struct tm.tm_zone", "struct foo.bar")
 SIZED = ("long", "[void *]", "size_t", "foo_t", "[unsigned int]", "struct foo", "[long long]")
@@ -564,6 +571,7 @@ ARGUMENTS_OF_OTHERS = {
     "AC_CHECK_TARGET_TOOL": [("STRIP", "MYNM"), ("strip", "nm", "none-such"), (":", "")],
     "AC_CHECK_TARGET_TOOLS": [("STRIP", "MYNM"), ("strip nm", "none-such ranlib"), (":", "")],
     "AC_CONFIG_LIBOBJ_DIR": [("lib", "src")],
+    "AC_PROG_CXX": [("g++", "[clang++ g++]")],
     "AC_COPYRIGHT": [("[(C) 2026 a firm, all of it]", "[Copyright]")],
     "AC_LIBOBJ": [("getline", "foo")],
     "AC_LIBSOURCE": [("getline.c",)],
@@ -632,8 +640,22 @@ NAMED = (
     "case $LT_CURRENT in\n2) v2=$AX_FLAGS;;\n*) AX_FLAGS=c;;\nesac", "AS_IF([test -n \"$LT_CURRENT\"], [v1=$LT_CURRENT], AX_FLAGS=d)",
     "test -z \"$AX_FLAGS\" && AX_FLAGS=$PKG_CONFIG", "AC_MSG_NOTICE([v1 is $v1, and $PKG_CONFIG])",
 )
-# Rows of the table whose names are no macros that a source may call anywhere.
-NO_CALLS = ("AC_OUTPUT(files)", "AC_CONFIG_HEADER", "AC_INIT(file)", "AC_INIT()", "m4_ifdef(AM)")
+# Rows of the table whose names are no macros that a source may call anywhere, and AC_PROG_CXXCPP, which ends a run without a compiler of C++.
+NO_CALLS = ("AC_OUTPUT(files)", "AC_CONFIG_HEADER", "AC_INIT(file)", "AC_INIT()", "m4_ifdef(AM)", "AC_PROG_CXXCPP")
+# Macros that only sources of the later numbers have.
+LATER_NAMES = ("AC_DIAGNOSE", "AC_PROG_CXX")
+# Actions without brackets.
+BARE = (
+    "AC_DEFINE({0})", "AC_DEFINE({0}, 1, [a text, it])", "AC_MSG_NOTICE(a text)", "AC_DEFINE({0}) v1=yes", "AC_DEFINE_UNQUOTED({0}, \"$v1\")",
+    "\n  AC_MSG_WARN([a text, it])\n  AC_DEFINE({0}, [two words])", "AC_DEFINE([{0}], [], [a text])\n",
+)
+# Statements that port rewrites with --idioms. A shell without `==` takes a test with it for false, and so no word is equal here.
+OF_SHELL = (
+    "if test \"$v1\" == never; then\n  level=1\nelse\n  level=2\nfi", "AS_IF([test \"$v2\" == never], [level=4], [level=5])",
+    "level=3\nif test $level -eq 3; then\n  v1=number\nfi", "level=3\nAS_IF([test \"$level\" -ne 3 && test -n \"$v1\"], [v2=number], [v2=other])",
+    "level=2\nif test \"$level\" -ne 3 -a 2 -eq 2; then\n  v1=both\nfi", "if test \"$level\" -eq 3; then\n  v2=three\nfi",
+    "if test \"$enable_foo\" = stop; then\n  echo\n  echo stop it\n  exit 3\nfi", "echo", "echo \"\"",
+)
 
 
 class Maker:
@@ -644,7 +666,8 @@ class Maker:
         self.is_later = number >= LATER
         self.all_idioms = switches == IDIOMS
         rows = [*(others() * 3 if self.all_idioms else []), *exact()]
-        self.exact = [it for it in rows if it[0] not in NO_CALLS and (not names or it[0] in names)]
+        left_out = (*NO_CALLS, *(() if self.is_later else LATER_NAMES))
+        self.exact = [it for it in rows if it[0] not in left_out and (not names or it[0] in names)]
         self.count = 0
         self.used = []
 
@@ -679,6 +702,8 @@ class Maker:
     def action(self, depth):
         if self.has(0.15):
             return ""
+        if self.is_later and self.has(0.25):
+            return self.one(BARE).format(self.fresh("B"))
         body = self.body(depth + 1, 1 if self.has(0.7) else 2)
         if self.has(0.15) and re.fullmatch(r"\w+=\w+", body):
             return body
@@ -760,6 +785,9 @@ class Maker:
         return f"{self.test(self.one_word)} {self.one(['-a', '-o'])} {self.test(self.one_word)}{more}"
 
     def condition(self):
+        if self.is_later and self.has(0.2):
+            more = f" {self.one(['&&', '||'])}\n{self.one(['', '  '])}test {self.test()}" if self.has(0.3) else ""
+            return f"test {self.test()} {self.one(['&&', '||'])}{self.one(['', ' '])}\n  {self.one(['', '', '! '])}test {self.test()}{more}"
         kind = self.at.randrange(12)
         if kind < 6:
             return f"test {self.test()}"
@@ -808,7 +836,7 @@ class Maker:
 
     def simple(self, depth):
         if self.is_later and self.has(0.5):
-            return self.one(NAMED)
+            return self.one([*NAMED, *(OF_SHELL if self.all_idioms else ())])
         kind = self.at.randrange(10)
         if kind == 9:
             return self.one(LEFT_AS_IS)
@@ -899,6 +927,9 @@ class Maker:
                 name = self.fresh("r")
                 blocks.append(f"{name}={self.read()}\nAC_SUBST([{name}])")
         last = self.one(LAST)
+        if self.all_idioms and any("unset v2" in it for it in blocks):
+            said(*OF_UNSET)
+            blocks = [it.replace("${v2-none}", "$v2") for it in blocks]
         if any("AC_PREFIX_DEFAULT" in it for it in blocks) and self.all_idioms:
             blocks = [re.sub(r"\$(\{?)prefix\b", r"$\1exec_prefix", it) for it in blocks]
         if any("MY_CHECK" in it for it in blocks):
@@ -951,7 +982,7 @@ def joined(first, blocks, last):
 
 
 # Errors about what a source has itself, which port may leave on another line.
-OF_SOURCE = re.compile(r"not read|not run|is no statement|does not know|no macro that acrun knows|other text beside it")
+OF_SOURCE = re.compile(r"a test on its own|not read|not run|is no statement|does not know|no macro that acrun knows|other text beside it")
 
 
 def without_excerpts(message):

@@ -1,16 +1,19 @@
--- The entries of the table for checks of members of a type and for AM_INIT_AUTOMAKE. A check without actions, one with actions and one with
--- includes are written otherwise, so each has an entry of its own.
+-- The entries of the table for checks of members of a type, for AM_INIT_AUTOMAKE and for PKG_CHECK_MODULES. A check without actions, one
+-- with actions and one with includes are written otherwise, so each has an entry of its own.
 use Rattle.std.specs.Prelude.{ℕ, List, ◌||◌, ◌&&◌, Bool, bytes_eq, nat_lt, codes, if◌then◌else◌}
 
 -- The name of the entry for a call of a macro of this name with so many arguments. Of a check of members the first argument is what is
 -- looked for, the next two are the actions, and the fourth is the includes. (manual, "Generic Structures") AM_INIT_AUTOMAKE with two
--- arguments or more has the name and the version of the package. (manual of Automake; the names of entries are own)
+-- arguments or more has the name and the version of the package. (manual of Automake) PKG_CHECK_MODULES with two arguments or more has the name
+-- of the variables and the modules, and the fourth is what is done if they are not found. (manual of pkg-config; the names of entries are own)
 abbrev pub entry_name : List ℕ → ℕ → List ℕ
 entry_name name count =
     if bytes_eq name (codes "AC_CHECK_MEMBERS") && nat_lt 3 count then codes "AC_CHECK_MEMBERS(includes)"
     else if bytes_eq name (codes "AC_CHECK_MEMBERS") && nat_lt 1 count then codes "AC_CHECK_MEMBERS(actions)"
     else if bytes_eq name (codes "AC_CHECK_MEMBER") && nat_lt 3 count then codes "AC_CHECK_MEMBER(includes)"
     else if bytes_eq name (codes "AM_INIT_AUTOMAKE") && nat_lt 1 count then codes "AM_INIT_AUTOMAKE(name)"
+    else if bytes_eq name (codes "PKG_CHECK_MODULES") && nat_lt 3 count then codes "PKG_CHECK_MODULES(actions)"
+    else if bytes_eq name (codes "PKG_CHECK_MODULES") && nat_lt 1 count then codes "PKG_CHECK_MODULES(flags)"
     else name
 
 -- The macro of an entry takes a list of names with commas between them as its first argument, and its idiom is written once for each.

@@ -11,7 +11,8 @@ fn is(name: &[u8], word: &[u8]) -> bool
 
 /// Returns the name of the entry for a call of a macro of this name with so many arguments. It is
 /// the name itself, but a check of members with actions or with includes has an entry of its own,
-/// and AM_INIT_AUTOMAKE with a name and a version (own).
+/// and so have AM_INIT_AUTOMAKE with a name and a version, and PKG_CHECK_MODULES with modules
+/// (own).
 pub fn entry_name(name: &[u8], count: usize) -> &[u8]
     ensures { result.now ≡ words.entry_name name.now count }
 {
@@ -23,6 +24,10 @@ pub fn entry_name(name: &[u8], count: usize) -> &[u8]
         b"AC_CHECK_MEMBER(includes)"
     } else if is(name, b"AM_INIT_AUTOMAKE") && 1 < count {
         b"AM_INIT_AUTOMAKE(name)"
+    } else if is(name, b"PKG_CHECK_MODULES") && 3 < count {
+        b"PKG_CHECK_MODULES(actions)"
+    } else if is(name, b"PKG_CHECK_MODULES") && 1 < count {
+        b"PKG_CHECK_MODULES(flags)"
     } else {
         name
     }

@@ -205,7 +205,13 @@ AC_CACHE_CHECK([whether the compiler is GNU C], [ac_cv_c_compiler_gnu],
 #endif]], [])], [ac_cv_c_compiler_gnu=yes], [ac_cv_c_compiler_gnu=no])])
 AS_IF([test \"$ac_cv_c_compiler_gnu\" = yes], [GCC=yes], [GCC=])~idiom AC_PROG_CPP
 AC_ARG_VAR([CPP], [C preprocessor])
-AS_IF([test -z \"$CPP\"], [CPP=\"$CC -E\"])~idiom AC_PROG_LN_S AC_LN_S
+AS_IF([test -z \"$CPP\"], [CPP=\"$CC -E\"])~idiom AC_PROG_CXX
+AC_ARG_VAR([CXX], [C++ compiler])
+AC_ARG_VAR([CXXFLAGS], [flags of the C++ compiler])
+AS_IF([test -z \"$CXX\"], [CXX=g++])
+AS_IF([test -z \"$CXXFLAGS\"], [CXXFLAGS=\"-g -O2\"])~idiom AC_PROG_CXXCPP
+AC_ARG_VAR([CXXCPP], [C++ preprocessor])
+AS_IF([test -z \"$CXXCPP\"], [CXXCPP=\"g++ -E\"])~idiom AC_PROG_LN_S AC_LN_S
 AC_SUBST([LN_S], [\"ln -s\"])~idiom AC_PROG_MKDIR_P AM_PROG_MKDIR_P
 AS_IF([test -z \"$MKDIR_P\"], [AC_SUBST([MKDIR_P], [\"mkdir -p\"])])~idiom AC_PROG_GREP
 AC_PATH_PROG([GREP], [grep])~idiom AC_PROG_EGREP
@@ -239,7 +245,13 @@ CFLAGS=\"$CFLAGS $$1!{NAME}_CFLAGS\" LIBS=\"$$1!{NAME}_LIBS $LIBS\"
 AC_CACHE_CHECK([for $1!{NAME}], [my_cv_$1!{NAME}],
   [AC_LINK_IFELSE([AC_LANG_PROGRAM([], [])], [my_cv_$1!{NAME}=yes], [my_cv_$1!{NAME}=no])])
 CFLAGS=$$1!{NAME}_CFLAGS_before LIBS=$$1!{NAME}_LIBS_before
-AS_IF([test \"$my_cv_$1!{NAME}\" != yes], [AC_MSG_ERROR([no program links with $$1!{NAME}_LIBS: give $1!{NAME}_CFLAGS and $1!{NAME}_LIBS])])~drop PKG_PROG_PKG_CONFIG PKG_CONFIG PKG_INSTALLDIR PKG_NOARCH_INSTALLDIR
+AS_IF([test \"$my_cv_$1!{NAME}\" != yes], [AC_MSG_ERROR([no program links with $$1!{NAME}_LIBS: give $1!{NAME}_CFLAGS and $1!{NAME}_LIBS])])~idiom PKG_CHECK_MODULES(flags)
+AC_ARG_VAR([$1!{NAME}_CFLAGS], [flags that compile with $1!{NAME}])
+AC_ARG_VAR([$1!{NAME}_LIBS], [flags that link with $1!{NAME}])
+AS_IF([test -n \"$$1!{NAME}_LIBS\"], [$3{FOUND}], [AC_MSG_ERROR([give $1!{NAME}_CFLAGS and $1!{NAME}_LIBS, as pkg-config prints them])])~idiom PKG_CHECK_MODULES(actions)
+AC_ARG_VAR([$1!{NAME}_CFLAGS], [flags that compile with $1!{NAME}])
+AC_ARG_VAR([$1!{NAME}_LIBS], [flags that link with $1!{NAME}])
+AS_IF([test -n \"$$1!{NAME}_LIBS\"], [$3{FOUND}], [$4{NOT-FOUND}])~drop PKG_PROG_PKG_CONFIG PKG_CONFIG PKG_INSTALLDIR PKG_NOARCH_INSTALLDIR
 no pkg-config is run: the user gives what it prints~none PKG_CHECK_EXISTS PKG_CHECK_VAR AM_PATH_GTK_2_0 AM_PATH_GLIB_2_0 AM_PATH_SDL AM_PATH_SDL2 AM_PATH_XML2
 no pkg-config is run: let the user give the flags by AC_ARG_VAR, and link a program with them~idiom AC_SYS_LARGEFILE
 AC_DEFINE([_FILE_OFFSET_BITS], [64], [Number of bits in a file offset.])~idiom AC_TRY_COMPILE
@@ -492,7 +504,7 @@ it speaks to Autoconf alone; statements are run in their order~drop AC_COPYRIGHT
 a comment says the same~drop AC_LANG_PUSH AC_LANG_POP AC_LANG_C AC_LANG_SAVE AC_LANG_RESTORE AC_LANG_ASSERT AC_LANG_COMPILER_REQUIRE AC_CHECK_INCLUDES_DEFAULT AC_C_CROSS AC_CACHE_SAVE AC_CACHE_LOAD AC_PROG_CC_WORKS AC_SITE_LOAD AC_REQUIRE_CPP AC_REQUIRE_AUX_FILE AC_CONFIG_MACRO_DIR_TRACE AC_USE_LOCAL_LANG AC_PROG_CPP_WERROR
 C is the only language, and the cache is read and written by itself~drop AH_TEMPLATE AH_VERBATIM AH_TOP AH_BOTTOM AH_HEADER
 its text is in config.h.in itself: a line #undef NAME is made by AC_DEFINE([NAME]), and every other line is copied~none AC_SUBST_FILE
-put the text of the file into the template~none AC_LANG_CPLUSPLUS AC_PROG_CXX AC_PROG_CXXCPP AC_PROG_F77 AC_PROG_FC AC_PROG_OBJC AC_PROG_OBJCXX AC_PROG_GO AC_PROG_JAVA AC_F77_LIBRARY_LDFLAGS AC_FC_LIBRARY_LDFLAGS AX_PROG_CC_FOR_BUILD AX_CXX_COMPILE_STDCXX AX_CXX_COMPILE_STDCXX_11
+put the text of the file into the template~none AC_LANG_CPLUSPLUS AC_PROG_F77 AC_PROG_FC AC_PROG_OBJC AC_PROG_OBJCXX AC_PROG_GO AC_PROG_JAVA AC_F77_LIBRARY_LDFLAGS AC_FC_LIBRARY_LDFLAGS AX_PROG_CC_FOR_BUILD AX_CXX_COMPILE_STDCXX AX_CXX_COMPILE_STDCXX_11
 only C compilers are tried: let the user give the compiler by AC_ARG_VAR~none LT_OUTPUT LT_LANG LT_LIB_M LT_PATH_LD AC_LIBLTDL_CONVENIENCE AC_LIBLTDL_INSTALLABLE
 there is no libtool: a rule of the Makefile links the library~drop LT_INIT LT_PREREQ AC_PROG_LIBTOOL AM_PROG_LIBTOOL AC_LIBTOOL_DLOPEN AC_LIBTOOL_WIN32_DLL AC_DISABLE_SHARED AC_DISABLE_STATIC AC_ENABLE_SHARED AC_ENABLE_STATIC AM_DISABLE_SHARED AM_DISABLE_STATIC AM_ENABLE_SHARED AM_ENABLE_STATIC
 there is no libtool: a rule of the Makefile links the library~none AM_CFLAGS AM_CPPFLAGS AM_LDFLAGS AM_CXXFLAGS AM_YFLAGS AM_LFLAGS AM_MAKEFLAGS AM_DEFAULT_VERBOSITY AC_FD_MSG AC_FD_CC

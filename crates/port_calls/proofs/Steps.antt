@@ -7,7 +7,7 @@ use Rattle.std.proofs.lemmas.List.Elements.{Contains-get_or}
 use Rattle.ac_calls.specs.declared.call.CallAt.{CallAt}
 use Rattle.ac_calls.specs.declared.call.Extent.{Extent}
 use Rattle.ac_calls.specs.Calls.{MacroCall, calls_in, macro_call_of}
-use Rattle.port_calls.specs.Rewritten.{IsPass, IsRewritten, HasToGo, IsAround, DeclaresOption, IsOldHelp, JoinsWords, EndsItsLine, AreSpaces, IsBare, in_brackets, NamesVariable, SetsGnu, AreMessages, messages_first}
+use Rattle.port_calls.specs.Rewritten.{IsPass, IsRewritten, HasToGo, IsAround, DeclaresOption, IsOldHelp, JoinsWords, EndsItsLine, AreSpaces, IsBare, IsBareAlone, in_brackets, DoesArgument, NamesVariable, SetsGnu, AreMessages, messages_first}
 use Rattle.port_calls.specs.Rewritten as specs
 use Rattle.port_calls.specs.Put.{MayPut, is_space, difference, below}
 use Rattle.lint_macros.specs.Entries.{entry_of}
@@ -24,6 +24,7 @@ pass_bound idioms text at out (specs.IsPass.renamed c end before is declares hel
 pass_bound idioms text at out (specs.IsPass.parted c before is joins) = omega (arith, joins.joint.within)
 pass_bound idioms text at out (specs.IsPass.lined c end indent before is ends (from, to, spaces) blank) = to
 pass_bound idioms text at out (specs.IsPass.bracketed c i arg end before is read has bare) = omega (arith, bare.place.1, bare.place.2)
+pass_bound idioms text at out (specs.IsPass.enclosed c i arg end before is does has bare) = omega (arith, bare.place.1, bare.place.2)
 pass_bound idioms text at out (specs.IsPass.named c before is names to) = to
 pass_bound idioms text at out (specs.IsPass.checked c put before is all compiler sets to) = to
 pass_bound idioms text at out (specs.IsPass.turned c start end before is all output around messages) = omega arith
@@ -68,6 +69,14 @@ bracket_step idioms text at out c i arg end put new_at new before is read has fr
     let copied = specs.IsPass.copied arg.start before from (omega (arith, after, to)) in
     subst (λ a. IsPass idioms text a new) (sym at_is)
     (subst (IsPass idioms text end) (sym (new_is ∙ ap (λ p. (out ++ slice_range text at arg.start) ++ p) put_is)) (specs.IsPass.bracketed c i arg end copied is read has bare))
+
+pub enclose_step : (idioms : Idioms) (text : List ℕ) (at : ℕ) (out : List ℕ) (c : MacroCall) (i : ℕ) (arg : Extent) (end : ℕ) (put : List ℕ) (new_at : ℕ) (new : List ℕ)
+    → IsPass idioms text at out → Contains (calls_in text) c → DoesArgument text c i → slice_get c.args i ≡ Some arg → at ≤ arg.start → IsBareAlone text arg end × (arg.start ≤ end) × (end ≤ length text)
+    → put ≡ in_brackets (slice_range text arg.start end) → (new_at ≡ end) × (new ≡ (out ++ slice_range text at arg.start) ++ put) → IsPass idioms text new_at new
+enclose_step idioms text at out c i arg end put new_at new before is does has from (bare, after, to) put_is (at_is, new_is) =
+    let copied = specs.IsPass.copied arg.start before from (omega (arith, after, to)) in
+    subst (λ a. IsPass idioms text a new) (sym at_is)
+    (subst (IsPass idioms text end) (sym (new_is ∙ ap (λ p. (out ++ slice_range text at arg.start) ++ p) put_is)) (specs.IsPass.enclosed c i arg end copied is does has bare))
 
 pub name_step : (idioms : Idioms) (text : List ℕ) (at : ℕ) (out : List ℕ) (c : MacroCall) (put : List ℕ) (new_at : ℕ) (new : List ℕ)
     → IsPass idioms text at out → Contains (calls_in text) c → NamesVariable text c → at ≤ c.start → c.start ≤ c.end → c.end ≤ length text

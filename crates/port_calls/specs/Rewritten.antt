@@ -1,5 +1,5 @@
 -- What the calls of a text become. The offsets are those of the text that is read. All of this is own.
-use Rattle.std.specs.Prelude.{◌≡◌, ◌⊎◌, ℕ, ◌+◌, ◌-◌, ◌<◌, ◌≤◌, ◌==◌, ◌||◌, not, Bool, true, false, List, [], ◌∷◌, ◌++◌, length, slice_range, slice_index, slice_get, Some, Contains, bytes_eq, codes}
+use Rattle.std.specs.Prelude.{◌≡◌, ◌⊎◌, ℕ, ◌+◌, ◌-◌, ◌<◌, ◌≤◌, ◌==◌, ◌||◌, ◌&&◌, not, Bool, true, false, List, [], ◌∷◌, ◌++◌, length, slice_range, slice_index, slice_get, Some, Contains, bytes_eq, codes}
 use Rattle.std.specs.List.{list_all}
 use Rattle.ac_calls.specs.Calls.{MacroCall, calls_in}
 use Rattle.ac_calls.specs.declared.call.Extent.{Extent}
@@ -108,6 +108,25 @@ pub record IsBare (text : List ℕ) (arg : Extent) (end : ℕ) : Type 0 where
   pub plain : (at : ℕ) → arg.start ≤ at → at < end → is_bracket (slice_index text at) ≡ true → IsInCall text arg at
   pub blank : list_all is_blank (slice_range text end arg.end) ≡ true
 
+-- A macro of this name does what its argument at this index, counted from 0, says. acrun doesn't read it, and the table has an idiom for it.
+abbrev pub does_argument : List ℕ → ℕ → Bool
+does_argument name index =
+    ((bytes_eq name (codes "AC_TRY_COMPILE") || bytes_eq name (codes "AC_TRY_LINK") || bytes_eq name (codes "PKG_CHECK_MODULES")) && (index == 2 || index == 3))
+    || (bytes_eq name (codes "AC_TRY_RUN") && (index == 1 || index == 2 || index == 3))
+    || ((bytes_eq name (codes "AC_TRY_LINK_FUNC") || bytes_eq name (codes "AC_TRY_CPP")) && (index == 1 || index == 2))
+
+-- The call is one of a macro that does what its argument at this index says.
+abbrev pub DoesArgument : List ℕ → MacroCall → ℕ → Type 0
+DoesArgument text c index = does_argument (slice_range text c.start c.name_end) index ≡ true
+
+-- The same of an argument of a macro that acrun doesn't read: the calls are those of the argument's text up to this offset, read alone.
+pub record IsBareAlone (text : List ℕ) (arg : Extent) (end : ℕ) : Type 0 where
+  pub place : (arg.start ≤ end) × (end ≤ arg.end) × (arg.end ≤ length text)
+  pub whole : Extent
+  pub all : whole.start ≡ 0
+  pub alone : IsBare (slice_range text arg.start end) whole (length (slice_range text arg.start end))
+  pub blank : list_all is_blank (slice_range text end arg.end) ≡ true
+
 -- A text in brackets.
 abbrev pub in_brackets : List ℕ → List ℕ
 in_brackets text = 91 ∷ (text ++ 93 ∷ [])
@@ -175,11 +194,11 @@ before_output = codes "dnl acrun: in place of what is printed after AC_OUTPUT: i
 abbrev pub messages_first : List ℕ → List ℕ → List ℕ
 messages_first messages call = ((((before_output ++ 10 ∷ []) ++ messages) ++ 10 ∷ []) ++ call) ++ 10 ∷ []
 
--- One pass over the calls of a text has read so much of it, and written this. Everything is copied, with eight exceptions: a call that has
+-- One pass over the calls of a text has read so much of it, and written this. Everything is copied, with nine exceptions: a call that has
 -- to go, with blanks around it, may be replaced by what may be put in its place; in a call that declares an option the old name of
 -- AS_HELP_STRING may become the name; a backslash that joins two lines of a list of words may go; after a call that ends its line a newline
 -- and an indent may be put in place of the spaces; an argument of a macro that acrun reads, which has no brackets outside the calls in it,
--- may get a pair; so may the name of a variable that is spelled as a macro; and if all idioms are wanted, the lines that set GCC may be put
+-- may get a pair; so may an argument of another macro that does what it says, and the name of a variable that is spelled as a macro; and if all idioms are wanted, the lines that set GCC may be put
 -- after AC_PROG_CC, and messages after AC_OUTPUT may be put before it, if nothing else is there.
 pub data IsPass (idioms : Idioms) (text : List ℕ) : ℕ → List ℕ → Type 0 where
   begun : IsPass idioms text 0 []
@@ -193,6 +212,8 @@ pub data IsPass (idioms : Idioms) (text : List ℕ) : ℕ → List ℕ → Type 
       → IsPass idioms text end (out ++ 10 ∷ indent)
   bracketed : {out : List ℕ} (c : MacroCall) (i : ℕ) (arg : Extent) (end : ℕ) → IsPass idioms text arg.start out → Contains (calls_in text) c → c.is_of_profile ≡ true → slice_get c.args i ≡ Some arg
       → IsBare text arg end → IsPass idioms text end (out ++ in_brackets (slice_range text arg.start end))
+  enclosed : {out : List ℕ} (c : MacroCall) (i : ℕ) (arg : Extent) (end : ℕ) → IsPass idioms text arg.start out → Contains (calls_in text) c → DoesArgument text c i → slice_get c.args i ≡ Some arg
+      → IsBareAlone text arg end → IsPass idioms text end (out ++ in_brackets (slice_range text arg.start end))
   named : {out : List ℕ} (c : MacroCall) → IsPass idioms text c.start out → Contains (calls_in text) c → NamesVariable text c → c.end ≤ length text
       → IsPass idioms text c.end (out ++ in_brackets (slice_range text c.start c.end))
   checked : {out : List ℕ} (c : MacroCall) (put : List ℕ) → IsPass idioms text c.end out → Contains (calls_in text) c → idioms ≡ All → slice_range text c.start c.name_end ≡ codes "AC_PROG_CC" → SetsGnu put → c.end ≤ length text

@@ -159,7 +159,7 @@ fn text_before(text: &[u8], spot: Spot, at: usize) -> &[u8] {
 }
 
 /// Returns whether a text ends in `then` or `else`.
-fn ends_in_word(text: &[u8]) -> bool {
+pub(crate) fn ends_in_word(text: &[u8]) -> bool {
     let is_word = text.ends_with(b"then") || text.ends_with(b"else");
     let before = text.len().checked_sub(5).and_then(|at| text.get(at));
     is_word && !before.is_some_and(|byte| !is_blank(*byte) && *byte != b';')

@@ -5,7 +5,7 @@ ghost use Rattle.std.specs.List.{flat_map};
 ghost use Rattle.ac_calls.specs.Calls.{macro_call_of};
 ghost use Rattle.port_calls.specs.Put as specs;
 
-use crate::changes::name_of;
+use crate::rows::name_of;
 use ac_calls::CallAt;
 use lint_text::part;
 use port_idioms::text_of;

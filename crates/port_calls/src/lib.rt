@@ -18,7 +18,8 @@
 //!
 //! Read `specs/Put` (what is put) and `specs/Rewritten` (what is copied). `port_idioms` says which
 //! idioms are exact. In `src`, read `spots`, `around` and `bare` (where a call is, and what is
-//! before and after it), `changes`, `keeping` and `noting` (what a call becomes), `passing` (one pass over the
+//! before and after it), `rows` (its name in the table), `changes`, `readers`, `keeping`, `noted` and
+//! `noting` (what a call becomes), `passing` (one pass over the
 //! calls) with `joints`, `lines`, `brackets`, `names`, `gnu` and
 //! `output`, and then `passes`. The time of a pass is in
 //! proportion to the length of the text. A call fails only if memory runs out. "own" marks a rule
@@ -34,10 +35,13 @@ mod joints;
 mod keeping;
 mod lines;
 mod names;
+mod noted;
 mod noting;
 mod output;
 mod passes;
 mod passing;
+mod readers;
+mod rows;
 mod spots;
 mod writing;
 

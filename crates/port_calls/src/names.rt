@@ -81,7 +81,7 @@ fn is_after_brace(text: &[u8], at: usize) -> bool
 }
 
 /// Returns whether `=` is at an offset.
-fn is_before_value(text: &[u8], at: usize) -> bool
+pub(crate) fn is_before_value(text: &[u8], at: usize) -> bool
     ensures { IsTrue result → slice_range text.now at (at + 1) ≡ codes "=" }
 {
     at < text.len() && &text[at..at + 1] == b"=".as_slice()
@@ -126,7 +126,8 @@ fn put_name(
     write_change(text, call.start, call.end, put.as_slice(), pass)
 }
 
-/// Writes the name of a variable in brackets, unless the source defines a macro of that name.
+/// Writes the name of a variable in brackets, unless the source defines a macro of that name, or the
+/// name is in an argument without brackets, in which acrun takes none.
 pub(crate) fn pass_name(
     alloc: Global,
     idioms: Idioms,
@@ -140,10 +141,10 @@ pub(crate) fn pass_name(
     requires begun { specs.IsPass idioms text.now pass.old.at pass.old.out.items }
     ensures { OnOk result (specs.IsPass idioms text.now pass.new.at pass.new.out.items) }
 {
-    if known
+    let is_macro = known
         .defined
-        .contains(part(text, call.start, call.name_end))
-    {
+        .contains(part(text, call.start, call.name_end));
+    if is_macro || known.bare.get(call.start) == Some(&true) {
         return Ok(());
     }
     put_name(alloc, idioms, text, call, pass)

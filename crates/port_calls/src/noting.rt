@@ -6,7 +6,8 @@ ghost use Rattle.ac_calls.specs.Calls.{macro_call_of};
 ghost use Rattle.port_idioms.specs.Rows.{Differs};
 ghost use Rattle.port_calls.specs.Put as specs;
 
-use crate::changes::{name_of, texts};
+use crate::changes::texts;
+use crate::rows::name_of;
 use ac_calls::CallAt;
 use lint_macros::takes_list;
 use port_idioms::{Other, filled, text_of};

@@ -1,18 +1,16 @@
 -- The `if` of a shell between two offsets of a text, and its parts: the first condition, the first body, the next condition, the next
 -- body and so on, and the body after `else`. (POSIX shell, 2.9.4.1 "The if Conditional Construct")
-use Rattle.std.specs.Prelude.{◌≡◌, ◌⊎◌, ℕ, ◌<◌, ◌≤◌, true, false, List, [], ◌∷◌, ◌++◌, slice_range, slice_index, codes}
-use Rattle.std.specs.List.{list_any}
+use Rattle.std.specs.Prelude.{◌≡◌, ◌⊎◌, ℕ, ◌<◌, ◌≤◌, true, List, [], ◌∷◌, ◌++◌, slice_range, slice_index, codes}
 use Rattle.m4quote.specs.ItemValue.{bare}
 use Rattle.m4quote.specs.Spelling.{IsSpelling}
-use Rattle.port_compounds.specs.Parts.{HasNoHash, is_newline, IsListEnd, IsAtLineStart, IsBeforeSemicolon, IsStatement}
+use Rattle.port_compounds.specs.Parts.{HasNoHash, IsListEnd, IsAtLineStart, IsBeforeSemicolon, IsStatement}
 use Rattle.port_compounds.specs.Places.{is_blank, AreBlank, IsWord}
 
--- Between two offsets is a condition, which ends before a `;` or a newline. It is on one line, and has no `#`. (own)
+-- Between two offsets is a condition, which ends before a `;` or a newline. It has no `#`. (own)
 pub record IsConditionAt (text : List ℕ) (start end from to : ℕ) : Type 0 where
   pub order : (start < from) × (from ≤ to) × (to ≤ end)
   pub before : AreBlank text start from
   pub after : IsListEnd text to end
-  pub one_line : list_any is_newline (slice_range text from to) ≡ false
   pub no_comment : HasNoHash (slice_range text from to)
 
 -- Between these offsets is this condition. m4 finds neither a macro nor `dnl` in it. (own)

@@ -48,7 +48,7 @@ fn is_list_end_at(text: &[u8], start: usize, at: usize, end: usize) -> bool
 }
 
 /// Returns whether the end of a list of commands is between two offsets.
-fn is_list_end(text: &[u8], start: usize, end: usize) -> bool
+pub fn is_list_end(text: &[u8], start: usize, end: usize) -> bool
     ensures { IsTrue result → specs.IsListEnd text.now start end }
 {
     is_list_end_at(text, start, after_spaces(text, start), end)
@@ -125,7 +125,6 @@ fn is_condition(text: &[u8], start: usize, end: usize, from: usize, to: usize) -
         && end <= text.len()
         && are_blank(&text[start..from])
         && is_list_end(text, to, end)
-        && !has_newline(&text[from..to])
         && !has_hash(&text[from..to])
 }
 

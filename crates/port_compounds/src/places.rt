@@ -20,7 +20,7 @@ pub(crate) fn is_blank(byte: u8) -> bool
 }
 
 /// Returns whether there are blanks and newlines alone.
-pub(crate) fn are_blank(text: &[u8]) -> bool
+pub fn are_blank(text: &[u8]) -> bool
     ensures { result ≡ list_all specs.is_blank text.now }
 {
     text.iter().all(|byte| is_blank(*byte))

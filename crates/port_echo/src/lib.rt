@@ -9,11 +9,15 @@
 //! echo_message(b"echo a > b", 0, 0, 10)            // None
 //! ```
 //!
-//! Read `specs/Echo`, and then this crate from `printed` on. No call allocates, and none fails. "own"
+//! [`line_command`] returns the command of a line, whatever it is.
+//!
+//! Read `specs/Echo` and `specs/Commands`, and then this crate from `printed` on. No call allocates, and none fails. "own"
 //! marks a rule that no manual gives.
 #![tactic(auto)]
 
+mod command;
 mod line;
 mod printed;
 
+pub use command::{is_blank_echo, line_command};
 pub use line::echo_message;

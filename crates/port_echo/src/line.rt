@@ -7,7 +7,7 @@ use crate::printed::message_of;
 use port_compounds::{are_spaces, is_word};
 
 /// Returns whether a line begins at an offset.
-fn begins_line(text: &[u8], at: usize) -> bool
+pub(crate) fn begins_line(text: &[u8], at: usize) -> bool
     ensures { IsTrue result
         → (at ≡ 0) ⊎ ((0 < at) × (slice_index text.now (at - 1) ≡ 10)) }
 {
@@ -18,7 +18,7 @@ fn begins_line(text: &[u8], at: usize) -> bool
 }
 
 /// Returns whether a line ends at an offset.
-fn ends_line(text: &[u8], at: usize) -> bool
+pub(crate) fn ends_line(text: &[u8], at: usize) -> bool
     ensures { IsTrue result → (at ≡ length text.now) ⊎ (slice_index text.now at ≡ 10) }
 {
     if at >= text.len() {

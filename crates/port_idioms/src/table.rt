@@ -11,6 +11,7 @@ AC_CONST 0 0
 AC_C_CONST 0 0
 AC_C_CROSS 0 0
 AC_C_VOLATILE 0 0
+AC_DIAGNOSE 2 2
 AC_ERROR 1 1
 AC_EXEEXT 0 0
 AC_FUNC_CHECK 1 1
@@ -178,6 +179,8 @@ AC_PATH_TOOL 2 2 no program whose name begins with that of the host is looked fo
 AC_PATH_X 0 0 nothing is looked for, so the user gives X_CFLAGS and X_LIBS
 AC_PATH_XTRA 0 0 nothing is looked for, so the user gives X_CFLAGS and X_LIBS
 AC_PREFIX_DEFAULT 1 1 the prefix is the directory from here on, and not only from AC_OUTPUT on
+AC_PROG_CXX 0 1 no compiler is looked for, so it is that of GNU if the user gives none
+AC_PROG_CXXCPP 0 0 no preprocessor is tried, so it is that of GNU if the user gives none
 AC_PROG_EGREP 0 0 no program is looked for
 AC_PROG_FGREP 0 0 no program is looked for
 AC_PROG_GCC_TRADITIONAL 0 0 no flag is added
@@ -262,6 +265,8 @@ AX_PTHREAD 0 0 the library is added to LIBS, and PTHREAD_CFLAGS is -pthread with
 GCC 0 0 AC_PROG_CC does not set it here, so a program asks for __GNUC__
 LT_INIT 0 1 there is no libtool, so a rule of the Makefile links the library
 LT_PREREQ 0 1 there is no libtool, so a rule of the Makefile links the library
+PKG_CHECK_MODULES(actions) 4 4 no pkg-config is run, so the user gives the flags, and without those that link it is not found
+PKG_CHECK_MODULES(flags) 2 3 no pkg-config is run, so the user gives the flags, and without those that link it is an error
 PKG_PROG_PKG_CONFIG 0 1 no pkg-config is run, so the user gives what it prints
 gl_PROG_CC_C99 0 0 no flag is added
 gl_USE_SYSTEM_EXTENSIONS 0 0 only _GNU_SOURCE and __EXTENSIONS__ are defined, and config.h.in needs a line for each

@@ -1,1 +1,2 @@
 mod Becoming
+pub mod Spelling

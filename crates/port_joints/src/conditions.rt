@@ -47,12 +47,29 @@ fn without_and(alloc: Global, condition: &[u8]) -> Result<Bytes, AllocError>
 }
 
 /// Returns what a condition becomes.
-fn condition_text(alloc: Global, condition: &[u8]) -> Result<Bytes, AllocError>
+pub(crate) fn condition_text(alloc: Global, condition: &[u8]) -> Result<Bytes, AllocError>
     ensures { IfOk result (λ t. specs.Becomes condition.now t) }
 {
     match rejoined(alloc, condition, b"-a", b"&&")? {
         Some(put) => Ok(and_text(condition, put)),
         None => without_and(alloc, condition),
+    }
+}
+
+/// Returns what a condition becomes, unless it stays: in it `-a` and `-o` of `test` become `&&` and
+/// `||` if that means the same.
+///
+/// # Errors
+///
+/// Fails only if memory runs out.
+pub fn joined_condition(alloc: Global, condition: &[u8]) -> Result<Option<Bytes>, AllocError>
+    ensures { IfOk result (λ o. IfSome o (λ t. specs.Becomes condition.now t)) }
+{
+    let text = condition_text(alloc, condition)?;
+    if text.as_slice() == condition {
+        Ok(None)
+    } else {
+        Ok(Some(text))
     }
 }
 

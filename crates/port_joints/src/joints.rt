@@ -17,7 +17,7 @@ const LONGEST: usize = 1000;
 // ---- operands
 
 /// Returns whether the byte is a space or a tab.
-fn is_gap(byte: u8) -> bool
+pub(crate) fn is_gap(byte: u8) -> bool
     ensures { result ≡ specs.is_gap byte }
 {
     byte == b' ' || byte == b'\t'
@@ -443,7 +443,7 @@ fn has_special(text: &[u8]) -> bool
 }
 
 /// Returns whether the word is somewhere in the text.
-fn has_word(text: &[u8], word: &[u8]) -> bool {
+pub(crate) fn has_word(text: &[u8], word: &[u8]) -> bool {
     for i in 0..text.len() {
         if text[i..].starts_with(word) {
             return true;

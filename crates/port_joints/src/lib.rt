@@ -6,12 +6,16 @@
 //! test -n "$a" -o -z "$b" -a "$c"     // stays, since -a binds closer than -o
 //! ```
 //!
+//! [`respelled`] writes `=` and `!=` in the place of `==`, `-eq` and `-ne`.
+//!
 //! Read `specs/Joints`, which says what conditions become, and then `joints` (one condition) and
-//! `conditions` (the parts of a statement, as `port_compounds` gives them). A call fails only if
-//! memory runs out. "own" marks a rule that no manual gives.
+//! `conditions` (the parts of a statement, as `port_compounds` gives them), and then
+//! `specs/Spelled` and `spelled`. A call fails only if memory runs out. "own" marks a rule that no manual gives.
 #![tactic(auto)]
 
 mod conditions;
 mod joints;
+mod spelled;
 
-pub use conditions::joined_texts;
+pub use conditions::{joined_condition, joined_texts};
+pub use spelled::respelled;

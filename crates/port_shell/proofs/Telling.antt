@@ -2,14 +2,17 @@
 use Rattle.std.proofs.Common.{◌≡◌, ℕ, ◌≤◌, List, [], ◌∷◌, ◌++◌, length, Result, Ok, Err, is_ok, OnOk, if◌then◌else◌, slice_range, sym, subst, ap, ◌∙◌, arith}
 use Rattle.std.specs.Prelude.{codes}
 use Rattle.port_echo.specs.Echo.{IsEcho}
+use Rattle.port_echo.specs.Commands.{IsCommandLine}
 use Rattle.port_shell.specs.Calls.{IsPut}
-use Rattle.port_shell.specs.Told.{IsToldTo, noted}
+use Rattle.port_shell.specs.Told.{IsToldTo, Speaks, Unsets, noted, noted_so}
 use Rattle.port_shell.specs.Told as specs
 
 pub told_bound : (text : List ℕ) (at : ℕ) (out : List ℕ) → IsToldTo text at out → at ≤ length text
 told_bound text at out specs.IsToldTo.begun = omega arith
 told_bound text at out (specs.IsToldTo.copied next before from to) = to
 told_bound text at out (specs.IsToldTo.told echo end message call before is puts) = is.line.order.2
+told_bound text at out (specs.IsToldTo.spoken place end command name args said call before is speaks puts) = is.order.2
+told_bound text at out (specs.IsToldTo.cleared place end command name before is unsets) = is.order.2
 
 pub told_step : (text : List ℕ) (read : ℕ) (out : List ℕ) (start at end : ℕ) (message call put : List ℕ) (new_at : ℕ) (new : List ℕ)
     → IsToldTo text read out → IsEcho text start at end message → IsPut (codes "AC_MSG_RESULT") (message ∷ []) call → read ≤ start → start ≤ length text
@@ -22,3 +25,20 @@ pub told_end : {T E : Type 0} (r : Result T E) (text : List ℕ) (at : ℕ) (out
     → new ≡ (if is_ok r then out ++ slice_range text at (length text) else out) → OnOk r (IsToldTo text (length text) new)
 told_end (Ok v) text at out new before is = subst (IsToldTo text (length text)) (sym is) (specs.IsToldTo.copied (length text) before (told_bound text at out before) (omega arith))
 told_end (Err e) text at out new before is = tt
+
+pub spoken_step : (text : List ℕ) (read : ℕ) (out : List ℕ) (start at end : ℕ) (command name : List ℕ) (args : List (List ℕ)) (said call put : List ℕ) (new_at : ℕ) (new : List ℕ)
+    → IsToldTo text read out → IsCommandLine text start at end command → Speaks command name args said → IsPut name args call → read ≤ start → start ≤ length text
+    → put ≡ noted_so (slice_range text start at) said call → (new_at ≡ end) × (new ≡ (out ++ slice_range text read start) ++ put) → IsToldTo text new_at new
+spoken_step text read out start at end command name args said call put new_at new before is speaks puts from within put_is (at_is, new_is) =
+    subst (λ a. IsToldTo text a new) (sym at_is)
+    (subst (IsToldTo text end) (sym (new_is ∙ ap (λ p. (out ++ slice_range text read start) ++ p) put_is))
+    (specs.IsToldTo.spoken at end command name args said call (specs.IsToldTo.copied start before from within) is speaks puts))
+
+pub cleared_step : (text : List ℕ) (read : ℕ) (out : List ℕ) (start at end : ℕ) (command name put : List ℕ) (new_at : ℕ) (new : List ℕ)
+    → IsToldTo text read out → IsCommandLine text start at end command → Unsets command name → read ≤ start → start ≤ length text
+    → put ≡ noted_so (slice_range text start at) (codes "unset: the variable is empty") (name ++ 61 ∷ [])
+    → (new_at ≡ end) × (new ≡ (out ++ slice_range text read start) ++ put) → IsToldTo text new_at new
+cleared_step text read out start at end command name put new_at new before is unsets from within put_is (at_is, new_is) =
+    subst (λ a. IsToldTo text a new) (sym at_is)
+    (subst (IsToldTo text end) (sym (new_is ∙ ap (λ p. (out ++ slice_range text read start) ++ p) put_is))
+    (specs.IsToldTo.cleared at end command name (specs.IsToldTo.copied start before from within) is unsets))

@@ -1,13 +1,17 @@
 -- What the statements of a shell in a text become. The offsets are those of the text that is read. All of this is own.
-use Rattle.std.specs.Prelude.{◌≡◌, ℕ, ◌≤◌, true, List, [], ◌∷◌, ◌++◌, length, slice_range, codes}
+use Rattle.std.specs.Prelude.{◌≡◌, ◌⊎◌, ℕ, ◌+◌, ◌<◌, ◌≤◌, true, List, [], ◌∷◌, ◌++◌, length, slice_range, slice_index, slice_get, Some, Contains, codes}
 use Rattle.std.specs.List.{list_all}
+use Rattle.ac_calls.specs.Calls.{MacroCall, calls_in}
+use Rattle.ac_calls.specs.declared.call.Extent.{Extent}
 use Rattle.port_compounds.specs.Cases.{IsCase}
 use Rattle.port_compounds.specs.Guards.{IsGuarded, ReadsStatus}
 use Rattle.port_compounds.specs.Ifs.{IsIf}
-use Rattle.port_compounds.specs.Places.{is_space}
+use Rattle.port_compounds.specs.Parts.{IsListEnd}
+use Rattle.port_compounds.specs.Places.{is_space, AreBlank, IsWord}
 use Rattle.port_idioms.specs.declared.idioms.Idioms.{Idioms}
 use Rattle.port_idioms.specs.declared.idioms.Idioms.TheVariants.{All}
-use Rattle.port_joints.specs.Joints.{AllBecome}
+use Rattle.port_joints.specs.Joints.{AllBecome, Becomes}
+use Rattle.port_joints.specs.Spelled.{IsRespelled}
 use Rattle.port_shell.specs.Calls.{IsPut}
 
 -- The comment above a statement that has the first call of its kind: what the macro requires is then checked before AS_IF or AS_CASE, and
@@ -20,10 +24,46 @@ pub data IsNote : Idioms → List ℕ → Type 0 where
   nothing : {idioms : Idioms} → IsNote idioms []
   comment : (indent : List ℕ) → list_all is_space indent ≡ true → IsNote All (noted indent)
 
+-- `if` or `elif` is at the first of these offsets, and its condition is between the other two. (POSIX shell, 2.9.4.1)
+pub record IsIfTest (text : List ℕ) (start from to : ℕ) : Type 0 where
+  pub after : ℕ
+  pub at_then : ℕ
+  pub word : IsWord text start (codes "if") after ⊎ IsWord text start (codes "elif") after
+  pub order : (start ≤ after) × (after < from)
+  pub before : AreBlank text after from
+  pub ends : IsListEnd text to at_then
+  pub after_then : ℕ
+  pub follows : IsWord text at_then (codes "then") after_then
+
+-- A call of AS_IF is at the first of these offsets, and its condition is between the other two: its first argument is that in brackets.
+pub record IsCallTest (text : List ℕ) (start from to : ℕ) : Type 0 where
+  pub call : MacroCall
+  pub arg : Extent
+  pub is_there : Contains (calls_in text) call
+  pub begins : call.start ≡ start
+  pub macro : slice_range text call.start call.name_end ≡ codes "AS_IF"
+  pub first : slice_get call.args 0 ≡ Some arg
+  pub opened : (arg.start + 1 ≡ from) × (slice_index text arg.start ≡ 91)
+  pub closed : (to < arg.end) × (slice_index text to ≡ 93)
+
+-- One of the two is at the first of these offsets.
+pub data IsTestAt (text : List ℕ) (start from to : ℕ) : Type 0 where
+  of_if : IsIfTest text start from to → IsTestAt text start from to
+  of_call : IsCallTest text start from to → IsTestAt text start from to
+
+-- The offsets are in this order.
+abbrev pub AreOrdered : List ℕ → ℕ → ℕ → ℕ → Type 0
+AreOrdered text start from to = (start ≤ from) × (from ≤ to) × (to ≤ length text)
+
+-- The comment above a condition that is spelled otherwise. After it come a newline and the indent of the statement.
+unfoldable pub spelled_so : List ℕ → List ℕ
+spelled_so indent = codes "dnl acrun: in place of ==, -eq or -ne: the words are compared as texts" ++ 10 ∷ indent
+
 -- One pass over a text has read so much of it, and written this. Everything is copied, but an `if` may become the call of AS_IF with the
 -- same conditions and bodies in the same order, and a `case` that of AS_CASE with the same word, patterns and bodies.
 -- If the text reads no status of a command, a statement after `&&` or `||` may become the call of AS_IF with its condition and itself. In a
--- condition of AS_IF, `-a` and `-o` of `test` may become `&&` and `||`. If all idioms are wanted, a comment may be right before the call.
+-- condition of AS_IF, `-a` and `-o` of `test` may become `&&` and `||`. If all idioms are wanted, a comment may be right before the call, and
+-- in a condition of an `if` or of AS_IF `==`, `-eq` and `-ne` may be spelled otherwise, with a comment right before the statement.
 pub data IsPass (idioms : Idioms) (text : List ℕ) : ℕ → List ℕ → Type 0 where
   begun : IsPass idioms text 0 []
   copied : {at : ℕ} {out : List ℕ} (next : ℕ) → IsPass idioms text at out → at ≤ next → next ≤ length text → IsPass idioms text next (out ++ slice_range text at next)
@@ -33,6 +73,10 @@ pub data IsPass (idioms : Idioms) (text : List ℕ) : ℕ → List ℕ → Type 
       → IsNote idioms note → IsPut (codes "AS_CASE") parts put → IsPass idioms text end (out ++ (note ++ put))
   guarded : {at : ℕ} {out : List ℕ} (end : ℕ) (parts texts : List (List ℕ)) (note put : List ℕ) → IsPass idioms text at out → IsGuarded text at end parts
       → (ReadsStatus text → ⊥) → AllBecome parts texts → IsNote idioms note → IsPut (codes "AS_IF") texts put → IsPass idioms text end (out ++ (note ++ put))
+  tested : {from : ℕ} {out : List ℕ} (start to : ℕ) (put : List ℕ) → IsPass idioms text from out → IsTestAt text start from to → AreOrdered text start from to
+      → Becomes (slice_range text from to) put → IsPass idioms text to (out ++ put)
+  respelled : {start : ℕ} {out : List ℕ} (from to : ℕ) (put indent : List ℕ) → idioms ≡ All → IsPass idioms text start out → IsTestAt text start from to → AreOrdered text start from to
+      → IsRespelled (slice_range text from to) put → list_all is_space indent ≡ true → IsPass idioms text to (out ++ (spelled_so indent ++ (slice_range text start from ++ put)))
 
 -- A pass that has read the text up to `start` may put this, after a note, in the place of what is between the offsets.
 unfoldable pub MayPut : List ℕ → ℕ → ℕ → List ℕ → Type 0

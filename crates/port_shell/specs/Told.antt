@@ -1,19 +1,53 @@
--- What the lines with an `echo` become. The offsets are those of the text that is read. All of this is own.
-use Rattle.std.specs.Prelude.{ℕ, ◌≤◌, List, [], ◌∷◌, ◌++◌, length, slice_range, codes}
+-- What the lines with an `echo`, an `exit` or an `unset` become. The offsets are those of the text that is read. All of this is own.
+use Rattle.std.specs.Prelude.{◌≡◌, ℕ, ◌<◌, ◌≤◌, ◌==◌, ◌||◌, nat_lt, ◌&&◌, Bool, true, List, [], ◌∷◌, ◌++◌, length, slice_index, slice_range, codes}
+use Rattle.std.specs.List.{list_all}
+use Rattle.std.specs.Char.{is_ascii_alphanumeric}
 use Rattle.port_echo.specs.Echo.{IsEcho}
+use Rattle.port_echo.specs.Commands.{IsCommandLine, IsBlankEcho}
 use Rattle.port_shell.specs.Calls.{IsPut}
 
 -- A comment, and below it a call, each after the indent. The comment says in what the call differs from `echo`.
 unfoldable pub noted : List ℕ → List ℕ → List ℕ
 noted indent call = (indent ++ codes "dnl acrun: in place of echo: -q drops the line") ++ 10 ∷ (indent ++ call)
 
+-- A digit that isn't 0.
+abbrev pub is_status : ℕ → Bool
+is_status b = nat_lt 48 b && nat_lt b 58
+
+-- A call that takes the place of a command: the name of the macro, its arguments, and in what it differs. `echo` without words prints an
+-- empty line, and `exit` with a digit that isn't 0 ends the run with that status.
+pub data Speaks (command : List ℕ) : List ℕ → List (List ℕ) → List ℕ → Type 0 where
+  blank : IsBlankEcho command → Speaks command (codes "AC_MSG_RESULT") ([] ∷ []) (codes "echo: -q drops the line")
+  ends : (status : List ℕ) → command ≡ codes "exit " ++ status → length status ≡ 1 → list_all is_status status ≡ true
+      → Speaks command (codes "AC_MSG_ERROR") (command ∷ status ∷ []) (codes "exit: an error is printed")
+
+-- A byte of a variable's name.
+abbrev pub is_of_name : ℕ → Bool
+is_of_name b = is_ascii_alphanumeric b || b == 95
+
+-- The command unsets this variable alone.
+pub record Unsets (command name : List ℕ) : Type 0 where
+  pub is : command ≡ codes "unset " ++ name
+  pub some : 0 < length name
+  pub plain : list_all is_of_name name ≡ true
+
+-- A comment with these words, and below it a text, each after the indent.
+unfoldable pub noted_so : List ℕ → List ℕ → List ℕ → List ℕ
+noted_so indent said put = ((indent ++ codes "dnl acrun: in place of ") ++ said) ++ 10 ∷ (indent ++ put)
+
 -- So much of a text has been read, and this was written: everything is copied, but a line that prints a message by `echo` may become a
--- comment and the call of AC_MSG_RESULT with the message, after the line's indent.
+-- comment and the call of AC_MSG_RESULT with the message, after the line's indent. A line with another command may become a comment and the
+-- call that takes its place; and one that unsets a variable, a comment and an assignment of nothing.
 pub data IsToldTo (text : List ℕ) : ℕ → List ℕ → Type 0 where
   begun : IsToldTo text 0 []
   copied : {at : ℕ} {out : List ℕ} (next : ℕ) → IsToldTo text at out → at ≤ next → next ≤ length text → IsToldTo text next (out ++ slice_range text at next)
   told : {start : ℕ} {out : List ℕ} (at end : ℕ) (message call : List ℕ) → IsToldTo text start out → IsEcho text start at end message
       → IsPut (codes "AC_MSG_RESULT") (message ∷ []) call → IsToldTo text end (out ++ noted (slice_range text start at) call)
+  spoken : {start : ℕ} {out : List ℕ} (at end : ℕ) (command name : List ℕ) (args : List (List ℕ)) (said call : List ℕ) → IsToldTo text start out
+      → IsCommandLine text start at end command → Speaks command name args said → IsPut name args call
+      → IsToldTo text end (out ++ noted_so (slice_range text start at) said call)
+  cleared : {start : ℕ} {out : List ℕ} (at end : ℕ) (command name : List ℕ) → IsToldTo text start out → IsCommandLine text start at end command → Unsets command name
+      → IsToldTo text end (out ++ noted_so (slice_range text start at) (codes "unset: the variable is empty") (name ++ 61 ∷ []))
 
 -- The whole text becomes this one.
 abbrev pub IsTold : List ℕ → List ℕ → Type 0

@@ -159,11 +159,12 @@ impl Compounds {
         }
     }
 
-    /// Notes an `echo` that is a statement of a list that calls may be put in.
-    fn read_echo(&mut self, text: &[u8], word: Word, is_quoted: bool) -> Result<(), AllocError> {
-        let is_echo = text == b"echo".as_slice() && word.is_plain && !is_quoted;
-        if is_echo && self.begins_call() && !self.is_function {
-            self.found.push(Cut::Echo(word.start))?;
+    /// Notes an `echo`, an `exit` or an `unset` that is a statement of a list that calls may be put
+    /// in.
+    fn read_line(&mut self, text: &[u8], word: Word, is_quoted: bool) -> Result<(), AllocError> {
+        let is_line = matches!(text, b"echo" | b"exit" | b"unset") && word.is_plain && !is_quoted;
+        if is_line && self.begins_call() && !self.is_function {
+            self.found.push(Cut::Line(word.start))?;
         }
         Ok(())
     }
@@ -501,7 +502,7 @@ impl Compounds {
         }
         self.fill_paren();
         self.read_guard(text, word, is_quoted);
-        self.read_echo(text, word, is_quoted)?;
+        self.read_line(text, word, is_quoted)?;
         if self.front == Front::Further {
             return Ok(false);
         }

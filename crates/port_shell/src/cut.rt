@@ -8,8 +8,8 @@ pub(crate) enum Cut {
     If(IfCut),
     Case(CaseCut),
     Guard(GuardCut),
-    /// The offset of an `echo`.
-    Echo(usize),
+    /// The offset of an `echo`, an `exit` or an `unset`.
+    Line(usize),
 }
 
 impl Cut {
@@ -19,17 +19,17 @@ impl Cut {
             Cut::If(cut) => cut.start,
             Cut::Case(cut) => cut.start,
             Cut::Guard(cut) => cut.start,
-            Cut::Echo(at) => *at,
+            Cut::Line(at) => *at,
         }
     }
 
-    /// Returns the offset after its last byte. Of an `echo` only the first byte is known.
+    /// Returns the offset after its last byte. Of a line only the first byte of its command is known.
     pub(crate) fn end(&self) -> usize {
         match self {
             Cut::If(cut) => cut.end,
             Cut::Case(cut) => cut.end,
             Cut::Guard(cut) => cut.end,
-            Cut::Echo(at) => *at,
+            Cut::Line(at) => *at,
         }
     }
 }

@@ -1,4 +1,4 @@
-//! Lines with an `echo`, which become messages.
+//! Lines with an `echo`, an `exit` or an `unset`, which become messages or assignments.
 
 ghost use Rattle.std.specs.Prelude.{◌≡◌, ◌≤◌, ◌∷◌, ◌++◌, [], length, slice_range, codes, IfOk, IfSome, OnOk};
 ghost use Rattle.port_echo.specs.Echo.{IsEcho};
@@ -6,6 +6,7 @@ ghost use Rattle.port_shell.specs.Calls.{IsPut};
 ghost use Rattle.port_shell.specs.Told as specs;
 
 use crate::calls::accepted_call;
+use crate::commands::pass_command;
 use crate::cut::Cut;
 use crate::lists::cuts_in;
 use crate::passing::{Pass, write_change};
@@ -88,7 +89,7 @@ fn pass_message(
 }
 
 /// Writes a message in place of the line of an `echo` at an offset, if it is known what that
-/// prints.
+/// prints, or what takes the place of another command there.
 fn pass_echo(alloc: Global, text: &[u8], at: usize, pass: &mut Pass) -> Result<(), AllocError>
     requires begun { specs.IsToldTo text.now pass.old.at pass.old.out.items }
     ensures { OnOk result (specs.IsToldTo text.now pass.new.at pass.new.out.items) }
@@ -97,7 +98,7 @@ fn pass_echo(alloc: Global, text: &[u8], at: usize, pass: &mut Pass) -> Result<(
     let end = line_end(text, at);
     match echo_message(text, start, at, end) {
         Some(message) => pass_message(alloc, text, start, at, end, message, pass),
-        None => Ok(()),
+        None => pass_command(alloc, text, start, at, end, pass),
     }
 }
 
@@ -107,7 +108,7 @@ fn pass_echoes(alloc: Global, text: &[u8], cuts: &[Cut], pass: &mut Pass) -> Res
     ensures { OnOk result (specs.IsToldTo text.now pass.new.at pass.new.out.items) }
 {
     for i in 0..cuts.len() {
-        if let Cut::Echo(at) = &cuts[i] {
+        if let Cut::Line(at) = &cuts[i] {
             pass_echo(alloc, text, *at, pass)?;
         }
     }
@@ -123,14 +124,16 @@ fn copy_rest(text: &[u8], pass: &mut Pass) -> Result<(), AllocError>
 }
 
 /// Returns the text with each `echo` that has a line of its own as a message, below a comment, if
-/// what it prints is known. Other than `echo`, a message is dropped by `-q`.
+/// what it prints is known. Other than `echo`, a message is dropped by `-q`. So an `exit` with a
+/// status becomes an error, and an `unset` of a variable an assignment of nothing.
 ///
 /// # Errors
 ///
 /// Fails only if memory runs out.
 pub fn told(alloc: Global, text: &[u8]) -> Result<Vec<u8>, AllocError>
-    // A line with an `echo` may become a comment and the call of AC_MSG_RESULT with what it prints.
-    // All else is copied.
+    // A line with an `echo` may become a comment and the call of AC_MSG_RESULT with what it prints,
+    // one with an `exit` a comment and the call of AC_MSG_ERROR, and one with an `unset` a comment
+    // and an assignment. All else is copied.
     ensures told { IfOk result (λ v. specs.IsTold text.now v.items) }
 {
     let calls = calls_of(alloc, text)?;

@@ -23,11 +23,14 @@
 //! `puts` joins the two. `needs` finds where Autoconf makes checks that macros require, of which
 //! nothing is proved either, and `noting` writes the comment there. `reasons` says why
 //! statements stay. `passing` is one pass over a
-//! text, and `echoes` one over its lines with an `echo`. A call fails only if memory runs out. "own" marks a rule that no manual gives.
+//! text, `conditions` one over its conditions, and `echoes` and `commands` one over its lines with an
+//! `echo` and its like. A call fails only if memory runs out. "own" marks a rule that no manual gives.
 #![tactic(auto)]
 
 mod calls;
+mod commands;
 mod compounds;
+mod conditions;
 mod cut;
 mod echoes;
 mod lists;

@@ -1,8 +1,9 @@
 //! Passes over a text, until nothing is rewritten.
 
-ghost use Rattle.std.specs.Prelude.{IfOk};
+ghost use Rattle.std.specs.Prelude.{length, IfOk, IfSome};
 ghost use Rattle.port_shell.specs.Formed as specs;
 
+use crate::conditions::tested_once;
 use crate::passing::formed_once;
 use port_idioms::Idioms;
 use std::alloc::{AllocError, Global};
@@ -11,8 +12,23 @@ use std::alloc::{AllocError, Global};
 /// rewritten.
 const PASSES: usize = 70;
 
+/// Returns the text with its conditions written otherwise, or if none is, with its statements
+/// rewritten, or `None` if nothing can be.
+fn passed_once(alloc: Global, idioms: Idioms, text: &[u8]) -> Result<Option<Vec<u8>>, AllocError>
+    ensures { IfOk result (λ o.
+        IfSome o (λ v. specs.IsPass idioms text.now (length text.now) v.items)) }
+{
+    match tested_once(alloc, idioms, text)? {
+        Some(next) => Ok(Some(next)),
+        None => formed_once(alloc, idioms, text),
+    }
+}
+
 /// Returns the text with each statement of a shell rewritten that means the same as one that acrun
 /// reads.
+///
+/// In the condition of AS_IF `-a` and `-o` become `&&` and `||`. If all idioms are wanted, `==`,
+/// `-eq` and `-ne` in a condition of `if` or AS_IF become `=` and `!=`, below a comment.
 ///
 /// Autoconf makes the checks that a macro requires before the first call that requires them. If
 /// that is in a statement, they are made within it, but before AS_IF or AS_CASE once it is one. So
@@ -23,12 +39,13 @@ const PASSES: usize = 70;
 /// Fails only if memory runs out.
 pub fn formed(alloc: Global, idioms: Idioms, text: &[u8]) -> Result<Vec<u8>, AllocError>
     // An `if` or a guarded statement may become the call of AS_IF with its parts, and a `case` that
-    // of AS_CASE. If all idioms are wanted, a comment may be right before it. All else is copied.
+    // of AS_CASE. If all idioms are wanted, a comment may be right before it. In a condition `-a`,
+    // `-o`, `==`, `-eq` and `-ne` may be written otherwise. All else is copied.
     ensures formed { IfOk result (λ v. specs.IsFormed idioms text.now v.items) }
 {
     let mut out = Vec::from_slice(alloc, text)?;
     for _ in 0..PASSES {
-        match formed_once(alloc, idioms, out.as_slice())? {
+        match passed_once(alloc, idioms, out.as_slice())? {
             Some(next) => out = next,
             None => break,
         }

@@ -241,7 +241,7 @@ fn pass_cut(
         Cut::If(cut) => pass_if(alloc, idioms, drawing, text, cut, pass),
         Cut::Case(cut) => pass_case(alloc, idioms, drawing, text, cut, pass),
         Cut::Guard(cut) => pass_guard(alloc, idioms, drawing, text, *cut, reads, pass),
-        Cut::Echo(_) => Ok(()),
+        Cut::Line(_) => Ok(()),
     }
 }
 

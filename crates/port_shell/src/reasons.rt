@@ -77,7 +77,7 @@ fn refusal_of(alloc: Global, text: &[u8], cut: &Cut) -> Result<Option<Bytes>, Al
         Cut::If(cut) => refusal_of_if(alloc, text, cut),
         Cut::Case(cut) => refusal_of_case(alloc, text, cut),
         Cut::Guard(cut) => refusal_of_guard(alloc, text, *cut),
-        Cut::Echo(_) => Ok(None),
+        Cut::Line(_) => Ok(None),
     }
 }
 

@@ -48,6 +48,8 @@ if test a = b; then x=1; y=2 ; fi => AS_IF([test a = b], [x=1; y=2])
 if test a = b; then x=1;^Jfi => AS_IF([test a = b], [x=1;^J])
 if test a = b;then^Ix=1;fi => AS_IF([test a = b], [x=1])
 if test a = b; then^M^J  x=1^M^Jfi^M^J => AS_IF([test a = b], [^J  x=1^M^J])^M^J
+if test a = b &&^J  test c; then x=1; fi => AS_IF([test a = b &&^J  test c], [x=1])
+if test a ||^J   ! test b^Jthen x=1; elif test c &&^Jtest d; then x=2; fi => AS_IF([test a ||^J   ! test b], [x=1], [test c &&^Jtest d], [x=2])
 // nested
 if a; then^J if test b; then^J  x=1^J fi^Jfi => if a; then^J AS_IF([test b], [^J  x=1^J ])^Jfi
 if :; then^J if test b; then^J  x=1^J fi^Jfi => AS_IF([:], [^J AS_IF([test b], [^J  x=1^J ])^J])
@@ -94,6 +96,7 @@ if :; then AC_OUTPUT; fi => the same
 if test a = AC_FOO; then x=1; fi => the same
 if test a = dnl; then x=1; fi => the same
 if test -n^J"$a"; then x=1; fi => the same
+if test a^Jtest b; then x=1; fi => the same
 if test a && \^J  test b; then x=1; fi => the same
 if :; then x=1 \^Jfi => the same
 if :; then x=1; fi; fi => AS_IF([:], [x=1]); fi
@@ -137,6 +140,15 @@ if test -a b; then x=1; fi => the same
 if test a-a b; then x=1; fi => the same
 if test a -ab; then x=1; fi => the same
 if :; then x=1; else test a -a b; fi => the same
+// in AS_IF itself
+AS_IF([test a -a "$b"], [x=1]) => AS_IF([test a && test "$b"], [x=1])
+AS_IF([test a -o b ], [x=1], [AS_IF([test c -a d], [x=2])]) => AS_IF([test a || test b ], [x=1], [AS_IF([test c && test d], [x=2])])
+AS_IF([:], [x=1], [test a -a b], [x=2]) => the same
+AS_IF(test a -a b, [x=1]) => the same
+AS_IF([test a -o b -a c], [x=1]) => the same
+AS_IF([test a -a -f b], [x=1]) => the same
+AS_IF([test a == b], [x=1]) => the same
+if test a == b; then x=1; fi => the same
 // the first call that requires something of Autoconf
 if :; then AC_CHECK_HEADERS([a.h]); fi => the same
 if :; then AC_CHECK_FUNC([a]); fi => the same
@@ -192,4 +204,33 @@ case $a in b) AC_CHECK_HEADERS([a.h]) ;; esac => dnl acrun: in place of a statem
 #[test]
 fn drawing(rt: HostRuntime) -> Result<(), Fail> {
     try_rows(rt.alloc(), &Noted, DRAWING)
+}
+
+/// A text with a test that isn't one of POSIX, or that compares numbers, and what becomes of it by
+/// all idioms.
+const SPELLED: &[u8] = br##"
+if test "$a" == b; then x=1; fi => dnl acrun: in place of ==, -eq or -ne: the words are compared as texts^JAS_IF([test "$a" = b], [x=1])
+  AS_IF([test "$a" == b -a "$c" == d], [x=1]) =>   dnl acrun: in place of ==, -eq or -ne: the words are compared as texts^J  AS_IF([test "$a" = b && test "$c" = d], [x=1])
+if test $a -eq 10; then^J  x=1^Jelif test 1 -ne 0; then^J  x=2^Jfi => dnl acrun: in place of ==, -eq or -ne: the words are compared as texts^JAS_IF([test $a = 10], [^J  x=1^Jdnl acrun: in place of ==, -eq or -ne: the words are compared as texts^J], [test 1 != 0], [^J  x=2^J])
+if test "$a" == "b == c"; then x=1; fi => dnl acrun: in place of ==, -eq or -ne: the words are compared as texts^JAS_IF([test "$a" = "b == c"], [x=1])
+AS_IF([test "$a" == b && ! test "$c" == d], [x=1]) => dnl acrun: in place of ==, -eq or -ne: the words are compared as texts^JAS_IF([test "$a" = b && ! test "$c" = d], [x=1])
+if test -f a; then^J  if test a == b; then x=1; fi^Jfi => if test -f a; then^J  dnl acrun: in place of ==, -eq or -ne: the words are compared as texts^J  AS_IF([test a = b], [x=1])^Jfi
+// which stay
+if test "$a" -eq 01; then x=1; fi => the same
+if test "$a" -eq "$b"; then x=1; fi => the same
+if test "$a" -eq -1; then x=1; fi => the same
+if test "$a" -eq 1a; then x=1; fi => the same
+if test "$a" -gt 1; then x=1; fi => the same
+if test 'a == b' == c; then x=1; fi => the same
+if test a == b -o c -a d; then x=1; fi => the same
+if test -f a == b; then x=1; fi => the same
+if a == b; then x=1; fi => the same
+a=1; if test a == b; then x=1; fi => the same
+AC_ARG_WITH([a], [b],^JAS_IF([test c == d], [x=1])) => the same
+test a == b && x=1 => the same
+"##;
+
+#[test]
+fn spelled(rt: HostRuntime) -> Result<(), Fail> {
+    try_rows(rt.alloc(), &Noted, SPELLED)
 }

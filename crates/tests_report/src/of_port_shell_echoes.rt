@@ -27,6 +27,23 @@ if test -n "$a"; then^J  echo "a: $a (b)"^Jfi => if test -n "$a"; then^J  dnl ac
 AS_IF([a], [^Jecho b]) => the same
 AS_IF([a], [^Jecho b^J]) => AS_IF([a], [^Jdnl acrun: in place of echo: -q drops the line^JAC_MSG_RESULT([b])^J])
 echo '  a ' => dnl acrun: in place of echo: -q drops the line^JAC_MSG_RESULT([  a ])
+echo => dnl acrun: in place of echo: -q drops the line^JAC_MSG_RESULT([])
+  echo "" =>   dnl acrun: in place of echo: -q drops the line^J  AC_MSG_RESULT([])
+echo '' => dnl acrun: in place of echo: -q drops the line^JAC_MSG_RESULT([])
+// other commands
+echo a^J  exit 1 => dnl acrun: in place of echo: -q drops the line^JAC_MSG_RESULT([a])^J  dnl acrun: in place of exit: an error is printed^J  AC_MSG_ERROR([exit 1], [1])
+unset a_b => dnl acrun: in place of unset: the variable is empty^Ja_b=
+exit 0 => the same
+exit 10 => the same
+exit $a => the same
+exit => the same
+exit 1 # a => the same
+unset a b => the same
+unset -v a => the same
+unset $a => the same
+unset => the same
+for a in b; do^Jexit 1^Jdone => the same
+a || exit 1 => the same
 // what a shell reads otherwise
 echo a  b => the same
 echo -n a => the same
@@ -39,7 +56,7 @@ echo a* => the same
 echo "a\b" => the same
 echo 'a$b' => the same
 echo "a" 'b' => the same
-echo => the same
+echo -n => the same
 echo  a => the same
 echo a dnl b => the same
 echo [a] => the same

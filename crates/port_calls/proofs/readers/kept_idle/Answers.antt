@@ -2,7 +2,7 @@ use Rattle.std.proofs.Common.{subst, sym, ap, ◌∙◌, ◌++◌, ◌∷◌, []
 use Rattle.ac_calls.specs.Calls.{macro_call_of}
 use Rattle.port_calls.specs.Put.{IsPut}
 use Rattle.port_calls.specs.Put as specs
-use Rattle.port_calls.proofs.changes.kept_idle.Goals as goal
+use Rattle.port_calls.proofs.readers.kept_idle.Goals as goal
 
 pub returns : goal.returns
 returns c =

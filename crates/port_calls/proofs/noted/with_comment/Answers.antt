@@ -2,7 +2,7 @@ use Rattle.std.proofs.Common.{subst, sym}
 use Rattle.ac_calls.specs.Calls.{macro_call_of}
 use Rattle.port_calls.specs.Put.{IsNoted}
 use Rattle.port_calls.specs.Put as specs
-use Rattle.port_calls.proofs.changes.with_comment.Goals as goal
+use Rattle.port_calls.proofs.noted.with_comment.Goals as goal
 
 pub returns : goal.returns
 returns c =

@@ -2,7 +2,7 @@ use Rattle.std.proofs.Common.{subst, sym}
 use Rattle.ac_calls.specs.Calls.{macro_call_of}
 use Rattle.port_calls.specs.Put.{IsPut}
 use Rattle.port_calls.specs.Put as specs
-use Rattle.port_calls.proofs.changes.kept_until.Goals as goal
+use Rattle.port_calls.proofs.readers.kept_until.Goals as goal
 
 pub returns : goal.returns
 returns c =

@@ -1,0 +1,26 @@
+-- What one step of a pass over conditions makes.
+use Rattle.std.proofs.Common.{◌≡◌, ℕ, ◌≤◌, List, ◌++◌, length, slice_range, sym, subst, ap, ◌∙◌, true, arith}
+use Rattle.std.specs.List.{list_all}
+use Rattle.port_compounds.specs.Places.{is_space}
+use Rattle.port_idioms.specs.declared.idioms.Idioms.{Idioms}
+use Rattle.port_idioms.specs.declared.idioms.Idioms.TheVariants.{All}
+use Rattle.port_joints.specs.Joints.{Becomes}
+use Rattle.port_joints.specs.Spelled.{IsRespelled}
+use Rattle.port_shell.specs.Formed.{IsPass, IsTestAt, AreOrdered, spelled_so}
+use Rattle.port_shell.specs.Formed as specs
+
+pub tested_step : (idioms : Idioms) (text : List ℕ) (at : ℕ) (out : List ℕ) (start from to : ℕ) (put : List ℕ) (new_at : ℕ) (new : List ℕ)
+    → IsPass idioms text at out → IsTestAt text start from to → AreOrdered text start from to → Becomes (slice_range text from to) put → at ≤ from
+    → (new_at ≡ to) × (new ≡ (out ++ slice_range text at from) ++ put) → IsPass idioms text new_at new
+tested_step idioms text at out start from to put new_at new before is (first, second, third) become place (at_is, new_is) =
+    subst (λ a. IsPass idioms text a new) (sym at_is)
+    (subst (IsPass idioms text to) (sym new_is) (specs.IsPass.tested start to put (specs.IsPass.copied from before place (omega (arith, second, third))) is (first, second, third) become))
+
+pub spelled_step : (idioms : Idioms) (text : List ℕ) (at : ℕ) (out : List ℕ) (start from to : ℕ) (indent put whole : List ℕ) (new_at : ℕ) (new : List ℕ) → idioms ≡ All
+    → IsPass idioms text at out → IsTestAt text start from to → AreOrdered text start from to → IsRespelled (slice_range text from to) put → list_all is_space indent ≡ true → at ≤ start
+    → whole ≡ spelled_so indent ++ (slice_range text start from ++ put)
+    → (new_at ≡ to) × (new ≡ (out ++ slice_range text at start) ++ whole) → IsPass idioms text new_at new
+spelled_step idioms text at out start from to indent put whole new_at new all before is (first, second, third) spelled blank place whole_is (at_is, new_is) =
+    subst (λ a. IsPass idioms text a new) (sym at_is)
+    (subst (IsPass idioms text to) (sym (new_is ∙ ap (λ w. (out ++ slice_range text at start) ++ w) whole_is))
+    (specs.IsPass.respelled from to put indent all (specs.IsPass.copied start before place (omega (arith, first, second, third))) is (first, second, third) spelled blank))
