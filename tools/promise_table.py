@@ -27,7 +27,8 @@ from the sources.
   sentence.
 - A sentence after a function is its documentation, and may say more than its clauses do. The clauses without a
   sentence of their own are named after it, or counted if they have no name.
-- A premise is what a caller has to meet.
+- A premise is what a caller has to meet. *Definitions* are those that the clauses and the premises name: read them in
+  `specs/` of this crate or of one below.
 - Every function is safe and ends. A function without a clause promises no more, and is only named.
 - A *law* is a function that returns nothing and changes nothing. Its clauses are theorems about definitions.
 """
@@ -40,7 +41,7 @@ class Function:
 
     def __init__(self, name, owner, trait, is_public, text):
         self.name, self.owner, self.trait, self.is_public, self.text = name, owner, trait, is_public, text
-        self.clauses, self.premises, self.is_law = [], [], False
+        self.clauses, self.premises, self.is_law, self.cited = [], [], False, set()
 
     def full_name(self):
         return f"{self.owner}::{self.name}" if self.owner else self.name
@@ -73,6 +74,15 @@ def prose(lines):
     return re.sub(r"\[(`[^`]*`)\](?:\([^)]*\))?", r"\1", text)
 
 
+def definitions(file):
+    """Returns the names of definitions of this repository that a file brings into scope."""
+    found = set()
+    for crate, path, names in re.findall(r"(?ms)^ghost use Rattle\.(\w+)\.([\w.]+)\.\{(.*?)\};", file.read_text()):
+        if crate in rows() and path.startswith("specs.") and not path.startswith("specs.declared"):
+            found |= {it.strip() for it in names.split(",")}
+    return {it for it in found if re.fullmatch(r"\w+", it)}
+
+
 def functions(file):
     """Yields the functions of a file."""
     lines, owner, trait, is_trait, comments, at = file.read_text().splitlines(), "", "", False, [], 0
@@ -103,6 +113,7 @@ def functions(file):
             if begun:
                 (function.premises if begun[2] == "requires" else function.clauses).append((begun[3] or "", prose(above)))
             if begun or level:
+                function.cited |= {*re.findall(r"\w+", re.sub("//.*", "", line))}
                 level += depth(line)
                 above = []
                 if not level and line.rstrip().endswith(";"):
@@ -181,12 +192,13 @@ def section(crate):
     yield from ["", f"### {crate}", "", wrapped(ended(head), "", "")]
     silent = []
     for file, found in public_functions(crate):
-        told = [one for one in found if one.clauses]
+        told, known = [one for one in found if one.clauses], definitions(file)
         silent += [one.full_name() for one in found if not one.clauses]
         if told:
             yield from ["", f"`{file.relative_to(CRATES / crate)}`:", ""]
         for one in told:
-            texts = [ended(one.text) if one.text else "", named_clauses(one)]
+            cited = ", ".join(f"`{it}`" for it in sorted(one.cited & known, key=str.lower))
+            texts = [ended(one.text) if one.text else "", named_clauses(one), f"Definitions: {cited}." if cited else ""]
             yield wrapped(f"{one.shown_name()}: {' '.join(filter(None, texts))}".rstrip(": "), "- ", "  ")
             for label, said in one.clauses:
                 if said:
