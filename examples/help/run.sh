@@ -25,7 +25,7 @@ expect 0 'Usage: acrun [-jN] configure [ARG]..' help configure
 expect 0 'Usage: acrun status [NAME]..' help status
 expect 0 'Usage: acrun lint [--json] [FILE]..' help lint
 expect 0 'Usage: acrun port [--idioms] [FILE]' help port
-expect 0 'Usage: acrun why WORD [LOG]' help why
+expect 0 'Usage: acrun why [WORD [LOG]]' help why
 expect 0 'Usage: acrun standin [WORD]..' help standin
 expect 0 'Usage: acrun help [COMMAND]' help help
 for words in 'help nothing' 'help status lint' '--help status' '--version status'; do
@@ -37,13 +37,17 @@ for command in configure status lint port why standin help; do
     grep -q "$command" "$root/share/acrun.1" || { wrong=1; echo "the manual page does not name $command"; }
 done
 
-# has COMMAND TEXT: the help of the command has the text.
+# has COMMAND TEXT: the help of the command has the text, wherever its lines end.
 has() {
-    "$acrun" help "$1" | grep -q -F -e "$2" || { wrong=1; echo "help $1 does not say: $2"; }
+    "$acrun" help "$1" | tr -s ' \n' '  ' | grep -q -F -e "$2" || { wrong=1; echo "help $1 does not say: $2"; }
 }
 has port '`if`, and a statement after a test and `&&` or `||`, become AS_IF, and `case` becomes AS_CASE'
 has port '--idioms'
 has configure 'Besides its outputs a run may leave: config.log config.status config.cache conftest* acrun-*.tmp'
+
+for command in '' configure status lint port why standin help; do
+    wide=$("$acrun" help $command | grep -E '^.{80}') && { wrong=1; echo "help $command is wider than 79 columns: $wide"; }
+done
 
 [ "$wrong" = 0 ] && echo 'help: as it should be'
 exit $wrong
