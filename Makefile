@@ -48,6 +48,7 @@ demo: all
 	@sh examples/exact/run.sh out/acrun
 	@sh examples/completions/run.sh out/acrun
 	@sh examples/wrapper/run.sh
+	@sh examples/install/run.sh out/acrun
 	@sh examples/hostile/run.sh out/acrun
 	@sh examples/errors/run.sh out/acrun
 	@sh examples/compare/run.sh

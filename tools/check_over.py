@@ -2,11 +2,12 @@
 """Checks one crate over libraries of statements, in seconds also if it is a high one. It is no verdict: `rt ci` gives that.
 
     python3 tools/check_over.py CRATE [WORD..]          at the top of the repository; the words are those of `rattle check`
-    python3 tools/check_over.py --base TOP CRATE [WORD..]
+    python3 tools/check_over.py --base TOP [--wait] CRATE [WORD..]
 
 `rt ci` without names leaves such libraries in crates/*/out/rlib. They are taken from there, or from those of another clone, TOP.
 First the libraries of crates below are built anew here whose sources are other than those that the libraries were made of, and
-of crates that stand on one of these. Nothing is proved of these, so begin with the lowest crate that you change.
+of crates that stand on one of these. Nothing is proved of these, so begin with the lowest crate that you change. With --wait, a
+library of the same sources that TOP does not have yet is waited for, as long as an `rt ci` is at work there.
 
 Words that are of use: `--only MODULE::FUNCTION` checks one function and what it calls, and `--start MODULE::FUNCTION` writes the
 files of its goals. Holes are allowed. The last line has their number, and the exit status is that of the check.
@@ -15,6 +16,7 @@ import os
 import shutil
 import subprocess
 import sys
+import time
 
 import edits_together as edits
 
@@ -22,8 +24,8 @@ import edits_together as edits
 class Libraries:
     """The libraries of a repository, of which some are built in it, and all others were left in a base."""
 
-    def __init__(self, top, base, kit):
-        self.repository, self.top, self.base, self.kit = edits.Repository(top, [top], kit), top, base, kit
+    def __init__(self, top, base, kit, waits=False):
+        self.repository, self.top, self.base, self.kit, self.waits = edits.Repository(top, [top], kit), top, base, kit, waits
         self.fresh = {}
 
     def path(self, name):
@@ -40,6 +42,14 @@ class Libraries:
             then = os.path.getmtime(f"{there}/out/rlib/{name}.rlib/format")
             return any(os.path.getmtime(f"{there}/{it}") > then for it in edits.texts_below(there))
         return edits.texts_below(there) != edits.texts_below(f"{self.top}/crates/{name}")
+
+    def wait(self, name):
+        """Waits for the library of a crate that has the same sources in the base."""
+        there = f"{self.base}/crates/{name}"
+        made = f"{there}/out/rlib/{name}.rlib/format"
+        if edits.texts_below(there) == edits.texts_below(f"{self.top}/crates/{name}"):
+            while not os.path.isfile(made) and is_at_work(self.base):
+                time.sleep(5)
 
     def words(self, name):
         """The words that name the libraries for a crate."""
@@ -60,6 +70,8 @@ class Libraries:
         below = {*self.repository.below(name)}
         for it in [it for it in self.repository.uses if it in below]:
             stands_on_new = any(self.fresh.get(dep) for dep in self.repository.uses[it])
+            if self.waits and not stands_on_new:
+                self.wait(it)
             self.fresh[it] = stands_on_new or self.is_changed(it)
             if self.fresh[it] and not self.build(it):
                 return False
@@ -75,17 +87,30 @@ class Libraries:
         return ran.returncode == 0
 
 
+def is_at_work(top):
+    """Whether a process works in a repository or below it."""
+    for process in filter(str.isdigit, os.listdir("/proc")):
+        try:
+            if f"{os.readlink(f'/proc/{process}/cwd')}/".startswith(f"{top}/"):
+                return True
+        except OSError:
+            continue
+    return False
+
+
 def main(words):
     top = os.getcwd()
     base = top
     if words[:1] == ["--base"] and len(words) > 1:
         base, words = os.path.abspath(words[1]), words[2:]
+    waits = words[:1] == ["--wait"]
+    words = words[waits:]
     kit, fault = edits.toolchain()
     if fault or not words or not os.path.isdir(f"{top}/crates/{words[0]}"):
         print(fault or __doc__, file=sys.stderr)
         return 2
     name, *more = words
-    libraries = Libraries(top, base, kit)
+    libraries = Libraries(top, base, kit, waits)
     if not libraries.make(name):
         return 2
     check = [f"{kit}/bin/rattle", "check", *libraries.words(name), "--jobs", "3", "--incremental", "out/over", "--allow-holes", *more]

@@ -261,8 +261,8 @@ def stated(text, all_idioms=False):
 # What docs/commands.md states of all idioms that are not exact.
 OF_IDIOMS = (
     "commands",
-    "Its messages and the order of definitions may be others, and of the cache variables that the macro sets it sets those that it names. "
-    "CPP, GREP and EGREP, which a macro looks for on its way, may be no output variables after it",
+    "Its messages and the order of definitions may differ. It sets only those cache variables of the macro that it names. "
+    "- CPP, GREP and EGREP, which a macro looks for on its way, may not be output variables after it.",
 )
 ON_THE_WAY = re.compile(r"(output|values|src/values) (CPP|E?GREP)$")
 
@@ -339,7 +339,7 @@ OF_LANGUAGE = (
     ("HAVE_STDINT_H, HAVE_UNISTD_H and their kin are defined only if AC_CHECK_HEADERS names the header",
      r"config\.h (HAVE_(STDIO|STDLIB|STRING|INTTYPES|STDINT|STRINGS|SYS_STAT|SYS_TYPES|UNISTD)_H|STDC_HEADERS)"),
     ("SHELL, PATH_SEPARATOR, OBJEXT, EXEEXT, LIBOBJS, ECHO_N and its kin, `build_alias` and its kin, `program_transform_name`, `ac_ct_CC`, and "
-     "the variables that begin with `abs_` are no output variables",
+     "the variables that begin with `abs_` are not output variables",
      r"values (SHELL|PATH_SEPARATOR|OBJEXT|EXEEXT|ECHO_[NCT]|(build|host|target)_alias|program_transform_name|ac_ct_CC)"),
     ("Nor are CPP, GREP and EGREP, which Autoconf's checks look for on their way, nor DEFS without a header", r"values (CPP|E?GREP|DEFS)"),
 )

@@ -58,7 +58,7 @@ make_deb() {
     cp -R share/debhelper "$share/perl5/Debian/Debhelper"
     strip --strip-unneeded --remove-section=.comment --remove-section=.note "$folder/usr/bin/acrun"
     mkdir -p "$share/doc/acrun" "$folder/DEBIAN"
-    cp README.md CONTRIBUTING.md docs/*.md "$share/doc/acrun"
+    cp -R README.md CONTRIBUTING.md docs "$share/doc/acrun"
     cp LICENSE "$share/doc/acrun/copyright"
     cp CHANGELOG.md "$share/doc/acrun"
     {

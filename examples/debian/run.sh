@@ -3,7 +3,8 @@
 #   run.sh PROGRAM [NAME..]
 # It makes the package as `make deb` does, looks at it by lintian, and unpacks it in a directory of its own: nothing is installed. Each NAME,
 # less and dtach if there is none, is built in its source and in another directory, by rules that say `dh $@ --with acrun` alone. Then
-# `debian/rules clean` has to leave the source as it was.
+# `debian/rules clean` has to leave the source as it was. And each is built with a compiler that is not there, an error in its source, a
+# template that is missing, and flags that no compiler takes: the log of the build has to say what is wrong.
 # What is needed: debhelper 13, dpkg-dev, binutils, and what examples/ports/port.sh needs to fetch a package, but no Autoconf. If one is
 # missing, it says so and ends with 77. It ends with 1 if something is otherwise than it should be.
 set -u
@@ -94,6 +95,12 @@ has() {
     grep -qF -e "$1" "$log" || { wrong "$name: the log has no: $1"; tail -n 15 "$log"; }
 }
 
+# told PATTERN PATTERN: a line of the last log matches the first one, and one of the next two lines the second one.
+told() {
+    rows=$((rows + 1))
+    grep -A2 -e "$1" "$log" | grep -q -e "$2" || { wrong "$name: the log has no: $1, and then: $2"; grep -n acrun: "$log" | tail -n 15; }
+}
+
 lacks() {
     rows=$((rows + 1))
     ! grep -qF -e "$1" "$log" || wrong "$name: the log has: $1"
@@ -146,6 +153,18 @@ END
     has ': /nowhere/cc: No such file or directory'
     has '==> config.log <=='
     has 'start refused'
+    cleaned
+    # So does one whose source, templates or flags are wrong: each log has the error and, on the next line, what to do about it.
+    sed 's/^AC_OUTPUT/AC_NOPE([x])\n&/' "$work/before/configure.ac" > configure.ac
+    ! built "$work/log" A=1 || wrong "$name: it is built from a source with an error"
+    told 'acrun: parse 2 at [0-9]*$' 'configure\.ac:[0-9]*:1: acrun does not know the macro AC_NOPE'
+    cp "$work/before/configure.ac" .
+    rm Makefile.in
+    ! built "$work/log" A=1 || wrong "$name: it is built without a template"
+    told 'acrun: template .*Makefile\.in$' 'Makefile\.in: No such file or directory'
+    cp "$work/before/Makefile.in" .
+    ! built "$work/log" DEB_CFLAGS_APPEND=-O99x || wrong "$name: it is built with wrong flags"
+    told 'acrun: no compiler job of this run succeeded: see config\.log$' 'none of [0-9]* .* passed\. The first, checking for .*-O99x.*Look at CC'
     cleaned
     rm -rf "$work/ported"
 done

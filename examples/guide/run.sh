@@ -1,6 +1,7 @@
 #!/bin/sh
 # Runs what the documents show: each command of their sessions, whose output has to be the one that is printed there, and a run of each block
-# of statements and of each statement in a table. Ends with 1 if anything is otherwise, and with 0 if there is no C compiler or no make.
+# of statements and of each statement in a table. Ends with 1 if anything is otherwise, and with 0 if there is no C compiler or no make. An
+# indented line below a line `<!-- each ends with 0 -->` is a command, up to two blanks, which has to end with 0.
 #   run.sh PROGRAM [DOCUMENT]..
 # Without a DOCUMENT it runs those below. A session below a line `<!-- needs PROGRAM.. -->` is passed over if one of these programs isn't
 # there. In an output, a line `[N more lines]` is any N lines. A line that begins with `$ ` is a command, unless the output has that line there.
@@ -77,6 +78,16 @@ run_block() {
     rm -rf "$work/block"
 }
 
+# Runs a command whose output isn't shown.
+run_quiet() {
+    commands=$((commands + 1))
+    printf '%s\n' "$line" | sed 's/^ *//; s/  .*//' > "$work/quiet"
+    . "$work/quiet" > "$work/found" 2>&1 && return
+    wrong=1
+    echo "$document: '$(cat "$work/quiet")' doesn't end with 0"
+    cat "$work/found"
+}
+
 # Runs the sessions and the blocks of a document, in a directory of its own.
 run_document() {
     document=$1
@@ -92,6 +103,9 @@ run_document() {
         esac
         case $where:$line in
         'text:<!-- needs '*) needed=${line#'<!-- needs '} needed=${needed%' -->'} ;;
+        'text:<!-- each ends with 0 -->') where=quiet ;;
+        'quiet:    '*) run_quiet ;;
+        quiet:*) where=text ;;
         'text:```console')
             where=session
             has_needed || where=passed

@@ -60,10 +60,14 @@ abbrev pub alone : ProgramCall → List (List ℕ) → ProgramCall
 alone call [] = call
 alone call (word ∷ words) = Unknown
 
+-- The word asks for help. (own)
+abbrev pub is_help : List ℕ → Bool
+is_help word = bytes_eq word (codes "--help") || bytes_eq word (codes "-h")
+
 -- The call with this first word, if it is an option of the program itself. (own)
 abbrev pub option_call : List ℕ → List (List ℕ) → ProgramCall
 option_call word words =
-    if bytes_eq word (codes "--help") || bytes_eq word (codes "-h") then alone (Help []) words
+    if is_help word then alone (Help []) words
     else if bytes_eq word (codes "--version") || bytes_eq word (codes "-V") then alone Version words
     else windowed (window_of word) words
 
@@ -84,10 +88,19 @@ named_call word words =
     else if bytes_eq word (codes "status") then status_call words
     else asking_call word words
 
+-- The command explains itself if its only word asks for help. `configure`, `status` and `standin` take that word as theirs. (own)
+abbrev pub explains_itself : List ℕ → Bool
+explains_itself word = bytes_eq word (codes "lint") || bytes_eq word (codes "port") || bytes_eq word (codes "why") || bytes_eq word (codes "help")
+
+-- These are a command and its only word, which asks for help with it. (own)
+abbrev pub asks_own_help : List (List ℕ) → Bool
+asks_own_help (command ∷ word ∷ []) = explains_itself command && is_help word
+asks_own_help words = false
+
 -- What the program is asked to do with these words after its name. (own)
 abbrev pub call_of : List (List ℕ) → ProgramCall
 call_of [] = Filter
-call_of (word ∷ words) = named_call word words
+call_of (word ∷ words) = if asks_own_help (word ∷ words) then Help (word ∷ []) else named_call word words
 
 -- If the program is asked to filter its input, this holds. (own)
 abbrev pub IfFilter : ProgramCall → Type 0 → Type 0

@@ -140,12 +140,19 @@ fn alone<'a>(call: ProgramCall<'a>, words: &[Bytes]) -> ProgramCall<'a>
     ProgramCall::Unknown
 }
 
+/// Returns whether the word asks for help.
+fn is_help(word: &[u8]) -> bool
+    ensures { result ≡ meant.is_help word.now }
+{
+    is(word, b"--help") || is(word, b"-h")
+}
+
 /// Returns the call with this first word, if it is an option of the program itself.
 fn option_call<'a>(word: &[u8], words: &'a [Bytes]) -> ProgramCall<'a>
     ensures call { call_seen result ≡ meant.option_call word.now words.now }
     ensures window { meant.HasWindow (call_seen result) }
 {
-    if is(word, b"--help") || is(word, b"-h") {
+    if is_help(word) {
         return alone(ProgramCall::Help(&[]), words);
     }
     if is(word, b"--version") || is(word, b"-V") {
@@ -183,11 +190,28 @@ fn named_call<'a>(word: &[u8], words: &'a [Bytes]) -> ProgramCall<'a>
     option_call(word, words)
 }
 
+/// Returns whether the word is a command that `--help` explains.
+fn explains_itself(word: &[u8]) -> bool
+    ensures { result ≡ meant.explains_itself word.now }
+{
+    is(word, b"lint") || is(word, b"port") || is(word, b"why") || is(word, b"help")
+}
+
+/// Returns whether these are a command and its only word, which asks for help with it.
+fn asks_own_help(words: &[Bytes]) -> bool
+    ensures { result ≡ meant.asks_own_help words.now }
+{
+    words.len() == 2 && explains_itself(words[0].as_slice()) && is_help(words[1].as_slice())
+}
+
 /// Returns what the program is asked to do with these words after its name (own).
 pub fn call_of(words: &[Bytes]) -> ProgramCall<'_>
     ensures call { call_seen result ≡ meant.call_of words.now }
     ensures window { meant.HasWindow (call_seen result) }
 {
+    if asks_own_help(words) {
+        return ProgramCall::Help(&words[..1]);
+    }
     match words.split_first() {
         Some((word, words)) => named_call(word.as_slice(), words),
         None => ProgramCall::Filter,

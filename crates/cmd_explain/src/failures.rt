@@ -263,13 +263,18 @@ fn put_none_passed(alloc: Global, out: &mut Vec<u8>, counts: &Counts) -> Result<
     out.extend_from_slice(b" passed. The first, ")
 }
 
+/// Returns whether the last byte ends a sentence.
+fn ends_sentence(text: &[u8]) -> bool {
+    text.ends_with(b".") || text.ends_with(b"?") || text.ends_with(b"!")
+}
+
 /// Returns that no call of this log passed.
 fn none_words(alloc: Global, log: &[Entry], counts: &Counts) -> Result<Vec<u8>, AllocError> {
     let mut out = Vec::new(alloc);
     put_none_passed(alloc, &mut out, counts)?;
     let place = first_of(log, None).unwrap_or(log.len());
     put_first(alloc, &mut out, log, place)?;
-    if !out.ends_with(b".") {
+    if !ends_sentence(&out) {
         out.push(b'.')?;
     }
     out.extend_from_slice(b" Look at ")?;

@@ -1,5 +1,9 @@
 //! The line.
 
+ghost use Rattle.std.specs.Prelude.{◌≡◌, ◌++◌, ◌⊎◌, ◌==◌, ℕ, false, true, IfOk, OnOk, decimal};
+ghost use Rattle.std.specs.Io.KnownBytes.{Appends};
+ghost use Rattle.crew_tally.specs.Line as texts;
+
 use crate::tally::Tally;
 use std::alloc::{AllocError, Global};
 use std::io::{self, Write};
@@ -7,50 +11,108 @@ use std::io::{self, Write};
 /// The milliseconds from which seconds are said.
 const LEAST_SECONDS: u64 = 1000;
 
-/// Appends a number and its noun, which has an `s` or another ending unless the number is 1.
-fn add_count(
-    line: &mut String,
+/// Appends a number, or `no` in place of 0.
+fn put_number(line: &mut Vec<u8>, alloc: Global, number: u64) -> Result<(), AllocError>
+    ensures { OnOk result (line.new.items ≡ line.old.items ++ texts.number_text number) }
+{
+    if number == 0 {
+        return line.extend_from_slice(b"no");
+    }
+    let digits = format!(in alloc; "{number}")?;
+    line.extend_from_slice(digits.as_bytes())
+}
+
+/// Appends a number and its noun, of which there is one form for 1 and another for the rest.
+fn put_count(
+    line: &mut Vec<u8>,
     alloc: Global,
     number: u64,
-    one: &str,
-    many: &str,
-) -> Result<(), AllocError> {
-    let noun = if number == 1 { one } else { many };
-    let text = if number == 0 {
-        format!(in alloc; "no {noun}")?
-    } else {
-        format!(in alloc; "{number} {noun}")?
-    };
-    line.push_str(text.as_str())
+    one: &[u8],
+    many: &[u8],
+) -> Result<(), AllocError>
+    ensures { OnOk result (
+        line.new.items ≡ line.old.items ++ texts.count_text number one.now many.now) }
+{
+    put_number(line, alloc, number)?;
+    if number == 1 {
+        return line.extend_from_slice(one);
+    }
+    line.extend_from_slice(many)
+}
+
+/// Appends three texts.
+fn put_parts(line: &mut Vec<u8>, front: &[u8], middle: &[u8], back: &[u8]) -> Result<(), AllocError>
+    ensures { OnOk result (
+        line.new.items ≡ line.old.items ++ (front.now ++ (middle.now ++ back.now))) }
+{
+    line.extend_from_slice(front)?;
+    line.extend_from_slice(middle)?;
+    line.extend_from_slice(back)
+}
+
+/// Appends that the cache had so many answers.
+fn put_known(line: &mut Vec<u8>, alloc: Global, cached: u64) -> Result<(), AllocError>
+    ensures { OnOk result (line.new.items ≡ line.old.items ++ texts.known_text cached) }
+{
+    let digits = format!(in alloc; "{cached}")?;
+    put_parts(line, b", ", digits.as_bytes(), b" from the cache")
+}
+
+/// Appends how many answers the cache had, if it had one.
+fn put_cached(line: &mut Vec<u8>, alloc: Global, cached: u64) -> Result<(), AllocError>
+    ensures { OnOk result (line.new.items ≡ line.old.items ++ texts.cached_text cached) }
+{
+    if cached == 0 {
+        return Ok(());
+    }
+    put_known(line, alloc, cached)
+}
+
+/// Appends so many milliseconds.
+fn put_millis(line: &mut Vec<u8>, alloc: Global, millis: u64) -> Result<(), AllocError>
+    ensures { OnOk result (line.new.items ≡ line.old.items ++ texts.millis_text millis) }
+{
+    let digits = format!(in alloc; "{millis}")?;
+    line.extend_from_slice(digits.as_bytes())?;
+    line.extend_from_slice(b" ms")
+}
+
+/// Appends so many milliseconds as seconds, with one digit after the point.
+fn put_seconds(line: &mut Vec<u8>, alloc: Global, millis: u64) -> Result<(), AllocError>
+    ensures { OnOk result (line.new.items ≡ line.old.items ++ texts.seconds_text millis) }
+{
+    let seconds = millis / 1000;
+    let tenths = millis % 1000 / 100;
+    let digits = format!(in alloc; "{seconds}")?;
+    let tenth = format!(in alloc; "{tenths}")?;
+    line.extend_from_slice(digits.as_bytes())?;
+    line.push(b'.')?;
+    line.extend_from_slice(tenth.as_bytes())?;
+    line.extend_from_slice(b" s")
 }
 
 /// Appends how long a run took.
-fn add_time(line: &mut String, alloc: Global, millis: u64) -> Result<(), AllocError> {
-    let text = if millis < LEAST_SECONDS {
-        format!(in alloc; "{millis} ms")?
-    } else {
-        let seconds = millis / 1000;
-        let tenths = millis % 1000 / 100;
-        format!(in alloc; "{seconds}.{tenths} s")?
-    };
-    line.push_str(text.as_str())
+fn put_time(line: &mut Vec<u8>, alloc: Global, millis: u64) -> Result<(), AllocError>
+    ensures { OnOk result (line.new.items ≡ line.old.items ++ texts.time_text millis) }
+{
+    if millis < LEAST_SECONDS {
+        return put_millis(line, alloc, millis);
+    }
+    put_seconds(line, alloc, millis)
 }
 
 /// Returns the line.
-fn line_of(alloc: Global, tally: &Tally, children: u64, millis: u64) -> Result<String, AllocError> {
-    let mut line = String::new(alloc);
-    line.push_str("acrun: ")?;
-    add_count(&mut line, alloc, tally.checks(), "check", "checks")?;
-    if tally.cached() > 0 {
-        let cached = tally.cached();
-        let text = format!(in alloc; ", {cached} from the cache")?;
-        line.push_str(text.as_str())?;
-    }
-    line.push_str(", ")?;
-    add_count(&mut line, alloc, children, "child", "children")?;
-    line.push_str(", ")?;
-    add_time(&mut line, alloc, millis)?;
-    line.push_str("\n")?;
+fn line_of(alloc: Global, tally: &Tally, children: u64, millis: u64) -> Result<Vec<u8>, AllocError>
+    ensures { IfOk result (λ line. line.items ≡ texts.line tally.now children millis) }
+{
+    let mut line = Vec::from_slice(alloc, b"acrun: ")?;
+    put_count(&mut line, alloc, tally.checks(), b" check", b" checks")?;
+    put_cached(&mut line, alloc, tally.cached())?;
+    line.extend_from_slice(b", ")?;
+    put_count(&mut line, alloc, children, b" child", b" children")?;
+    line.extend_from_slice(b", ")?;
+    put_time(&mut line, alloc, millis)?;
+    line.extend_from_slice(b"\n")?;
     Ok(line)
 }
 
@@ -67,12 +129,19 @@ pub fn put_summary<W: Write>(
     children: u64,
     millis: u64,
     stream: &mut W,
-) -> io::Result<()> {
+) -> io::Result<()>
+    // If nothing fails, the line was written, or memory ran out for it and nothing was.
+    ensures written { OnOk result (
+        (stream.new ≡ stream.old)
+        ⊎ Appends (W.contents stream.old) (W.contents stream.new) (texts.line tally.now children millis)) }
+    // A run without checks has no line.
+    ensures none { tally.now.checks ≡ 0 → stream.new ≡ stream.old }
+{
     if tally.checks() == 0 {
         return Ok(());
     }
     match line_of(alloc, tally, children, millis) {
-        Ok(line) => stream.write_all(line.as_bytes()),
+        Ok(line) => stream.write_all(line.as_slice()),
         Err(_) => Ok(()),
     }
 }

@@ -1,5 +1,8 @@
 //! A finding with the line that it is in.
 
+ghost use Rattle.std.specs.Prelude.{◌≡◌, IfOk};
+ghost use Rattle.lint_excerpts.specs.Plain.{IsSafe};
+
 use crate::draft::Draft;
 use crate::marked::{Marked, put_shown};
 use deftable::Bytes;
@@ -54,7 +57,9 @@ pub(crate) fn word_of(severity: Severity) -> &'static [u8] {
 }
 
 /// Writes the line with the place and the message.
-fn put_message(draft: &mut Draft, finding: &Finding, name: &[u8], text: &[u8], colours: Colours) {
+fn put_message(draft: &mut Draft, finding: &Finding, name: &[u8], text: &[u8], colours: Colours)
+    ensures { draft.new ≡ draft.old }
+{
     let place = position_of(text, finding.start);
     draft.put(colours.strong);
     put_shown(draft, name);
@@ -76,7 +81,9 @@ fn put_message(draft: &mut Draft, finding: &Finding, name: &[u8], text: &[u8], c
 }
 
 /// Writes the line of the file, and the mark under it.
-fn put_lines(draft: &mut Draft, finding: &Finding, text: &[u8], colours: Colours) {
+fn put_lines(draft: &mut Draft, finding: &Finding, text: &[u8], colours: Colours)
+    ensures { draft.new ≡ draft.old }
+{
     let start = line_start(text, finding.start);
     let line = line_at(text, finding.start);
     let from = finding.start.saturating_sub(start);
@@ -100,7 +107,9 @@ fn put_lines(draft: &mut Draft, finding: &Finding, text: &[u8], colours: Colours
 }
 
 /// Writes the help, line by line.
-fn put_help(draft: &mut Draft, help: &[u8], colours: Colours) {
+fn put_help(draft: &mut Draft, help: &[u8], colours: Colours)
+    ensures { draft.new ≡ draft.old }
+{
     let mut is_first = true;
     for line in help.split(|byte| *byte == b'\n') {
         if is_first {
@@ -133,9 +142,12 @@ pub fn excerpt_of(
     name: &[u8],
     text: &[u8],
     is_coloured: bool,
-) -> Result<Bytes, AllocError> {
+) -> Result<Bytes, AllocError>
+    // Without colours, no text of a file or its name can drive a terminal.
+    ensures safe { IfOk result (λ shown. IsSafe is_coloured shown) }
+{
     let colours = if is_coloured { ALL } else { NONE };
-    let mut draft = Draft::new(alloc);
+    let mut draft = Draft::new(alloc, is_coloured);
     put_message(&mut draft, finding, name, text, colours);
     put_lines(&mut draft, finding, text, colours);
     if !finding.help.as_slice().is_empty() {

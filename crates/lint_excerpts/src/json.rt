@@ -1,5 +1,7 @@
 //! A finding as JSON.
 
+ghost use Rattle.std.specs.Prelude.{◌≡◌};
+
 use crate::draft::Draft;
 use crate::excerpt::word_of;
 use crate::marked::{before, from, is_mark};
@@ -17,7 +19,9 @@ fn quoted(alloc: Global, text: &[u8]) -> Result<String, AllocError> {
 }
 
 /// Writes a text that JSON has quoted, with characters that turn or hide text by their numbers.
-fn put_quoted(draft: &mut Draft, quoted: &[u8]) {
+fn put_quoted(draft: &mut Draft, quoted: &[u8])
+    ensures { draft.new ≡ draft.old }
+{
     for (start, end, c) in quoted.char_indices() {
         if is_mark(c) {
             draft.put_code(c);
@@ -28,7 +32,9 @@ fn put_quoted(draft: &mut Draft, quoted: &[u8]) {
 }
 
 /// Writes a member whose value is a text, with a comma after it.
-fn put_text(alloc: Global, draft: &mut Draft, key: &[u8], text: &[u8], end: &[u8]) {
+fn put_text(alloc: Global, draft: &mut Draft, key: &[u8], text: &[u8], end: &[u8])
+    ensures { draft.new ≡ draft.old }
+{
     draft.put(b"\"");
     draft.put(key);
     draft.put(b"\":");
@@ -40,7 +46,9 @@ fn put_text(alloc: Global, draft: &mut Draft, key: &[u8], text: &[u8], end: &[u8
 }
 
 /// Writes a member whose value is a number, with a comma after it.
-fn put_number(draft: &mut Draft, key: &[u8], number: usize) {
+fn put_number(draft: &mut Draft, key: &[u8], number: usize)
+    ensures { draft.new ≡ draft.old }
+{
     draft.put(b"\"");
     draft.put(key);
     draft.put(b"\":");
@@ -65,7 +73,7 @@ pub fn json_of(
 ) -> Result<Bytes, AllocError> {
     let start = position_of(text, finding.start);
     let end = position_of(text, finding.end);
-    let mut draft = Draft::new(alloc);
+    let mut draft = Draft::new(alloc, true);
     draft.put(b"{");
     put_text(alloc, &mut draft, b"file", name, b",");
     put_number(&mut draft, b"line", start.line);

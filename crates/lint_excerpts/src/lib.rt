@@ -14,10 +14,11 @@
 //!          AC_SUBST([INSTALL], ["install -c"])
 //! ```
 //!
-//! A call fails only if memory runs out. That it is safe and ends is proved; what it shows is
-//! tested.
+//! A call fails only if memory runs out. It is proved that what is shown without colours has no
+//! control byte but tabs and newlines, so that no source can drive a terminal by it. What is shown
+//! is tested.
 //!
-//! Read `draft`, on which texts are written, then `marked`, which shows a line and marks a part of
+//! Read `specs/Plain` and `draft`, on which texts are written, then `marked`, which shows a line and marks a part of
 //! it, and `excerpt` and `json`.
 #![tactic(auto)]
 

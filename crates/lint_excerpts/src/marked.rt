@@ -1,5 +1,7 @@
 //! A line with a mark under a part of it.
 
+ghost use Rattle.std.specs.Prelude.{◌≡◌};
+
 use crate::draft::Draft;
 use bstr::ByteSlice;
 use unicode_width::UnicodeWidthChar;
@@ -73,7 +75,9 @@ impl<'a> Marked<'a> {
     }
 
     /// Writes the line.
-    pub(crate) fn put_line(&self, draft: &mut Draft) {
+    pub(crate) fn put_line(&self, draft: &mut Draft)
+        ensures { draft.new ≡ draft.old }
+    {
         if self.is_cut_before {
             draft.put(b"..");
         }
@@ -86,7 +90,9 @@ impl<'a> Marked<'a> {
     }
 
     /// Writes what is under the line before the mark.
-    pub(crate) fn put_space(&self, draft: &mut Draft) {
+    pub(crate) fn put_space(&self, draft: &mut Draft)
+        ensures { draft.new ≡ draft.old }
+    {
         if self.is_cut_before {
             draft.put(b"  ");
         }
@@ -94,7 +100,9 @@ impl<'a> Marked<'a> {
     }
 
     /// Writes the mark. What has no column is marked by one.
-    pub(crate) fn put_mark(&self, draft: &mut Draft) {
+    pub(crate) fn put_mark(&self, draft: &mut Draft)
+        ensures { draft.new ≡ draft.old }
+    {
         if self.marked.is_empty() {
             draft.put(b"^");
         } else {
@@ -120,7 +128,9 @@ fn columns_of(c: char, bytes: &[u8]) -> Option<usize> {
 
 /// Writes a text, with control bytes, bytes that are no UTF-8, and characters that turn or hide text
 /// as `\xNN`. Tabs stay.
-pub(crate) fn put_shown(draft: &mut Draft, text: &[u8]) {
+pub(crate) fn put_shown(draft: &mut Draft, text: &[u8])
+    ensures { draft.new ≡ draft.old }
+{
     for (start, end, c) in text.char_indices() {
         let bytes = from(before(text, end), start);
         if c == '\t' || columns_of(c, bytes).is_some() {
@@ -132,7 +142,9 @@ pub(crate) fn put_shown(draft: &mut Draft, text: &[u8]) {
 }
 
 /// Writes the byte in each column that the text takes when it is shown. Tabs stay.
-fn put_under(draft: &mut Draft, text: &[u8], byte: u8) {
+fn put_under(draft: &mut Draft, text: &[u8], byte: u8)
+    ensures { draft.new ≡ draft.old }
+{
     for (start, end, c) in text.char_indices() {
         let bytes = from(before(text, end), start);
         if c == '\t' {
