@@ -5,6 +5,7 @@ use Rattle.crew_trait.specs.Events.{Account}
 use Rattle.cfglog.specs.Texts.{log_of}
 use Rattle.cachefile.specs.declared.fault.CacheFault.{CacheFault}
 use Rattle.cachefile.specs.declared.fault.CacheFault.TheVariants as caches
+use Rattle.options.specs.Precious.{checked}
 use Rattle.options.specs.declared.fault.PreciousFault.{PreciousFault}
 use Rattle.options.specs.declared.fault.PreciousFault.TheVariants as preciouses
 use Rattle.options.specs.declared.settings.Settings.{Settings}
@@ -31,8 +32,10 @@ use Rattle.engine_frame.specs.declared.fault.Fault.{Fault}
 use Rattle.engine_frame.specs.declared.fault.Fault.TheVariants as faults
 use Rattle.engine_frame.specs.declared.report.Report.{Report}
 use Rattle.output_list.specs.declared.output.Output.{Output}
+use Rattle.output_make.specs.Choice.{missing}
 use Rattle.output_put.specs.Receipt.{Receipt, with_artifacts}
 use Rattle.output_put.specs.declared.artifact.Artifact.{Artifact}
+use Rattle.ac_tree.specs.Lists.{lists_of}
 use Rattle.ac_tree.specs.Script.{Script}
 use Rattle.cmd_call.specs.Guarded.{AreGuarded, inputs_of}
 use Rattle.cmd_call.specs.Supplies.{AreGiven}
@@ -169,12 +172,16 @@ unless_no_put false r h = h
 
 present_no_put : (no_create : Bool) (templates : List (List ℕ × List ℕ)) (files headers : List Output) → HasNoPut (present no_create templates files headers)
 unfolding present
-present_no_put no_create templates files headers = unless_no_put no_create _ (then_no_put _ _ (missing_no_put _) (λ x. missing_no_put _))
+present_no_put no_create templates files headers =
+    unless_no_put no_create (none_missing (missing templates files []) >>= λ x. none_missing (missing templates headers []))
+    (then_no_put (none_missing (missing templates files [])) (λ x. none_missing (missing templates headers [])) (missing_no_put (missing templates files [])) (λ x. missing_no_put (missing templates headers [])))
 
 started_no_put : (a : List (List ℕ)) (c : Option (List ℕ)) (t : List (List ℕ × List ℕ)) (script : Script) (settings : Settings) → HasNoPut (started a c t script settings)
 unfolding started
 started_no_put a c t script settings =
-    then_no_put _ _ (old_no_put settings.cache_name c) (λ old. then_no_put _ _ (precious_no_put _) (λ result. then_no_put _ _ (present_no_put settings.no_create t _ _) (λ x. value)))
+    then_no_put _ _ (old_no_put settings.cache_name c)
+    (λ old. then_no_put _ _ (precious_no_put (checked (lists_of script).precious settings.vars old))
+    (λ result. then_no_put _ _ (present_no_put settings.no_create t (lists_of script).files (lists_of script).headers) (λ x. value)))
 
 -- ---- however it ended
 

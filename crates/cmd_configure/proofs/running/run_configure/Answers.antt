@@ -19,4 +19,4 @@ returns-in-Ok-None-clause-ended g c =
 
 pub returns-clause-ended : goal.returns-clause-ended
 returns-clause-ended g c =
-    has_no_memory c.args.window c.args.args.now c.args.terminal.now.env.now _ _ _ _ c.no_memory-2.result c.no_memory-2.ensures refl refl
+    has_no_memory c.args.window c.args.args.now c.args.terminal.now.env.now _ _ _ _ c.no_memory-in-Err.result c.no_memory-in-Err.ensures refl refl
