@@ -5,6 +5,7 @@ use Rattle.crew_trait.specs.Events.{Account}
 use Rattle.cfglog.specs.Texts.{log_of}
 use Rattle.cachefile.specs.declared.fault.CacheFault.{CacheFault}
 use Rattle.cachefile.specs.declared.fault.CacheFault.TheVariants as caches
+use Rattle.options.specs.Precious.{checked}
 use Rattle.options.specs.declared.fault.PreciousFault.{PreciousFault}
 use Rattle.options.specs.declared.fault.PreciousFault.TheVariants as preciouses
 use Rattle.options.specs.declared.settings.Settings.{Settings}
@@ -31,8 +32,10 @@ use Rattle.engine_frame.specs.declared.fault.Fault.{Fault}
 use Rattle.engine_frame.specs.declared.fault.Fault.TheVariants as faults
 use Rattle.engine_frame.specs.declared.report.Report.{Report}
 use Rattle.output_list.specs.declared.output.Output.{Output}
+use Rattle.output_make.specs.Choice.{missing}
 use Rattle.output_put.specs.Receipt.{Receipt, with_artifacts}
 use Rattle.output_put.specs.declared.artifact.Artifact.{Artifact}
+use Rattle.ac_tree.specs.Lists.{lists_of}
 use Rattle.ac_tree.specs.Script.{Script}
 use Rattle.cmd_call.specs.Guarded.{AreGuarded, inputs_of}
 use Rattle.cmd_call.specs.Supplies.{AreGiven}
@@ -78,22 +81,22 @@ Begins k more = IsBegun k (codes "config.log") more
 left_so : (mid fin : Option Known) (guards : List Guard) (taken : List Artifact) (refusals : ℕ) (lines log : List ℕ) (places : List FilePlace) (is_logged : Bool)
     → IfSome mid (λ k. IsDoneApart k guards taken refusals lines places) → (is_logged ≡ true → Does mid fin (Writes log)) → (is_logged ≡ false → Does mid fin Begins)
     → IfSome fin (λ k. IsLeftSo k guards taken refusals lines log is_logged)
-left_so mid None guards taken refusals lines log places is_logged done yes no = tt
-left_so None (Some new) guards taken refusals lines log places true done yes no = absurd (yes refl)
-left_so None (Some new) guards taken refusals lines log places false done yes no = absurd (no refl)
-left_so (Some old) (Some new) guards taken refusals lines log places true done yes no =
-    let w = yes refl in
+left_so mid None guards taken refusals lines log places is_logged done wrote began = tt
+left_so None (Some new) guards taken refusals lines log places true done wrote began = absurd (wrote refl)
+left_so None (Some new) guards taken refusals lines log places false done wrote began = absurd (began refl)
+left_so (Some old) (Some new) guards taken refusals lines log places true done wrote began =
+    let w = wrote refl in
     subst (λ k. IsLeftSo k guards taken refusals lines log true) (sym w.1)
     (record { places = places; before = old.deeds; logged = w.0; deeds = refl; done = done; written = λ e. w.2; unwritten = λ (e : true ≡ false). absurd (cc) })
-left_so (Some old) (Some new) guards taken refusals lines log places false done yes no =
-    let w = no refl in
+left_so (Some old) (Some new) guards taken refusals lines log places false done wrote began =
+    let w = began refl in
     subst (λ k. IsLeftSo k guards taken refusals lines log false) (sym w.1)
     (record { places = places; before = old.deeds; logged = w.0; deeds = refl; done = done; written = λ (e : false ≡ true). absurd (cc); unwritten = λ e. w.2 })
 
 same_left : (old mid fin : Option Known) (log : List ℕ) (is_logged : Bool) → option_map (λ k. k.files) mid ≡ option_map (λ k. k.files) old
     → (is_logged ≡ true → Does mid fin (Writes log)) → (is_logged ≡ false → Does mid fin Begins) → AreSameFiles old fin
-same_left old mid fin log true kept yes no = same_by old mid fin (Writes log) kept (yes refl)
-same_left old mid fin log false kept yes no = same_by old mid fin Begins kept (no refl)
+same_left old mid fin log true kept wrote began = same_by old mid fin (Writes log) kept (wrote refl)
+same_left old mid fin log false kept wrote began = same_by old mid fin Begins kept (began refl)
 
 -- What is left of a run that has this report.
 run_left : {D : Type 0} (known : D → Option Known) (d : D) (before_puts mid fin : Held D) (window : ℕ) (a : List (List ℕ)) (script : Script) (settings : Settings) (c : Option (List ℕ)) (t : List (List ℕ × List ℕ)) (start : Start) (before now : Account) (report : Report) (number : Option ℕ) (left : RunLeft)
@@ -133,45 +136,52 @@ abbrev IsNoPut : Fault → Type 0
 IsNoPut (faults.PutRefused number report) = ⊥
 IsNoPut f = Unit {0}
 
-abbrev HasNoPut : {X : Type 0} → Result X Fault → Type 0
-HasNoPut (Ok x) = Unit {0}
-HasNoPut (Err f) = IsNoPut f
+data HasNoPut {X : Type 0} : Result X Fault → Type 0 where
+  value : {x : X} → HasNoPut (Ok x)
+  fault : {f : Fault} → IsNoPut f → HasNoPut (Err f)
+
+no_put_of : {X : Type 0} (f : Fault) → HasNoPut {X = X} (Err f) → IsNoPut f
+no_put_of f (fault i) = i
 
 then_no_put : {A B : Type 0} (r : Result A Fault) (f : A → Result B Fault) → HasNoPut r → ((x : A) → HasNoPut (f x)) → HasNoPut (r >>= f)
 then_no_put (Ok x) f h k = k x
-then_no_put (Err e) f h k = h
+then_no_put (Err e) f h k = fault (no_put_of e h)
 
 cache_no_put : {X : Type 0} (r : Result X CacheFault) → HasNoPut (named of_cache r)
-cache_no_put (Ok x) = tt
-cache_no_put (Err caches.OutOfMemory) = tt
-cache_no_put (Err f) = tt
+cache_no_put (Ok x) = value
+cache_no_put (Err caches.OutOfMemory) = fault tt
+cache_no_put (Err f) = fault tt
 
 precious_no_put : {X : Type 0} (r : Result X PreciousFault) → HasNoPut (named of_precious r)
-precious_no_put (Ok x) = tt
-precious_no_put (Err preciouses.OutOfMemory) = tt
-precious_no_put (Err f) = tt
+precious_no_put (Ok x) = value
+precious_no_put (Err preciouses.OutOfMemory) = fault tt
+precious_no_put (Err f) = fault tt
 
 old_no_put : (name text : Option (List ℕ)) → HasNoPut (old_of name text)
-old_no_put None text = tt
-old_no_put (Some name) None = tt
+old_no_put None text = value
+old_no_put (Some name) None = value
 old_no_put (Some name) (Some text) = cache_no_put _
 
 missing_no_put : (o : Option Output) → HasNoPut (none_missing o)
-missing_no_put None = tt
-missing_no_put (Some output) = tt
+missing_no_put None = value
+missing_no_put (Some output) = fault tt
 
 unless_no_put : (b : Bool) (r : Result (Unit {0}) Fault) → HasNoPut r → HasNoPut (if b then Ok tt else r)
-unless_no_put true r h = tt
+unless_no_put true r h = value
 unless_no_put false r h = h
 
 present_no_put : (no_create : Bool) (templates : List (List ℕ × List ℕ)) (files headers : List Output) → HasNoPut (present no_create templates files headers)
 unfolding present
-present_no_put no_create templates files headers = unless_no_put no_create _ (then_no_put _ _ (missing_no_put _) (λ x. missing_no_put _))
+present_no_put no_create templates files headers =
+    unless_no_put no_create (none_missing (missing templates files []) >>= λ x. none_missing (missing templates headers []))
+    (then_no_put (none_missing (missing templates files [])) (λ x. none_missing (missing templates headers [])) (missing_no_put (missing templates files [])) (λ x. missing_no_put (missing templates headers [])))
 
 started_no_put : (a : List (List ℕ)) (c : Option (List ℕ)) (t : List (List ℕ × List ℕ)) (script : Script) (settings : Settings) → HasNoPut (started a c t script settings)
 unfolding started
 started_no_put a c t script settings =
-    then_no_put _ _ (old_no_put settings.cache_name c) (λ old. then_no_put _ _ (precious_no_put _) (λ result. then_no_put _ _ (present_no_put settings.no_create t _ _) (λ x. tt)))
+    then_no_put _ _ (old_no_put settings.cache_name c)
+    (λ old. then_no_put _ _ (precious_no_put (checked (lists_of script).precious settings.vars old))
+    (λ result. then_no_put _ _ (present_no_put settings.no_create t (lists_of script).files (lists_of script).headers) (λ x. value)))
 
 -- ---- however it ended
 
@@ -224,7 +234,7 @@ run_ended known d before_puts mid fin (Err first) window a script settings c t b
     subst (IsRunEnd window a script settings before now (known d) (known fin.disk)) (sym f.0)
     (unstarted (g.untouched tt).0 (nothing_done known d before_puts mid fin g.disk (g.untouched tt).1 f.1))
 run_ended known d before_puts mid fin (Err first) window a script settings c t before now (Err (faults.PutRefused number report)) happened g f =
-    absurd (subst HasNoPut (g.is ∙ ap Err (sym (same_fault _ _ g.accepted))) (started_no_put a c t script settings))
+    absurd (no_put_of (faults.PutRefused number report) (subst HasNoPut (g.is ∙ ap Err (sym (same_fault _ _ g.accepted))) (started_no_put a c t script settings)))
 run_ended known d before_puts mid fin (Err first) window a script settings c t before now (Err other) happened g f =
     subst (IsRunEnd window a script settings before now (known d) (known fin.disk)) (sym f.0)
     (refused c t g.given (g.is ∙ ap Err (sym (same_fault _ _ g.accepted))) (g.untouched tt).0 (nothing_done known d before_puts mid fin g.disk (g.untouched tt).1 f.1))

@@ -17,6 +17,6 @@ returns-in-Ok-None-clause-ended g c =
     has_no_source g.D.Disk.known c.args.terminal.now.outputs.disk c.disk.result.now c.args.window c.args.args.now c.args.terminal.now.env.now _ c.srcdir_of.result.now _ c.as_slice-path.result.now _
     c.disk.ensures c.as_slice-path.ensures c.in-Ok.ensures c.srcdir_of.ensures.exact c.in-Ok-None.field-0-is c.in-Ok-None.ensures.text
 
-pub returns-in-Err-clause-ended : goal.returns-in-Err-clause-ended
-returns-in-Err-clause-ended g c =
-    has_no_memory c.args.window c.args.args.now c.args.terminal.now.env.now _ _ _ _ c.no_memory-2.result c.no_memory-2.ensures refl refl
+pub returns-clause-ended : goal.returns-clause-ended
+returns-clause-ended g c =
+    has_no_memory c.args.window c.args.args.now c.args.terminal.now.env.now _ _ _ _ c.no_memory-in-Err.result c.no_memory-in-Err.ensures refl refl
