@@ -29,3 +29,16 @@ pub recheck_unprinted : (call : ProgramCall) (status : ℕ) (is_so : Happened �
     → IfRecheck call (Exits status is_so ((out : List ℕ) × (said : List (List ℕ)) × P out said))
 recheck_unprinted Recheck status is_so P is_asked output printed errors told h = unprinted status is_so P is_asked output printed errors told h
 recheck_unprinted call status is_so P is_asked output printed errors told h = tt
+
+-- The same, unless the status is 2.
+pub configure_told : (call : ProgramCall) (status : ℕ) (P : ℕ → List (List ℕ) → List ℕ → List (List ℕ) → Type 0) (Put : List ℕ → Type 0) (Told : List (List ℕ) → Type 0)
+    → IfConfigure call (λ window args. status ≢ 2 → (out : List ℕ) × (said : List (List ℕ)) × P window args out said × Put out × Told said)
+    → IfConfigure call (λ window args. status ≢ 2 → (out : List ℕ) × (said : List (List ℕ)) × P window args out said)
+configure_told (Configure window args) status P Put Told h = λ ne. let p = h ne in (p.0, p.1, p.2)
+configure_told call status P Put Told h = tt
+
+pub recheck_told : (call : ProgramCall) (status : ℕ) (P : List ℕ → List (List ℕ) → Type 0) (Put : List ℕ → Type 0) (Told : List (List ℕ) → Type 0)
+    → IfRecheck call (status ≢ 2 → (out : List ℕ) × (said : List (List ℕ)) × P out said × Put out × Told said)
+    → IfRecheck call (status ≢ 2 → (out : List ℕ) × (said : List (List ℕ)) × P out said)
+recheck_told Recheck status P Put Told h = λ ne. let p = h ne in (p.0, p.1, p.2)
+recheck_told call status P Put Told h = tt

@@ -10,6 +10,6 @@ pub returns-in-Ok-clause-ended : goal.returns-in-Ok-clause-ended
 returns-in-Ok-clause-ended g c =
     filtered_so _ _ _ _ _ _ (said_too _ _ _ _ _ _ _ c.as_slice.ensures.value c.in-Ok.ensures.written c.write_said.ensures.silent c.write_said.ensures.told)
 
-pub returns-in-Err-clause-ended : goal.returns-in-Err-clause-ended
-returns-in-Err-clause-ended g c =
+pub returns-clause-ended : goal.returns-clause-ended
+returns-clause-ended g c =
     refused_so _ c.in-Err.fault _ _ _ c.in-Err.ensures.refused c.tell_filter.ensures c.in-Err.ensures.untouched
