@@ -1,5 +1,10 @@
 -- What one step of a pass over conditions makes.
-use Rattle.std.proofs.Common.{◌≡◌, ℕ, ◌≤◌, List, ◌++◌, length, slice_range, sym, subst, ap, ◌∙◌, true, arith}
+use Rattle.std.proofs.Common.{◌≡◌, ℕ, ◌<◌, ◌≤◌, List, ◌++◌, length, slice_range, sym, subst, ap, ◌∙◌, true, map, get_or, arith}
+use Rattle.std.specs.Prelude.{Contains}
+use Rattle.std.proofs.lemmas.List.{get_or-map, length-map}
+use Rattle.std.proofs.lemmas.List.Elements.{Contains-get_or}
+use Rattle.ac_calls.specs.declared.call.CallAt.{CallAt}
+use Rattle.ac_calls.specs.Calls.{MacroCall, macro_call_of}
 use Rattle.std.specs.List.{list_all}
 use Rattle.port_compounds.specs.Places.{is_space}
 use Rattle.port_idioms.specs.declared.idioms.Idioms.{Idioms}
@@ -24,3 +29,10 @@ spelled_step idioms text at out start from to indent put whole new_at new all be
     subst (λ a. IsPass idioms text a new) (sym at_is)
     (subst (IsPass idioms text to) (sym (new_is ∙ ap (λ w. (out ++ slice_range text at start) ++ w) whole_is))
     (specs.IsPass.respelled from to put indent all (specs.IsPass.copied start before place (omega (arith, first, second, third))) is (first, second, third) spelled blank))
+
+-- The call of an index is one of the calls.
+pub has_call : (calls : List CallAt) (all : List MacroCall) (i : ℕ) (c : CallAt) → map macro_call_of calls ≡ all → i < length calls → c ≡ get_or calls i c → Contains all (macro_call_of c)
+has_call calls all i c is lt here =
+    let within : i < length (map macro_call_of calls) = subst (λ n. i < n) (sym (length-map calls macro_call_of)) lt in
+    let found : get_or (map macro_call_of calls) i (macro_call_of c) ≡ macro_call_of c = get_or-map macro_call_of calls i c (macro_call_of c) lt ∙ ap macro_call_of (sym here) in
+    subst (λ l. Contains l (macro_call_of c)) is (subst (Contains (map macro_call_of calls)) found (Contains-get_or (map macro_call_of calls) i (macro_call_of c) within))

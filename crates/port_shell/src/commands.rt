@@ -136,12 +136,18 @@ fn is_status(byte: u8) -> bool
     48 < byte && byte < 58
 }
 
+fn are_status(text: &[u8]) -> bool
+    ensures { result ≡ list_all specs.is_status text.now }
+{
+    text.iter().all(|byte| is_status(*byte))
+}
+
 /// Returns whether a text is one digit that isn't 0.
 fn is_digit(text: &[u8]) -> bool
     ensures { IsTrue result
         → (length text.now ≡ 1) × (list_all specs.is_status text.now ≡ true) }
 {
-    text.len() == 1 && text.iter().all(|byte| is_status(*byte))
+    text.len() == 1 && are_status(text)
 }
 
 /// Returns the text after a front, if it begins with that.
@@ -211,11 +217,17 @@ fn is_of_name(byte: u8) -> bool
     byte.is_ascii_alphanumeric() || byte == b'_'
 }
 
+fn are_of_name(text: &[u8]) -> bool
+    ensures { result ≡ list_all specs.is_of_name text.now }
+{
+    text.iter().all(|byte| is_of_name(*byte))
+}
+
 /// Returns whether a text is a name of letters, digits and `_`.
 fn is_name(text: &[u8]) -> bool
     ensures { IsTrue result → (0 < length text.now) × (list_all specs.is_of_name text.now ≡ true) }
 {
-    0 < text.len() && text.iter().all(|byte| is_of_name(*byte))
+    0 < text.len() && are_of_name(text)
 }
 
 /// Returns what is given to `unset`, if it is a name.
