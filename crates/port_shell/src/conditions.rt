@@ -136,7 +136,6 @@ fn is_test_of_call(text: &[u8], call: &CallAt, start: usize, from: usize, to: us
 
 /// Returns whether the call of an index is one of AS_IF at an offset, and its condition is between
 /// two others.
-#[tactic(auto, using(crate::proofs::Testing::has_call))]
 fn is_call_test(
     text: &[u8],
     calls: &[CallAt],
