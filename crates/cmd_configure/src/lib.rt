@@ -1,8 +1,9 @@
 //! The commands that run a configure.ac, over files and a crew.
 //!
-//! [`run_configure`] calls `engine::configure` on texts that it reads from files. Children run in
-//! the crew that the caller gives, and a receiver writes the outputs. [`run_recheck`] does the same
-//! with the arguments of a record. The crate `cmd_status` prints and logs the result.
+//! [`run_configure`] parses the source, judges it, and runs it (`acparse::parse`, `engine::judge`
+//! and `engine::go`), on texts that it reads from files. Children run in the crew that the caller
+//! gives, and a receiver writes the outputs. [`run_recheck`] does the same with the arguments of a
+//! record. The crate `cmd_status` prints and logs the result.
 //!
 //! For example, `acrun configure --srcdir=../src -C` is [`run_configure`]: it reads
 //! `../src/configure.ac`, `config.cache` and the templates, runs the checks, and writes the

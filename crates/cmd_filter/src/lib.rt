@@ -1,9 +1,9 @@
 //! The filter: a whole run in memory, from a text that is read to a text that is written.
 //!
 //! The text that is read is a configure.ac, a line `%%` and the template of its first file.
-//! [`filter`] is a call of `engine::configure` without arguments, environment and cache, over a
-//! crew that refuses each start and a receiver in memory. It writes the first file that is handed
-//! over.
+//! [`filter`] parses the source, judges it without arguments and environment, and runs it without a
+//! cache, over a crew that refuses each start and a receiver in memory (`acparse::parse`,
+//! `engine::judge` and `engine::go`). It writes the first file that is handed over.
 //!
 //! From the lines `AC_INIT([demo],[1.0])`, `AC_CONFIG_FILES([out])`, `AC_OUTPUT`, `%%` and
 //! `@PACKAGE_NAME@`, it writes `demo` and a newline.

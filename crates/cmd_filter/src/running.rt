@@ -31,7 +31,8 @@ fn run_over(
     if crew.events().is_empty() {
         return Ok(report);
     }
-    // A crew without replies takes no start, so this is not reached. Its contract doesn't say so.
+    // A crew without replies takes no start, so this is not reached. The contract of `go` doesn't say
+    // so: it knows a crew by its account alone.
     Err(FilterFault::OutOfMemory)
 }
 

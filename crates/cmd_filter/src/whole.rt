@@ -217,8 +217,8 @@ pub fn filter_keeping<R: Read, W: Write>(
 ///
 /// - `Read`, if the input can't be read.
 /// - `Usage`, if it has no line `%%`.
-/// - `Run`, for the first error of the source; then for the first fault of `engine::configure`, in
-///   the order of `engine::Fault`: the source is too long to be run, or a template doesn't exist.
+/// - `Run`, for the first error of the source; then for the first fault of the run, in the order
+///   of `engine::Fault`: the source is too long to be run, or a template doesn't exist.
 ///   Without a cache no precious variable has a fault.
 /// - `Write`, if the text can't be written. Some of it may have been written. After every other
 ///   error, nothing is.
