@@ -90,7 +90,7 @@ left_by (Some old) (Some new) guards artifacts lines log places done logged =
     subst (λ k. IsLeft k guards artifacts lines log) (sym logged.1) (record { places = places; before = old.deeds; logged = logged.0; deeds = refl; done = done; written = logged.2 })
 
 -- What is under names is as it was: no put changes that, nor does the log.
-same_by : (old mid fin : Option Known) (P : Known → List Deed → Type 0) → option_map (λ k. k.files) mid ≡ option_map (λ k. k.files) old → Does mid fin P → AreSameFiles old fin
+pub same_by : (old mid fin : Option Known) (P : Known → List Deed → Type 0) → option_map (λ k. k.files) mid ≡ option_map (λ k. k.files) old → Does mid fin P → AreSameFiles old fin
 same_by None mid fin P kept logged = tt
 same_by (Some old) mid None P kept logged = tt
 same_by (Some old) None (Some new) P kept logged = absurd logged
@@ -98,7 +98,7 @@ same_by (Some old) (Some mid) (Some new) P kept logged =
     let files : mid.files ≡ old.files = cc in
     ap (λ k. k.files) logged.1 ∙ files
 
-abbrev going_by : Script → Result Start Fault → Result Accepted Fault
+abbrev pub going_by : Script → Result Start Fault → Result Accepted Fault
 going_by script r = r >>= λ start. Ok (Starts script start)
 
 -- What holds after a call of `go` over a receiver `before`, which is `mid` then, and `fin` after the

@@ -1,2 +1,4 @@
+pub mod Cases
 pub mod Done
+pub mod Ends
 pub mod Supplied

@@ -23,7 +23,7 @@ use Rattle.cmd_call.specs.Errors.{errors_of}
 use Rattle.cmd_call.specs.Guarded.{AreGuarded, inputs_of}
 use Rattle.cmd_call.specs.Supplies.{ReadsLimited, ReadsWhole, AreGiven, path_of}
 use Rattle.options.specs.declared.settings.Settings.{Settings}
-pub use Rattle.proberun.specs.Ran.{MayRun}
+pub use Rattle.proberun.specs.Ran.{IsWindow, MayRun}
 use Rattle.ac_tree.specs.Script.{Script}
 
 -- The source of a run with these arguments was read: it is the text of configure.ac in the

@@ -1,1 +1,2 @@
 pub mod Configures
+pub mod Ended

@@ -1,18 +1,18 @@
 //! The command that runs a configure.ac again with the arguments of its record.
 
-ghost use Rattle.std.specs.Prelude.{◌≡◌, false, ◌≢◌, ℕ, List, Some, codes};
-ghost use Rattle.std.specs.Io.KnownBytes.{Appends};
+ghost use Rattle.std.specs.Prelude.{◌≡◌, true, Some, codes};
 ghost use Rattle.cmd_configure.specs.Configures.{IsRechecked};
+ghost use Rattle.cmd_configure.specs.Ended.{HasHappenedAgain, Prints};
+ghost use Rattle.cmd_status.specs.Happened.{is_all_done, status_after};
 ghost use Rattle.crew_trait.specs.Events.{IsIdle};
 ghost use Rattle.file_texts.specs.Held.{fresh};
-ghost use Rattle.cmd_call.specs.Errors.{AreTold};
 ghost use Rattle.cmd_call.specs.Supplies.{ReadsWhole};
 ghost use Rattle.proberun.specs.Ran.{MayRun};
 
 use crate::running::run_configure;
-use cmd_call::{Terminal, tell_memory};
+use cmd_call::Terminal;
 use cmd_explain::Why;
-use cmd_status::{RECORD, tell_remake, tell_unread};
+use cmd_status::{Happened, RECORD, no_memory, no_record, tell_unread};
 use crew_refusals::Causes;
 use crew_trait::Crew;
 use engine_frame::recheck_args;
@@ -31,90 +31,81 @@ fn why_of(is_asked: bool, text: &[u8]) -> Why<'_> {
     }
 }
 
-/// Runs a configure.ac again with the arguments of the record that has this text, and returns the
-/// exit status.
+/// Runs a configure.ac again with the arguments of the record that has this text, and returns
+/// what happened.
 fn run_again<D: Disk, C: Crew + Causes, R: Read, W: Write, E: Write>(
     terminal: &mut Terminal<'_, D, R, W, E>,
     text: &[u8],
     crew: &mut C,
-) -> u8
+) -> Happened
     requires may_run { MayRun (C.account crew.old) }
     requires found { ReadsWhole (D.known terminal.old.outputs.disk) (codes "config.status")
         (Some text.now) }
     requires fresh { terminal.old.outputs ≡ fresh terminal.old.outputs.disk }
     ensures idle { IsIdle (C.account crew.new).events }
-    ensures run { result ≢ 2
-        → (out : List ℕ) × (said : List (List ℕ))
-        × IsRechecked terminal.old.env.now (C.account crew.old) (C.account crew.new)
+    ensures run { is_all_done result ≡ true
+        → Prints terminal.old.is_asked (W.contents terminal.old.output)
+        (W.contents terminal.new.output) (E.contents terminal.old.errors)
+        (E.contents terminal.new.errors) (λ out said.
+        IsRechecked terminal.old.env.now (C.account crew.old) (C.account crew.new)
         (D.known terminal.old.outputs.disk) (D.known terminal.new.outputs.disk) out said
-        result
-        × Appends (W.contents terminal.old.output) (W.contents terminal.new.output) out
-        × (terminal.old.is_asked ≡ false
-        → AreTold (E.contents terminal.old.errors) (E.contents terminal.new.errors) said) }
+        (status_after result)) }
+    ensures ended { HasHappenedAgain terminal.old.env.now (C.account crew.old)
+        (C.account crew.new) (D.known terminal.old.outputs.disk)
+        (D.known terminal.new.outputs.disk) result }
     ensures input { terminal.new.input ≡ terminal.old.input }
 {
     match recheck_args(terminal.alloc, text) {
         Ok(args) => {
             let args = args.as_slice();
-            let status = run_configure(terminal, 1, args, crew);
-            status
+            let happened = run_configure(terminal, 1, args, crew);
+            happened
         }
         Err(fault) => {
             let why = why_of(terminal.is_asked, text);
             let disk = terminal.outputs.disk();
-            tell_remake(
-                terminal.alloc,
-                disk,
-                &why,
-                None,
-                b"",
-                &mut terminal.errors,
-                &fault,
-            )
+            no_record(terminal.alloc, disk, &why, &mut terminal.errors, fault)
         }
     }
 }
 
 /// Runs the configure.ac again with the arguments of the record in the current directory, and then
-/// `--no-create`, and returns the exit status.
+/// `--no-create`, and returns what happened.
 ///
 /// The environment is that of now, and at most one child runs at once. The record and the log are
 /// written again, and the cache if one is named, but no file and no header. If anything is wrong,
-/// the status is 2, and standard error has a line for it (own). If it is asked, further lines may
-/// say why.
+/// standard error has a line for it (own). If it is asked, further lines may say why.
 pub fn run_recheck<D: Disk, C: Crew + Causes, R: Read, W: Write, E: Write>(
     terminal: &mut Terminal<'_, D, R, W, E>,
     crew: &mut C,
-) -> u8
+) -> Happened
     requires may_run { MayRun (C.account crew.old) }
     requires fresh { terminal.old.outputs ≡ fresh terminal.old.outputs.disk }
     ensures idle { IsIdle (C.account crew.new).events }
-    ensures run { result ≢ 2
-        → (out : List ℕ) × (said : List (List ℕ))
-        × IsRechecked terminal.old.env.now (C.account crew.old) (C.account crew.new)
+    ensures run { is_all_done result ≡ true
+        → Prints terminal.old.is_asked (W.contents terminal.old.output)
+        (W.contents terminal.new.output) (E.contents terminal.old.errors)
+        (E.contents terminal.new.errors) (λ out said.
+        IsRechecked terminal.old.env.now (C.account crew.old) (C.account crew.new)
         (D.known terminal.old.outputs.disk) (D.known terminal.new.outputs.disk) out said
-        result
-        × Appends (W.contents terminal.old.output) (W.contents terminal.new.output) out
-        × (terminal.old.is_asked ≡ false
-        → AreTold (E.contents terminal.old.errors) (E.contents terminal.new.errors) said) }
+        (status_after result)) }
+    ensures ended { HasHappenedAgain terminal.old.env.now (C.account crew.old)
+        (C.account crew.new) (D.known terminal.old.outputs.disk)
+        (D.known terminal.new.outputs.disk) result }
     ensures input { terminal.new.input ≡ terminal.old.input }
 {
     match read_text(terminal.alloc, terminal.outputs.disk(), RECORD) {
         Ok(Some(text)) => {
             let text = text.as_slice();
-            let status = run_again(terminal, text, crew);
-            status
+            let happened = run_again(terminal, text, crew);
+            happened
         }
         Ok(None) => {
             let disk = terminal.outputs.disk();
-            tell_unread(
-                terminal.alloc,
-                disk,
-                terminal.is_asked,
-                RECORD,
-                &mut terminal.errors,
-            )
+            let errors = &mut terminal.errors;
+            let _ = tell_unread(terminal.alloc, disk, terminal.is_asked, RECORD, errors);
+            Happened::NotRead
         }
-        Err(_) => tell_memory(&mut terminal.errors),
+        Err(_) => no_memory(&mut terminal.errors),
     }
 }

@@ -1,14 +1,14 @@
 //! The command that runs a configure.ac.
 
-ghost use Rattle.std.specs.Prelude.{◌≡◌, false, ◌≢◌, ℕ, List, Ok, option_copied, unwrap_or};
-ghost use Rattle.std.specs.Io.KnownBytes.{Appends};
+ghost use Rattle.std.specs.Prelude.{◌≡◌, true, Ok, option_copied};
 ghost use Rattle.acparse.specs.Profile.{source_of};
 ghost use Rattle.cmd_configure.specs.Configures.{IsConfigured, IsRun, ReadsSource};
+ghost use Rattle.cmd_configure.specs.Ended.{HasHappened, IsRunEnd, Prints};
+ghost use Rattle.cmd_status.specs.Happened.{is_all_done, status_after};
 ghost use Rattle.crew_trait.specs.Events.{IsIdle};
 ghost use Rattle.file_texts.specs.Held.{fresh};
 ghost use Rattle.engine.specs.Judged.{IsRead};
 ghost use Rattle.engine_frame.specs.Needed.{script_in};
-ghost use Rattle.cmd_call.specs.Errors.{AreTold};
 ghost use Rattle.cmd_call.specs.Supplies.{AreGiven};
 ghost use Rattle.output_list.specs.Output.{AreOutputs};
 ghost use Rattle.proberun.specs.Ran.{IsWindow, MayRun};
@@ -17,9 +17,9 @@ ghost use Rattle.ac_tree.specs.Script.{script_of};
 
 use ac_tree::Source;
 use acparse::parse;
-use cmd_call::{Supplies, Terminal, keep_inputs, read_supplies, tell_memory};
+use cmd_call::{Supplies, Terminal, keep_inputs, read_supplies};
 use cmd_explain::{Given, Why};
-use cmd_status::{finish_run, print_shown, tell_run, tell_unread};
+use cmd_status::{Happened, finish_run, no_memory, print_shown, tell_run, tell_unread};
 use crew_refusals::Causes;
 use crew_trait::Crew;
 use deftable::Bytes;
@@ -50,7 +50,7 @@ fn given_of<'a>(needs: &'a Needs<'_>, cache: Option<&'a [u8]>) -> Given<'a>
     }
 }
 
-/// Runs a source that was judged, with what was read for it, and returns the exit status.
+/// Runs a source that was judged, with what was read for it, and returns what happened.
 #[tactic(auto, using(file_texts::proofs::Unused::fresh_unused))]
 fn run_supplied<D: Disk, C: Crew + Causes, R: Read, W: Write, E: Write>(
     terminal: &mut Terminal<'_, D, R, W, E>,
@@ -59,7 +59,7 @@ fn run_supplied<D: Disk, C: Crew + Causes, R: Read, W: Write, E: Write>(
     needs: &Needs<'_>,
     supplies: &Supplies,
     crew: &mut C,
-) -> u8
+) -> Happened
     requires window { IsWindow window }
     requires may_run { MayRun (C.account crew.old) }
     requires source { IsRead (script_in needs.now) }
@@ -68,14 +68,16 @@ fn run_supplied<D: Disk, C: Crew + Causes, R: Read, W: Write, E: Write>(
         supplies.now.cache supplies.now.templates.items }
     requires fresh { terminal.old.outputs ≡ fresh terminal.old.outputs.disk }
     ensures idle { IsIdle (C.account crew.new).events }
-    ensures run { result ≢ 2
-        → (out : List ℕ) × (said : List (List ℕ))
-        × IsRun window needs.now.arguments (script_in needs.now) needs.now.settings
+    ensures run { is_all_done result ≡ true
+        → Prints terminal.old.is_asked (W.contents terminal.old.output)
+        (W.contents terminal.new.output) (E.contents terminal.old.errors)
+        (E.contents terminal.new.errors) (λ out said.
+        IsRun window needs.now.arguments (script_in needs.now) needs.now.settings
         (C.account crew.old) (C.account crew.new) (D.known terminal.old.outputs.disk)
-        (D.known terminal.new.outputs.disk) out said result
-        × Appends (W.contents terminal.old.output) (W.contents terminal.new.output) out
-        × (terminal.old.is_asked ≡ false
-        → AreTold (E.contents terminal.old.errors) (E.contents terminal.new.errors) said) }
+        (D.known terminal.new.outputs.disk) out said (status_after result)) }
+    ensures ended { IsRunEnd window needs.now.arguments (script_in needs.now) needs.now.settings
+        (C.account crew.old) (C.account crew.new) (D.known terminal.old.outputs.disk)
+        (D.known terminal.new.outputs.disk) result }
     ensures input { terminal.new.input ≡ terminal.old.input }
 {
     let alloc = terminal.alloc;
@@ -83,7 +85,7 @@ fn run_supplied<D: Disk, C: Crew + Causes, R: Read, W: Write, E: Write>(
     let outputs = &mut terminal.outputs;
     let srcdir = needs.settings().srcdir.as_slice();
     let Ok(()) = keep_inputs(alloc, outputs, srcdir, templates) else {
-        return tell_memory(&mut terminal.errors);
+        return no_memory(&mut terminal.errors);
     };
     let cache = cache_of(supplies);
     let answer = go(alloc, needs, cache, templates, crew, outputs, window);
@@ -91,44 +93,46 @@ fn run_supplied<D: Disk, C: Crew + Causes, R: Read, W: Write, E: Write>(
     finish_run(terminal, why, &given, answer, crew)
 }
 
-/// Reads what a source that was judged needs, runs it, and returns the exit status.
+/// Reads what a source that was judged needs, runs it, and returns what happened.
 fn run_needs<D: Disk, C: Crew + Causes, R: Read, W: Write, E: Write>(
     terminal: &mut Terminal<'_, D, R, W, E>,
     window: usize,
     why: &Why<'_>,
     needs: &Needs<'_>,
     crew: &mut C,
-) -> u8
+) -> Happened
     requires window { IsWindow window }
     requires may_run { MayRun (C.account crew.old) }
     requires source { IsRead (script_in needs.now) }
     requires fresh { terminal.old.outputs ≡ fresh terminal.old.outputs.disk }
     ensures idle { IsIdle (C.account crew.new).events }
-    ensures run { result ≢ 2
-        → (out : List ℕ) × (said : List (List ℕ))
-        × IsRun window needs.now.arguments (script_in needs.now) needs.now.settings
+    ensures run { is_all_done result ≡ true
+        → Prints terminal.old.is_asked (W.contents terminal.old.output)
+        (W.contents terminal.new.output) (E.contents terminal.old.errors)
+        (E.contents terminal.new.errors) (λ out said.
+        IsRun window needs.now.arguments (script_in needs.now) needs.now.settings
         (C.account crew.old) (C.account crew.new) (D.known terminal.old.outputs.disk)
-        (D.known terminal.new.outputs.disk) out said result
-        × Appends (W.contents terminal.old.output) (W.contents terminal.new.output) out
-        × (terminal.old.is_asked ≡ false
-        → AreTold (E.contents terminal.old.errors) (E.contents terminal.new.errors) said) }
+        (D.known terminal.new.outputs.disk) out said (status_after result)) }
+    ensures ended { IsRunEnd window needs.now.arguments (script_in needs.now) needs.now.settings
+        (C.account crew.old) (C.account crew.new) (D.known terminal.old.outputs.disk)
+        (D.known terminal.new.outputs.disk) result }
     ensures input { terminal.new.input ≡ terminal.old.input }
 {
     let disk = terminal.outputs.disk();
     match read_supplies(terminal.alloc, disk, needs.source(), needs.settings()) {
         Ok(supplies) => run_supplied(terminal, window, why, needs, &supplies, crew),
-        Err(_) => tell_memory(&mut terminal.errors),
+        Err(_) => no_memory(&mut terminal.errors),
     }
 }
 
-/// Judges a source, runs it or shows a text, and returns the exit status.
+/// Judges a source, runs it or shows a text, and returns what happened.
 fn run_source<D: Disk, C: Crew + Causes, R: Read, W: Write, E: Write>(
     terminal: &mut Terminal<'_, D, R, W, E>,
     window: usize,
     why: &Why<'_>,
     source: &Source,
     crew: &mut C,
-) -> u8
+) -> Happened
     requires window { IsWindow window }
     requires may_run { MayRun (C.account crew.old) }
     requires found { ReadsSource (D.known terminal.old.outputs.disk) why.now.args.now
@@ -138,69 +142,64 @@ fn run_source<D: Disk, C: Crew + Causes, R: Read, W: Write, E: Write>(
         (lists_of (script_of source.now)).headers }
     requires fresh { terminal.old.outputs ≡ fresh terminal.old.outputs.disk }
     ensures idle { IsIdle (C.account crew.new).events }
-    ensures run { result ≢ 2
-        → (out : List ℕ) × (said : List (List ℕ))
-        × IsConfigured window why.now.args.now terminal.old.env.now (C.account crew.old)
+    ensures run { is_all_done result ≡ true
+        → Prints terminal.old.is_asked (W.contents terminal.old.output)
+        (W.contents terminal.new.output) (E.contents terminal.old.errors)
+        (E.contents terminal.new.errors) (λ out said.
+        IsConfigured window why.now.args.now terminal.old.env.now (C.account crew.old)
         (C.account crew.new) (D.known terminal.old.outputs.disk)
-        (D.known terminal.new.outputs.disk) out said result
-        × Appends (W.contents terminal.old.output) (W.contents terminal.new.output) out
-        × (terminal.old.is_asked ≡ false
-        → AreTold (E.contents terminal.old.errors) (E.contents terminal.new.errors) said) }
+        (D.known terminal.new.outputs.disk) out said (status_after result)) }
+    ensures ended { HasHappened window why.now.args.now terminal.old.env.now (C.account crew.old)
+        (C.account crew.new) (D.known terminal.old.outputs.disk)
+        (D.known terminal.new.outputs.disk) result }
     ensures input { terminal.new.input ≡ terminal.old.input }
 {
     match judge(terminal.alloc, source, why.args, terminal.env) {
-        Ok(Judged::Shows(report)) => print_shown(terminal, &report),
+        Ok(Judged::Shows(report)) => {
+            let is_printed = print_shown(terminal, &report);
+            Happened::Shown(is_printed)
+        }
         Ok(Judged::Runs(needs)) => run_needs(terminal, window, why, &needs, crew),
         Err(fault) => {
             let disk = terminal.outputs.disk();
-            tell_run(
-                terminal.alloc,
-                disk,
-                why,
-                None,
-                &mut terminal.errors,
-                &fault,
-            )
+            let errors = &mut terminal.errors;
+            tell_run(terminal.alloc, disk, why, None, errors, fault)
         }
     }
 }
 
-/// Reads a source, runs it, and returns the exit status.
+/// Reads a source, runs it, and returns what happened.
 fn run_text<D: Disk, C: Crew + Causes, R: Read, W: Write, E: Write>(
     terminal: &mut Terminal<'_, D, R, W, E>,
     window: usize,
     why: &Why<'_>,
     crew: &mut C,
-) -> u8
+) -> Happened
     requires window { IsWindow window }
     requires may_run { MayRun (C.account crew.old) }
     requires found { ReadsSource (D.known terminal.old.outputs.disk) why.now.args.now
         why.now.text.now }
     requires fresh { terminal.old.outputs ≡ fresh terminal.old.outputs.disk }
     ensures idle { IsIdle (C.account crew.new).events }
-    ensures run { result ≢ 2
-        → (out : List ℕ) × (said : List (List ℕ))
-        × IsConfigured window why.now.args.now terminal.old.env.now (C.account crew.old)
+    ensures run { is_all_done result ≡ true
+        → Prints terminal.old.is_asked (W.contents terminal.old.output)
+        (W.contents terminal.new.output) (E.contents terminal.old.errors)
+        (E.contents terminal.new.errors) (λ out said.
+        IsConfigured window why.now.args.now terminal.old.env.now (C.account crew.old)
         (C.account crew.new) (D.known terminal.old.outputs.disk)
-        (D.known terminal.new.outputs.disk) out said result
-        × Appends (W.contents terminal.old.output) (W.contents terminal.new.output) out
-        × (terminal.old.is_asked ≡ false
-        → AreTold (E.contents terminal.old.errors) (E.contents terminal.new.errors) said) }
+        (D.known terminal.new.outputs.disk) out said (status_after result)) }
+    ensures ended { HasHappened window why.now.args.now terminal.old.env.now (C.account crew.old)
+        (C.account crew.new) (D.known terminal.old.outputs.disk)
+        (D.known terminal.new.outputs.disk) result }
     ensures input { terminal.new.input ≡ terminal.old.input }
 {
     match parse(terminal.alloc, why.text) {
         Ok(source) => run_source(terminal, window, why, &source, crew),
         Err(fault) => {
-            let fault = Fault::from(fault);
+            let wrong = Fault::from(fault);
             let disk = terminal.outputs.disk();
-            tell_run(
-                terminal.alloc,
-                disk,
-                why,
-                None,
-                &mut terminal.errors,
-                &fault,
-            )
+            let errors = &mut terminal.errors;
+            tell_run(terminal.alloc, disk, why, None, errors, wrong)
         }
     }
 }
@@ -220,37 +219,39 @@ fn why_of<'a>(is_asked: bool, path: &'a [u8], text: &'a [u8], args: &'a [Bytes])
 }
 
 /// Runs the configure.ac that the arguments name, with at most `window` children at once, and
-/// returns the exit status.
+/// returns what happened.
 ///
 /// The source is `configure.ac` in the directory that `--srcdir` names, or else in the current one.
 /// What the run hands over is written in the current directory, and then its log. If a text is
-/// shown, nothing is written. If anything is wrong, the status is 2, and standard error has a line
-/// for it (own); outputs may have been written before that. If it is asked, further lines may say
-/// why.
+/// shown, nothing is written. If anything is wrong, standard error has a line for it (own). If it
+/// is found before the run, nothing is started or written; if a put is refused, or the log can't be
+/// written, outputs may have been written before that. If it is asked, further lines may say why.
 pub fn run_configure<D: Disk, C: Crew + Causes, R: Read, W: Write, E: Write>(
     terminal: &mut Terminal<'_, D, R, W, E>,
     window: usize,
     args: &[Bytes],
     crew: &mut C,
-) -> u8
+) -> Happened
     requires window { IsWindow window }
     requires may_run { MayRun (C.account crew.old) }
     requires fresh { terminal.old.outputs ≡ fresh terminal.old.outputs.disk }
     ensures idle { IsIdle (C.account crew.new).events }
-    ensures run { result ≢ 2
-        → (out : List ℕ) × (said : List (List ℕ))
-        × IsConfigured window args.now terminal.old.env.now (C.account crew.old)
+    ensures run { is_all_done result ≡ true
+        → Prints terminal.old.is_asked (W.contents terminal.old.output)
+        (W.contents terminal.new.output) (E.contents terminal.old.errors)
+        (E.contents terminal.new.errors) (λ out said.
+        IsConfigured window args.now terminal.old.env.now (C.account crew.old)
         (C.account crew.new) (D.known terminal.old.outputs.disk)
-        (D.known terminal.new.outputs.disk) out said result
-        × Appends (W.contents terminal.old.output) (W.contents terminal.new.output) out
-        × (terminal.old.is_asked ≡ false
-        → AreTold (E.contents terminal.old.errors) (E.contents terminal.new.errors) said) }
+        (D.known terminal.new.outputs.disk) out said (status_after result)) }
+    ensures ended { HasHappened window args.now terminal.old.env.now (C.account crew.old)
+        (C.account crew.new) (D.known terminal.old.outputs.disk)
+        (D.known terminal.new.outputs.disk) result }
     ensures input { terminal.new.input ≡ terminal.old.input }
 {
     let alloc = terminal.alloc;
     let is_asked = terminal.is_asked;
     let Ok(path) = path_in(alloc, srcdir_of(args), b"configure.ac") else {
-        return tell_memory(&mut terminal.errors);
+        return no_memory(&mut terminal.errors);
     };
     let path = path.as_slice();
     match read_limited(alloc, terminal.outputs.disk(), path) {
@@ -260,8 +261,9 @@ pub fn run_configure<D: Disk, C: Crew + Causes, R: Read, W: Write, E: Write>(
         }
         Ok(None) => {
             let disk = terminal.outputs.disk();
-            tell_unread(alloc, disk, is_asked, path, &mut terminal.errors)
+            let _ = tell_unread(alloc, disk, is_asked, path, &mut terminal.errors);
+            Happened::NotRead
         }
-        Err(_) => tell_memory(&mut terminal.errors),
+        Err(_) => no_memory(&mut terminal.errors),
     }
 }

@@ -1,3 +1,4 @@
+pub mod Happened
 pub mod Left
 pub mod Printed
 pub mod MadeAgain

@@ -2,8 +2,11 @@
 //! read or written.
 
 ghost use Rattle.std.specs.Prelude.{◌≡◌, Ok, IsTrue};
+ghost use Rattle.cmd_status.specs.Happened.{after_fault, after_record};
+ghost use Rattle.cmd_status.specs.declared.happened.Happened.TheVariants.{OutOfMemory};
 
-use cmd_call::{FAULT, tell_file, tell_named, tell_precious};
+use crate::happened::{Happened, not_recorded, refused};
+use cmd_call::{FAULT, tell_file, tell_memory, tell_named, tell_precious};
 use cmd_explain::{Given, Why, explain_error, explain_fault, explain_file, explain_remake};
 use engine_frame::{Fault, RemakeFault};
 use file_disk::Disk;
@@ -32,22 +35,30 @@ fn tell_line<E: Write>(given: Option<&Given<'_>>, errors: &mut E, fault: &Fault)
     }
 }
 
-/// Reports what is wrong with what a run is given, and says more of it if it is asked. Returns the
-/// exit status. If the source was judged before the fault was found, `given` is what the run was
-/// given then.
+/// Reports what is wrong with what a run is given, and says more of it if it is asked. Returns what
+/// happened. If the source was judged before the fault was found, `given` is what the run was given
+/// then.
 pub fn tell_run<D: Disk, E: Write>(
     alloc: Global,
     disk: &D,
     why: &Why<'_>,
     given: Option<&Given<'_>>,
     errors: &mut E,
-    fault: &Fault,
-) -> u8
-    ensures { result ≡ 2 }
+    fault: Fault,
+) -> Happened
+    ensures { result ≡ after_fault fault }
 {
-    let _ = tell_line(given, errors, fault);
-    explain_fault(alloc, disk, why, given, errors, fault);
-    FAULT
+    let _ = tell_line(given, errors, &fault);
+    explain_fault(alloc, disk, why, given, errors, &fault);
+    refused(fault)
+}
+
+/// Reports that memory ran out, and returns what happened.
+pub fn no_memory<E: Write>(errors: &mut E) -> Happened
+    ensures { result ≡ OutOfMemory }
+{
+    let _ = tell_memory(errors);
+    Happened::OutOfMemory
 }
 
 /// Reports why outputs are not made again, or a run is not done again, and returns the exit status.
@@ -72,6 +83,21 @@ pub fn tell_remake<D: Disk, E: Write>(
     FAULT
 }
 
+/// Reports why the record of this text is not run again, as [`tell_remake`] does, and returns what
+/// happened.
+pub fn no_record<D: Disk, E: Write>(
+    alloc: Global,
+    disk: &D,
+    why: &Why<'_>,
+    errors: &mut E,
+    fault: RemakeFault,
+) -> Happened
+    ensures { result ≡ after_record fault }
+{
+    let _ = tell_remake(alloc, disk, why, None, b"", errors, &fault);
+    not_recorded(fault)
+}
+
 /// Reports that the file at this path can't be read, and says why if it is asked. Returns the exit
 /// status.
 pub fn tell_unread<D: Disk, E: Write>(
@@ -86,6 +112,18 @@ pub fn tell_unread<D: Disk, E: Write>(
     let _ = tell_file(errors, path);
     explain_file(alloc, disk, is_asked, path, path, errors);
     FAULT
+}
+
+/// Reports that the file of this name can't be written, and says why if it is asked.
+pub(crate) fn tell_unwritten<E: Write>(
+    alloc: Global,
+    is_asked: bool,
+    name: &[u8],
+    cause: &io::Error,
+    errors: &mut E,
+) {
+    let _ = tell_file(errors, name);
+    explain_error(alloc, is_asked, name, cause, errors);
 }
 
 /// Reports that the file of this name can't be written, if it can't be, and says why if it is
@@ -103,8 +141,7 @@ pub(crate) fn tell_written<E: Write>(
     match done {
         Ok(()) => true,
         Err(e) => {
-            let _ = tell_file(errors, name);
-            explain_error(alloc, is_asked, name, &e, errors);
+            tell_unwritten(alloc, is_asked, name, &e, errors);
             false
         }
     }

@@ -1,19 +1,20 @@
-//! What a run leaves for its user: its messages, the lines on its outputs, its log, and its exit
-//! status.
+//! What a run leaves for its user: its messages, the lines on its outputs, and its log.
 
-ghost use Rattle.std.specs.Prelude.{◌≡◌, ◌≢◌, [], None, Ok, IsTrue, false};
+ghost use Rattle.std.specs.Prelude.{◌≡◌, [], true, false, None, Ok, Err, IsTrue};
 ghost use Rattle.std.specs.Io.KnownBytes.{Appends};
 ghost use Rattle.cfglog.specs.Texts.{log_of};
-ghost use Rattle.cmd_status.specs.Left.{Logs};
+ghost use Rattle.cmd_status.specs.Happened.{is_all_done, is_whole, status_after};
+ghost use Rattle.cmd_status.specs.Left.{IsFinished, IsReported, Logs};
 ghost use Rattle.cmd_status.specs.Printed.{printed};
 ghost use Rattle.engine_frame.specs.declared.report.Report.{Report};
 ghost use Rattle.engine_frame.specs.Told as words;
 ghost use Rattle.cmd_call.specs.Errors.{AreTold, errors_of};
-ghost use Rattle.cmd_call.specs.Logged.{HasLogged, IsHeld};
+ghost use Rattle.cmd_call.specs.Logged.{HasLogged, HasNoLog, IsHeld};
 
-use crate::fault_lines::{tell_run, tell_written};
+use crate::fault_lines::{tell_run, tell_unwritten, tell_written};
+use crate::happened::{Happened, RunLeft};
 use crate::remaking::OUTPUT;
-use cmd_call::{FAULT, LOG, Terminal, print_all, tell_put, write_log};
+use cmd_call::{LOG, Terminal, print_all, tell_put, write_log};
 use cmd_explain::{
     Given, Why, explain_compilers, explain_cut, explain_directories, explain_doubts,
     explain_long_cache, explain_put,
@@ -107,8 +108,7 @@ fn print_report<D: Disk, C: Causes, R: Read, W: Write, E: Write>(
     tell_written(alloc, is_asked, OUTPUT, done, errors)
 }
 
-/// Reports the put that was refused, if one was, and says why if it is asked. Returns whether none
-/// was.
+/// Reports the put that was refused, if one was, and says why if it is asked.
 fn tell_refused<E: Write>(
     alloc: Global,
     is_asked: bool,
@@ -116,17 +116,12 @@ fn tell_refused<E: Write>(
     refused: Option<u64>,
     cause: &[u8],
     errors: &mut E,
-) -> bool
-    ensures refused { IsTrue result → refused ≡ None }
-    ensures silent { IsTrue result → errors.new ≡ errors.old }
+)
+    ensures silent { refused ≡ None → errors.new ≡ errors.old }
 {
-    match refused {
-        Some(number) => {
-            let _ = tell_put(errors, number);
-            explain_put(alloc, is_asked, given, cause, errors);
-            false
-        }
-        None => true,
+    if let Some(number) = refused {
+        let _ = tell_put(errors, number);
+        explain_put(alloc, is_asked, given, cause, errors);
     }
 }
 
@@ -138,30 +133,36 @@ fn log_report<D: Disk, E: Write>(
     report: &Report,
     errors: &mut E,
 ) -> bool
-    ensures log { IsTrue result
+    ensures log { result ≡ true
         → HasLogged D.known outputs.old outputs.new (log_of report.now.log) }
-    ensures silent { IsTrue result → errors.new ≡ errors.old }
+    ensures no_log { result ≡ false → HasNoLog D.known outputs.old outputs.new }
+    ensures silent { result ≡ true → errors.new ≡ errors.old }
 {
-    let done = write_log(alloc, outputs, report.log.as_slice());
-    tell_written(alloc, is_asked, LOG.as_bytes(), done, errors)
+    match write_log(alloc, outputs, report.log.as_slice()) {
+        Ok(()) => true,
+        Err(e) => {
+            tell_unwritten(alloc, is_asked, LOG.as_bytes(), &e, errors);
+            false
+        }
+    }
 }
 
-/// Prints and writes what a run leaves for its user, and returns the exit status.
+/// Prints and writes what a run leaves for its user, and returns what it left.
 fn finish_report<D: Disk, C: Causes, R: Read, W: Write, E: Write>(
     terminal: &mut Terminal<'_, D, R, W, E>,
     given: &Given<'_>,
     report: &Report,
     refused: Option<u64>,
     crew: &C,
-) -> u8
-    ensures run { result ≢ 2
-        → (refused ≡ None) × (result ≡ words.status_of report.now.outcome)
-        × Appends (W.contents terminal.old.output) (W.contents terminal.new.output)
+) -> RunLeft
+    ensures run { is_whole result ≡ true
+        → Appends (W.contents terminal.old.output) (W.contents terminal.new.output)
         (printed given.now.settings.now.quiet report.now.messages terminal.old.outputs.lines)
-        × Logs D.known terminal.old.outputs terminal.new.outputs report.now
         × (terminal.old.is_asked ≡ false
         → AreTold (E.contents terminal.old.errors) (E.contents terminal.new.errors)
         (errors_of report.now.messages)) }
+    ensures left { IsReported D.known terminal.old.outputs terminal.new.outputs report.now refused
+        result }
     ensures input { terminal.new.input ≡ terminal.old.input }
 {
     let alloc = terminal.alloc;
@@ -169,67 +170,85 @@ fn finish_report<D: Disk, C: Causes, R: Read, W: Write, E: Write>(
     let is_printed = print_report(terminal, given.settings, report, crew);
     let outputs = &mut terminal.outputs;
     let errors = &mut terminal.errors;
-    let is_whole = tell_refused(alloc, is_asked, given, refused, outputs.cause(), errors);
+    tell_refused(alloc, is_asked, given, refused, outputs.cause(), errors);
     let is_logged = log_report(alloc, outputs, is_asked, report, errors);
-    if is_printed && is_whole && is_logged {
-        status_of(report.outcome)
-    } else {
-        FAULT
+    RunLeft {
+        status: status_of(report.outcome),
+        refused,
+        is_printed,
+        is_logged,
     }
 }
 
-/// Prints and writes what follows from the result of a run, and returns the exit status. `given` is
+/// Reports a fault of a run, or prints and writes what the run leaves if it is a refused put, and
+/// returns what happened.
+fn finish_fault<D: Disk, C: Causes, R: Read, W: Write, E: Write>(
+    terminal: &mut Terminal<'_, D, R, W, E>,
+    why: &Why<'_>,
+    given: &Given<'_>,
+    fault: Fault,
+    crew: &C,
+) -> Happened
+    ensures unfinished { is_all_done result ≡ false }
+    ensures finished { IsFinished D.known terminal.old.outputs terminal.new.outputs (Err fault)
+        result }
+    ensures input { terminal.new.input ≡ terminal.old.input }
+{
+    match fault {
+        Fault::PutRefused(number, report) => {
+            let left = finish_report(terminal, given, &report, Some(number), crew);
+            Happened::Ran(left)
+        }
+        fault => {
+            let disk = terminal.outputs.disk();
+            let errors = &mut terminal.errors;
+            tell_run(terminal.alloc, disk, why, Some(given), errors, fault)
+        }
+    }
+}
+
+/// Prints and writes what follows from the result of a run, and returns what happened. `given` is
 /// what the run was given.
 ///
 /// A report leaves its messages, the lines on its outputs and its log, also if a put was refused,
-/// which is told then. Any other fault is told alone. The status is 2 if there is a fault, if the
-/// log can't be written, or if standard output doesn't take all of it. If it is asked, it also says
-/// why: of a cut run by what the crew knows, and of a refused put by what the outputs know.
+/// which is told then. Any other fault is told alone, and nothing else is done. If it is asked, it
+/// also says why: of a cut run by what the crew knows, and of a refused put by what the outputs
+/// know.
 pub fn finish_run<D: Disk, C: Causes, R: Read, W: Write, E: Write>(
     terminal: &mut Terminal<'_, D, R, W, E>,
     why: &Why<'_>,
     given: &Given<'_>,
     answer: Result<Report, Fault>,
     crew: &C,
-) -> u8
-    ensures run { result ≢ 2
-        → (report : Report) × (answer ≡ Ok report) × (result ≡ words.status_of report.outcome)
+) -> Happened
+    ensures run { is_all_done result ≡ true
+        → (report : Report) × (answer ≡ Ok report)
+        × (status_after result ≡ words.status_of report.outcome)
         × Appends (W.contents terminal.old.output) (W.contents terminal.new.output)
         (printed given.now.settings.now.quiet report.messages terminal.old.outputs.lines)
         × Logs D.known terminal.old.outputs terminal.new.outputs report
         × (terminal.old.is_asked ≡ false
         → AreTold (E.contents terminal.old.errors) (E.contents terminal.new.errors)
         (errors_of report.messages)) }
+    ensures finished { IsFinished D.known terminal.old.outputs terminal.new.outputs answer result }
     ensures input { terminal.new.input ≡ terminal.old.input }
 {
     match answer {
-        Ok(report) => finish_report(terminal, given, &report, None, crew),
-        Err(Fault::PutRefused(number, report)) => {
-            finish_report(terminal, given, &report, Some(number), crew)
+        Ok(report) => {
+            let left = finish_report(terminal, given, &report, None, crew);
+            Happened::Ran(left)
         }
-        Err(fault) => {
-            let disk = terminal.outputs.disk();
-            tell_run(
-                terminal.alloc,
-                disk,
-                why,
-                Some(given),
-                &mut terminal.errors,
-                &fault,
-            )
-        }
+        Err(fault) => finish_fault(terminal, why, given, fault, crew),
     }
 }
 
-/// Prints the text of a report that shows one, and returns the exit status, which is 0 if standard
-/// output takes it.
+/// Prints the text of a report that shows one. Returns whether standard output took it.
 pub fn print_shown<D: Disk, R: Read, W: Write, E: Write>(
     terminal: &mut Terminal<'_, D, R, W, E>,
     report: &Report,
-) -> u8
-    ensures run { result ≢ 2
-        → (result ≡ 0)
-        × Appends (W.contents terminal.old.output) (W.contents terminal.new.output)
+) -> bool
+    ensures run { result ≡ true
+        → Appends (W.contents terminal.old.output) (W.contents terminal.new.output)
         (printed false report.now.messages [])
         × AreTold (E.contents terminal.old.errors) (E.contents terminal.new.errors)
         (errors_of report.now.messages) }
@@ -241,9 +260,5 @@ pub fn print_shown<D: Disk, R: Read, W: Write, E: Write>(
     let errors = &mut terminal.errors;
     let messages = report.messages.as_slice();
     let done = print_all(alloc, messages, b"", false, &mut terminal.output, errors);
-    if tell_written(alloc, is_asked, OUTPUT, done, errors) {
-        0
-    } else {
-        FAULT
-    }
+    tell_written(alloc, is_asked, OUTPUT, done, errors)
 }

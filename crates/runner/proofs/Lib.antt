@@ -1,2 +1,3 @@
 mod Others
+mod Statuses
 mod Whole

@@ -4,6 +4,7 @@ ghost use Rattle.std.specs.Prelude.{◌≡◌, ◌⊎◌, List, ℕ, [], ◌∷�
 ghost use Rattle.std.specs.Io.KnownBytes.{Appends};
 ghost use Rattle.cmd_filter.specs.Filtered.{IsFiltered};
 ghost use Rattle.cmd_call.specs.Errors.{AreTold};
+ghost use Rattle.runner.specs.Filters.{FiltersSo};
 
 use cmd_call::{FAULT, write_errors};
 use cmd_explain::{Why, explain_source, explain_usage};
@@ -76,12 +77,17 @@ pub(crate) fn run_filter<R: Read, W: Write, E: Write>(
     output: &mut W,
     errors: &mut E,
 ) -> u8
-    ensures { (result ≡ 2)
+    ensures run { (result ≡ 2)
         ⊎ IfSome (R.remaining input.old) (λ text.
         (out : List ℕ) × (said : List ℕ) × IsFiltered text out said result
         × Appends (W.contents output.old) (W.contents output.new) out
         × (said ≡ [] → errors.new ≡ errors.old)
         × AreTold (E.contents errors.old) (E.contents errors.new) (said ∷ [])) }
+    ensures ended { IfSome (R.remaining input.old) (λ text.
+        FiltersSo text result (output.new ≡ output.old) (λ out said.
+        Appends (W.contents output.old) (W.contents output.new) out
+        × (said ≡ [] → errors.new ≡ errors.old)
+        × AreTold (E.contents errors.old) (E.contents errors.new) (said ∷ []))) }
 {
     let mut text = Vec::new(alloc);
     match filter_keeping(alloc, input, output, &mut text) {

@@ -4,7 +4,8 @@ ghost use Rattle.std.specs.Prelude.{◌≡◌, true, false, ◌∷◌, ◌≢◌
 ghost use Rattle.std.specs.Io.KnownBytes.{Appends};
 ghost use Rattle.std.specs.List.{list_any};
 ghost use Rattle.cmd_status.specs.MadeAgain.{IsMadeAgain};
-ghost use Rattle.cmd_configure.specs.Configures.{IsConfigured, IsRechecked, MayRun};
+ghost use Rattle.cmd_configure.specs.Configures.{IsConfigured, IsRechecked, IsWindow, MayRun};
+ghost use Rattle.cmd_configure.specs.Ended.{Exits, HasHappened, HasHappenedAgain, Prints};
 ghost use Rattle.crew_trait.specs.Events.{IsIdle};
 ghost use Rattle.file_texts.specs.Held.{fresh};
 ghost use Rattle.cmd_filter.specs.Filtered.{IsFiltered};
@@ -13,6 +14,7 @@ ghost use Rattle.cmd_call.specs.Errors.{AreTold};
 ghost use Rattle.cmd_lint.specs.Status.{IsStatus, is_unknown};
 ghost use Rattle.cmd_port.specs.Asked.{request_of};
 ghost use Rattle.cmd_port.specs.Printed.{IsAnswer};
+ghost use Rattle.runner.specs.Filters.{FiltersSo};
 ghost use Rattle.runner.specs.Ports.{IfPort};
 ghost use Rattle.runner.specs.Puts.{HasNoPuts};
 ghost use Rattle.cmd_standin.specs.Standin.{IsAnswered};
@@ -25,7 +27,7 @@ use cmd_explain::{asks_why, explain_help, explain_usage};
 use cmd_help::{run_help, run_version};
 use cmd_lint::{may_colour, run_lint};
 use cmd_port::run_port;
-use cmd_status::{run_standin, run_status};
+use cmd_status::{exit_status, run_standin, run_status};
 use cmd_why::run_why;
 use crew_refusals::Causes;
 use crew_tally::{Children, Counted, Tally, put_summary};
@@ -117,6 +119,71 @@ fn explain<D: Disk, R: Read, W: Write, E: Write>(
     }
 }
 
+/// Runs the configure.ac that the arguments name, and returns the exit status of what happened.
+fn configure<D: Disk, C: Crew + Causes, R: Read, W: Write, E: Write>(
+    terminal: &mut Terminal<'_, D, R, W, E>,
+    window: usize,
+    args: &[Bytes],
+    crew: &mut C,
+) -> u8
+    requires window { IsWindow window }
+    requires may_run { MayRun (C.account crew.old) }
+    requires fresh { terminal.old.outputs ≡ fresh terminal.old.outputs.disk }
+    ensures idle { IsIdle (C.account crew.new).events }
+    ensures run { result ≢ 2
+        → Prints terminal.old.is_asked (W.contents terminal.old.output)
+        (W.contents terminal.new.output) (E.contents terminal.old.errors)
+        (E.contents terminal.new.errors) (λ out said.
+        IsConfigured window args.now terminal.old.env.now (C.account crew.old)
+        (C.account crew.new) (D.known terminal.old.outputs.disk)
+        (D.known terminal.new.outputs.disk) out said result) }
+    ensures ended { Exits result (
+        HasHappened window args.now terminal.old.env.now (C.account crew.old)
+        (C.account crew.new) (D.known terminal.old.outputs.disk)
+        (D.known terminal.new.outputs.disk))
+        (Prints terminal.old.is_asked (W.contents terminal.old.output)
+        (W.contents terminal.new.output) (E.contents terminal.old.errors)
+        (E.contents terminal.new.errors) (λ out said.
+        IsConfigured window args.now terminal.old.env.now (C.account crew.old)
+        (C.account crew.new) (D.known terminal.old.outputs.disk)
+        (D.known terminal.new.outputs.disk) out said result)) }
+    ensures input { terminal.new.input ≡ terminal.old.input }
+{
+    let happened = run_configure(terminal, window, args, crew);
+    exit_status(&happened)
+}
+
+/// Runs a configure.ac again with the arguments of its record, and returns the exit status of what
+/// happened.
+fn recheck<D: Disk, C: Crew + Causes, R: Read, W: Write, E: Write>(
+    terminal: &mut Terminal<'_, D, R, W, E>,
+    crew: &mut C,
+) -> u8
+    requires may_run { MayRun (C.account crew.old) }
+    requires fresh { terminal.old.outputs ≡ fresh terminal.old.outputs.disk }
+    ensures idle { IsIdle (C.account crew.new).events }
+    ensures run { result ≢ 2
+        → Prints terminal.old.is_asked (W.contents terminal.old.output)
+        (W.contents terminal.new.output) (E.contents terminal.old.errors)
+        (E.contents terminal.new.errors) (λ out said.
+        IsRechecked terminal.old.env.now (C.account crew.old) (C.account crew.new)
+        (D.known terminal.old.outputs.disk) (D.known terminal.new.outputs.disk) out said
+        result) }
+    ensures ended { Exits result (
+        HasHappenedAgain terminal.old.env.now (C.account crew.old) (C.account crew.new)
+        (D.known terminal.old.outputs.disk) (D.known terminal.new.outputs.disk))
+        (Prints terminal.old.is_asked (W.contents terminal.old.output)
+        (W.contents terminal.new.output) (E.contents terminal.old.errors)
+        (E.contents terminal.new.errors) (λ out said.
+        IsRechecked terminal.old.env.now (C.account crew.old) (C.account crew.new)
+        (D.known terminal.old.outputs.disk) (D.known terminal.new.outputs.disk) out said
+        result)) }
+    ensures input { terminal.new.input ≡ terminal.old.input }
+{
+    let happened = run_recheck(terminal, crew);
+    exit_status(&happened)
+}
+
 /// Runs the command that the words name, and returns its exit status.
 ///
 /// Without words, it filters its input, and the status is that of the source's run. After `standin`
@@ -150,6 +217,15 @@ pub fn run<F: Files, D: Disk, C: Crew + Causes, R: Read, W: Write, E: Write>(
         × (said ≡ [] → terminal.new.errors ≡ terminal.old.errors)
         × AreTold (E.contents terminal.old.errors) (E.contents terminal.new.errors)
         (said ∷ []))) }
+    // Whatever the status is: the input has a fault, and nothing is written, unless it is that the
+    // text couldn't be; or what is written and the status, also 2, are those of the source's meaning.
+    ensures filtered { IfFilter (call_of words.now) (
+        IfSome (R.remaining terminal.old.input) (λ text.
+        FiltersSo text result (terminal.new.output ≡ terminal.old.output) (λ out said.
+        Appends (W.contents terminal.old.output) (W.contents terminal.new.output) out
+        × (said ≡ [] → terminal.new.errors ≡ terminal.old.errors)
+        × AreTold (E.contents terminal.old.errors) (E.contents terminal.new.errors)
+        (said ∷ [])))) }
     // The stand-in's status is its answer for the texts of its files, unless memory runs out. If it
     // accepts the conftest, it writes nothing.
     ensures standin { IfStandIn (call_of words.now) (λ others.
@@ -171,6 +247,23 @@ pub fn run<F: Files, D: Disk, C: Crew + Causes, R: Read, W: Write, E: Write>(
         × (terminal.old.is_asked ≡ false
         → AreTold (E.contents terminal.old.errors) (E.contents terminal.new.errors)
         said)) }
+    // Whatever the status is, also 2, it is that of what happened, which is one of these. The
+    // source can't be read, it or what it is given has a fault, memory ran out before the run, or a
+    // text was shown: then no child was started, and nothing was done to files. Or memory ran out in
+    // the run, and nothing was done to files. Or the run was made, and what it handed over before a
+    // put was refused is written, and nothing else. Unless something couldn't be written, also the
+    // rest of what is said above holds, with this status.
+    ensures ended { IfConfigure (call_of words.now) (λ window args.
+        Exits result (
+        HasHappened window args terminal.old.env.now (C.account crew.old)
+        (C.account crew.new) (D.known terminal.old.outputs.disk)
+        (D.known terminal.new.outputs.disk))
+        (Prints terminal.old.is_asked (W.contents terminal.old.output)
+        (W.contents terminal.new.output) (E.contents terminal.old.errors)
+        (E.contents terminal.new.errors) (λ out said.
+        IsConfigured window args terminal.old.env.now (C.account crew.old)
+        (C.account crew.new) (D.known terminal.old.outputs.disk)
+        (D.known terminal.new.outputs.disk) out said result))) }
     // Unless the status is 2, it is 0, and the outputs of the record with these names are made, and
     // nothing else.
     ensures status { IfStatus (call_of words.now) (λ tags.
@@ -194,6 +287,18 @@ pub fn run<F: Files, D: Disk, C: Crew + Causes, R: Read, W: Write, E: Write>(
         × (terminal.old.is_asked ≡ false
         → AreTold (E.contents terminal.old.errors) (E.contents terminal.new.errors)
         said)) }
+    // Whatever its status is, one of the same cases holds of it, or the record can't be read or run
+    // again, and nothing was done.
+    ensures ended_again { IfRecheck (call_of words.now) (
+        Exits result (
+        HasHappenedAgain terminal.old.env.now (C.account crew.old) (C.account crew.new)
+        (D.known terminal.old.outputs.disk) (D.known terminal.new.outputs.disk))
+        (Prints terminal.old.is_asked (W.contents terminal.old.output)
+        (W.contents terminal.new.output) (E.contents terminal.old.errors)
+        (E.contents terminal.new.errors) (λ out said.
+        IsRechecked terminal.old.env.now (C.account crew.old) (C.account crew.new)
+        (D.known terminal.old.outputs.disk) (D.known terminal.new.outputs.disk) out said
+        result))) }
     // What explains something has no other status than these. Unless it is 2, `why` writes nothing
     // on standard error.
     ensures explained { IfWhy (call_of words.now) (λ asked.
@@ -255,9 +360,9 @@ pub fn run<F: Files, D: Disk, C: Crew + Causes, R: Read, W: Write, E: Write>(
             let disk = terminal.outputs.disk();
             run_standin(alloc, files, disk, words, &mut terminal.errors)
         }
-        ProgramCall::Configure(window, args) => run_configure(terminal, window, args, crew),
+        ProgramCall::Configure(window, args) => configure(terminal, window, args, crew),
         ProgramCall::Status(tags) => run_status(terminal, tags),
-        ProgramCall::Recheck => run_recheck(terminal, crew),
+        ProgramCall::Recheck => recheck(terminal, crew),
         _ => {
             let has_colours = may_colour(terminal.env, is_terminal);
             explain(terminal, words, has_colours)
@@ -335,6 +440,12 @@ pub fn command<C: Crew + Causes + Children>(
         → (out : List ℕ) × (said : List (List ℕ))
         × IsConfigured window args env.now (C.account crew.old) (C.account crew.new) None
         None out said result) }
+    ensures ended { IfConfigure (call_of words.now) (λ window args.
+        Exits result (
+        HasHappened window args env.now (C.account crew.old) (C.account crew.new) None None)
+        ((out : List ℕ) × (said : List (List ℕ))
+        × IsConfigured window args env.now (C.account crew.old) (C.account crew.new) None
+        None out said result)) }
     ensures status { IfStatus (call_of words.now) (λ tags.
         result ≢ 2 → (result ≡ 0) × (out : List ℕ) × IsMadeAgain None None tags out) }
     ensures recheck { IfRecheck (call_of words.now) (
@@ -342,6 +453,12 @@ pub fn command<C: Crew + Causes + Children>(
         → (out : List ℕ) × (said : List (List ℕ))
         × IsRechecked env.now (C.account crew.old) (C.account crew.new) None None out said
         result) }
+    ensures ended_again { IfRecheck (call_of words.now) (
+        Exits result (
+        HasHappenedAgain env.now (C.account crew.old) (C.account crew.new) None None)
+        ((out : List ℕ) × (said : List (List ℕ))
+        × IsRechecked env.now (C.account crew.old) (C.account crew.new) None None out said
+        result)) }
     ensures explained { IfWhy (call_of words.now) (λ asked. result ≤ 2) }
     ensures why { IfWhy (call_of words.now) (λ asked.
         result ≢ 2 → (out : List ℕ) × IsWhy None asked out result) }

@@ -7,7 +7,7 @@ use crate::done::Placed;
 use crate::memory::{MemoryDisk, copied};
 use cmd_call::Terminal;
 use cmd_configure::run_configure;
-use cmd_status::run_status;
+use cmd_status::{exit_status, run_status};
 use crew::{Crew, MemoryCrew, Order};
 use crew_refusals::Causes;
 use deftable::Bytes;
@@ -105,7 +105,7 @@ fn configure_over<D: Disk, C: Crew + Causes>(
         output: Vec::new(alloc),
         errors: Vec::new(alloc),
     };
-    let status = run_configure(&mut terminal, 1, words, crew);
+    let status = exit_status(&run_configure(&mut terminal, 1, words, crew));
     put_told(
         page,
         status,

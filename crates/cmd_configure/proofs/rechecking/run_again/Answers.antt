@@ -1,10 +1,12 @@
-use Rattle.std.proofs.Common.{subst, sym}
+use Rattle.std.proofs.Common.{refl, subst, sym}
 use Rattle.engine_frame.specs.Rechecked.{HasArguments}
+use Rattle.cmd_configure.specs.Ended.{ran_again}
+use Rattle.cmd_configure.proofs.Cases.{has_bad_record, never_done_again}
 use Rattle.cmd_configure.proofs.rechecking.run_again.Goals as goal
 
 pub returns-in-Ok-clause-run : goal.returns-in-Ok-clause-run
 returns-in-Ok-clause-run g c = λ other.
-    let told = c.run_configure-status.ensures.run other in (
+    let told = c.run_configure-happened.ensures.run other in (
       told.0,
       told.1,
       record {
@@ -17,3 +19,15 @@ returns-in-Ok-clause-run g c = λ other.
       told.3,
       told.4,
     )
+
+pub returns-in-Ok-clause-ended : goal.returns-in-Ok-clause-ended
+returns-in-Ok-clause-ended g c =
+    ran_again c.args.text.now c.as_slice-args.result.now c.requires.found
+    (subst (λ a. HasArguments c.args.text.now a) (sym c.as_slice-args.ensures) c.in-Ok.ensures.sound) c.run_configure-happened.ensures.ended
+
+pub returns-in-Err-clause-run : goal.returns-in-Err-clause-run
+returns-in-Err-clause-run g c = never_done_again c.in-Err.fault c.no_record.result _ c.no_record.ensures
+
+pub returns-in-Err-clause-ended : goal.returns-in-Err-clause-ended
+returns-in-Err-clause-ended g c =
+    has_bad_record c.in-Err.fault c.args.terminal.now.env.now _ _ _ _ c.args.text.now c.no_record.result c.requires.found c.in-Err.ensures.exact c.no_record.ensures refl refl

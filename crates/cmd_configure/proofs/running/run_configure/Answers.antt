@@ -1,3 +1,5 @@
+use Rattle.std.proofs.Common.{refl}
+use Rattle.cmd_configure.proofs.Cases.{has_no_memory, has_no_source}
 use Rattle.cmd_configure.proofs.Supplied.{source_by}
 use Rattle.cmd_configure.proofs.running.run_configure.Goals as goal
 
@@ -5,3 +7,16 @@ pub run_text-requires-clause-found : goal.run_text-requires-clause-found
 run_text-requires-clause-found g c =
     source_by g.D.Disk.known c.args.terminal.now.outputs.disk c.disk.result.now c.args.args.now c.why_of-why.result.args.now c.srcdir_of.result.now _ c.as_slice-path.result.now _ _ _ c.why_of-why.result.text.now
     c.disk.ensures c.as_slice-path.ensures c.in-Ok.ensures c.srcdir_of.ensures.exact c.why_of-why.ensures.args c.in-Ok-Some.field-0-is c.as_slice.ensures c.why_of-why.ensures.text c.in-Ok-Some.ensures.text
+
+pub returns-in_default-clause-ended : goal.returns-in_default-clause-ended
+returns-in_default-clause-ended g c =
+    has_no_memory c.args.window c.args.args.now c.args.terminal.now.env.now _ _ _ _ c.no_memory.result c.no_memory.ensures refl refl
+
+pub returns-in-Ok-None-clause-ended : goal.returns-in-Ok-None-clause-ended
+returns-in-Ok-None-clause-ended g c =
+    has_no_source g.D.Disk.known c.args.terminal.now.outputs.disk c.disk.result.now c.args.window c.args.args.now c.args.terminal.now.env.now _ c.srcdir_of.result.now _ c.as_slice-path.result.now _
+    c.disk.ensures c.as_slice-path.ensures c.in-Ok.ensures c.srcdir_of.ensures.exact c.in-Ok-None.field-0-is c.in-Ok-None.ensures.text
+
+pub returns-clause-ended : goal.returns-clause-ended
+returns-clause-ended g c =
+    has_no_memory c.args.window c.args.args.now c.args.terminal.now.env.now _ _ _ _ c.no_memory-in-Err.result c.no_memory-in-Err.ensures refl refl

@@ -18,3 +18,12 @@ returns-in_default-clause-status g c = no_status c.call_of.result _ _ c.in_defau
 
 pub returns-in_default-clause-recheck : goal.returns-in_default-clause-recheck
 returns-in_default-clause-recheck g c = no_recheck c.call_of.result _ _ c.in_default.not-Recheck c.call_of.ensures.call
+
+pub returns-in_default-clause-ended : goal.returns-in_default-clause-ended
+returns-in_default-clause-ended g c = no_configure c.call_of.result _ _ c.in_default.not-Configure c.call_of.ensures.call
+
+pub returns-in_default-clause-ended_again : goal.returns-in_default-clause-ended_again
+returns-in_default-clause-ended_again g c = no_recheck c.call_of.result _ _ c.in_default.not-Recheck c.call_of.ensures.call
+
+pub returns-in_default-clause-filtered : goal.returns-in_default-clause-filtered
+returns-in_default-clause-filtered g c = no_filter c.call_of.result _ _ c.in_default.not-Filter c.call_of.ensures.call

@@ -1,0 +1,137 @@
+-- What happened, from what is known of a source and of a record.
+use Rattle.std.proofs.Common.{◌≡◌, ℕ, Bool, true, false, List, ◌∷◌, ◌++◌, Option, Some, None, Result, Ok, Err, refl, sym, subst, ap, ◌∙◌}
+use Rattle.std.specs.Prelude.{codes}
+use Rattle.ac_statement.specs.declared.fault.ParseFault.{ParseFault}
+use Rattle.ac_statement.specs.declared.fault.ParseFault.TheVariants as parses
+use Rattle.ac_statement.specs.Reading as reading
+use Rattle.acparse.specs.Profile.{source_of}
+use Rattle.ac_tree.specs.Script.{Script}
+use Rattle.crew_trait.specs.Events.{Account}
+use Rattle.options_line.specs.Srcdir.{srcdir_of}
+use Rattle.options.specs.declared.settings.Settings.{Settings}
+use Rattle.cmd_status.specs.Happened.{after_fault, after_record, is_all_done, shown_status}
+use Rattle.cmd_status.specs.declared.happened.Happened.{Happened}
+use Rattle.cmd_status.specs.declared.happened.Happened.TheVariants.{NotRead, NotRecorded, OutOfMemory, Refused, Shown}
+use Rattle.cmd_status.proofs.Happenings.{unfinished}
+use Rattle.file_disk.specs.Known.{Known}
+use Rattle.engine_frame.specs.Faults.{◌>>=◌, Fails, FailsAgain, named, of_parse}
+use Rattle.engine_frame.specs.Given.{source_settings}
+use Rattle.engine_frame.specs.Judging.{Judged, RunsBelow, judged_with, judgement, judged_of}
+use Rattle.engine_frame.specs.Needed.{Needed, script_in}
+use Rattle.engine_frame.specs.Rechecked.{rechecked}
+use Rattle.engine_frame.specs.declared.fault.Fault.{Fault}
+use Rattle.engine_frame.specs.declared.fault.Fault.TheVariants as faults
+use Rattle.engine_frame.specs.declared.fault.RemakeFault.{RemakeFault}
+use Rattle.engine_frame.specs.declared.fault.RemakeFault.TheVariants as again
+use Rattle.engine_frame.specs.declared.judging.Judged.{Judged as Found}
+use Rattle.engine_frame.specs.declared.judging.Judged.TheVariants as founds
+use Rattle.engine_frame.specs.declared.report.Report.{Report}
+use Rattle.engine_frame.proofs.Judgements.{runs_as, shows_as}
+use Rattle.cmd_call.specs.Supplies.{ReadsLimited, ReadsWhole, path_of}
+use Rattle.cmd_configure.specs.Configures.{ReadsSource}
+use Rattle.cmd_configure.specs.Ended.{HasHappened, HasHappenedAgain, IsRunEnd, not_read, bad_source, bad_arguments, no_memory, shown, run, no_record, bad_record, no_memory_again}
+
+-- ---- what is not all done
+
+-- After a fault not all is done.
+pub never_done : (f : Fault) (happened : Happened) (P : Type 0) → happened ≡ after_fault f → is_all_done happened ≡ true → P
+never_done f happened P is done =
+    let no : false ≡ true = sym (unfinished f) ∙ ap is_all_done (sym is) ∙ done in
+    absurd (cc)
+
+pub never_done_again : (f : RemakeFault) (happened : Happened) (P : Type 0) → happened ≡ after_record f → is_all_done happened ≡ true → P
+never_done_again again.OutOfMemory happened P is done = let no : false ≡ true = ap is_all_done (sym is) ∙ done in absurd (cc)
+never_done_again f happened P is done = let no : false ≡ true = ap is_all_done (sym is) ∙ done in absurd (cc)
+
+pub never_memory : (happened : Happened) (P : Type 0) → happened ≡ OutOfMemory → is_all_done happened ≡ true → P
+never_memory happened P is done = let no : false ≡ true = ap is_all_done (sym is) ∙ done in absurd (cc)
+
+-- The exit status after a text that was shown is 0.
+pub zero_if : (is_printed : Bool) → is_printed ≡ true → shown_status is_printed ≡ 0
+zero_if true e = refl
+zero_if false e = absurd (cc)
+
+-- ---- a source
+
+-- Memory ran out.
+pub has_no_memory : (window : ℕ) (a : List (List ℕ)) (e : List (List ℕ × List ℕ)) (before now : Account) (old new : Option Known) (happened : Happened)
+    → happened ≡ OutOfMemory → now ≡ before → new ≡ old → HasHappened window a e before now old new happened
+has_no_memory window a e before now old new happened is same_crew same = subst (HasHappened window a e before now old new) (sym is) (no_memory same_crew same)
+
+-- The source was not read.
+pub has_no_source : {D : Type 0} (known : D → Option Known) (d lent : D) (window : ℕ) (a : List (List ℕ)) (e : List (List ℕ × List ℕ)) (now : Account) (srcdir path name : List ℕ) (read : Option (List ℕ))
+    → lent ≡ d → name ≡ path → path ≡ srcdir ++ 47 ∷ codes "configure.ac" → srcdir ≡ srcdir_of a → read ≡ None
+    → ReadsLimited (known lent) name read → HasHappened window a e now now (known d) (known d) NotRead
+has_no_source known d lent window a e now srcdir path name read same name_is path_is srcdir_is is h =
+    not_read
+    (subst (λ x. ReadsLimited (known x) (path_of (srcdir_of a) (codes "configure.ac")) None) same
+    (subst (λ (n : List ℕ). ReadsLimited (known lent) n None) (name_is ∙ path_is ∙ ap (λ s. path_of s (codes "configure.ac")) srcdir_is)
+    (subst (λ (o : Option (List ℕ)). ReadsLimited (known lent) name o) is h)))
+    refl refl
+
+-- The source has a fault.
+pub has_bad_source : (p : ParseFault) (window : ℕ) (a : List (List ℕ)) (e : List (List ℕ × List ℕ)) (before now : Account) (old new : Option Known) (source : List ℕ) (f : Fault) (happened : Happened)
+    → ReadsSource old a source → reading.Fails p (source_of source) → f ≡ of_parse p → happened ≡ after_fault f → now ≡ before → new ≡ old
+    → HasHappened window a e before now old new happened
+has_bad_source parses.OutOfMemory window a e before now old new source f happened reads fails fault_is is same_crew same =
+    subst (HasHappened window a e before now old new) (sym (is ∙ ap after_fault fault_is)) (no_memory same_crew same)
+has_bad_source p window a e before now old new source f happened reads fails fault_is is same_crew same =
+    subst (HasHappened window a e before now old new) (sym (is ∙ ap after_fault fault_is)) (bad_source source reads (ap (named of_parse) fails) same_crew same)
+
+fails_first : (a : List (List ℕ)) (script : Script) (r : Result Settings Fault) (f : Fault) → (r >>= λ settings. Ok (judged_with a script settings)) ≡ Err f → r ≡ Err f
+fails_first a script (Ok settings) f e = absurd (cc)
+fails_first a script (Err g) f e = cc
+
+fails_asking : (a : List (List ℕ)) (e : List (List ℕ × List ℕ)) (script : Script) (f : Fault) → judgement a e script ≡ Err f → source_settings a e script ≡ Err f
+unfolding judgement
+fails_asking a e script f is = fails_first a script (source_settings a e script) f is
+
+-- The arguments have a fault, or the source is too long.
+pub has_bad_arguments : (f : Fault) (window : ℕ) (a : List (List ℕ)) (e : List (List ℕ × List ℕ)) (before now : Account) (old new : Option Known) (source : List ℕ) (script : Script) (happened : Happened)
+    → ReadsSource old a source → source_of source ≡ Ok script → Fails f (judgement a e script) → happened ≡ after_fault f → now ≡ before → new ≡ old
+    → HasHappened window a e before now old new happened
+has_bad_arguments faults.OutOfMemory window a e before now old new source script happened reads read fails is same_crew same =
+    subst (HasHappened window a e before now old new) (sym is) (no_memory same_crew same)
+has_bad_arguments f window a e before now old new source script happened reads read fails is same_crew same =
+    subst (HasHappened window a e before now old new) (sym is) (bad_arguments source script reads read (fails_asking a e script _ fails) same_crew same)
+
+-- A text was shown.
+pub has_shown : (window : ℕ) (a : List (List ℕ)) (e : List (List ℕ × List ℕ)) (now : Account) (old new : Option Known) (source : List ℕ) (script : Script) (found : Found) (report : Report) (is_printed : Bool)
+    → ReadsSource old a source → source_of source ≡ Ok script → judgement a e script ≡ Ok (judged_of found) → found ≡ founds.Shows report → new ≡ old
+    → HasHappened window a e now now old new (Shown is_printed)
+has_shown window a e now old new source script found report is_printed reads read is kind same =
+    let s = shows_as a e script found report is kind in
+    shown source script s.settings reads (record { read = read; settles = s.asks }) s.shows_it refl same
+
+-- The source was to be run.
+pub has_run : (window : ℕ) (a : List (List ℕ)) (e : List (List ℕ × List ℕ)) (before now : Account) (old new : Option Known) (source : List ℕ) (script : Script) (found : Found) (n : Needed) (happened : Happened)
+    → ReadsSource old a source → source_of source ≡ Ok script → judgement a e script ≡ Ok (judged_of found) → found ≡ founds.Runs n → RunsBelow (srcdir_of a) found
+    → IsRunEnd window n.arguments (script_in n) n.settings before now old new happened → HasHappened window a e before now old new happened
+has_run window a e before now old new source script found n happened reads read is kind below ended =
+    let s = runs_as a e script found n is kind in
+    run source script n.settings reads (record { read = read; settles = s.asks }) s.runs (subst (RunsBelow (srcdir_of a)) kind below)
+    (subst (λ x. IsRunEnd window a x n.settings before now old new happened) (sym s.script_is)
+    (subst (λ x. IsRunEnd window x (script_in n) n.settings before now old new happened) (sym s.arguments) ended))
+
+-- ---- a record
+
+pub has_no_memory_again : (e : List (List ℕ × List ℕ)) (before now : Account) (old new : Option Known) (happened : Happened)
+    → happened ≡ OutOfMemory → now ≡ before → new ≡ old → HasHappenedAgain e before now old new happened
+has_no_memory_again e before now old new happened is same_crew same = subst (HasHappenedAgain e before now old new) (sym is) (no_memory_again same_crew same)
+
+-- The record was not read.
+pub has_no_record : {D : Type 0} (known : D → Option Known) (d lent : D) (e : List (List ℕ × List ℕ)) (now : Account) (read : Option (List ℕ))
+    → lent ≡ d → read ≡ None → ReadsWhole (known lent) (codes "config.status") read → HasHappenedAgain e now now (known d) (known d) NotRead
+has_no_record known d lent e now read same is h =
+    no_record
+    (subst (λ x. ReadsWhole (known x) (codes "config.status") None) same (subst (λ (o : Option (List ℕ)). ReadsWhole (known lent) (codes "config.status") o) is h))
+    refl refl
+
+-- The record has a fault.
+pub has_bad_record : (f : RemakeFault) (e : List (List ℕ × List ℕ)) (before now : Account) (old new : Option Known) (text : List ℕ) (happened : Happened)
+    → ReadsWhole old (codes "config.status") (Some text) → FailsAgain f (rechecked text) → happened ≡ after_record f → now ≡ before → new ≡ old
+    → HasHappenedAgain e before now old new happened
+has_bad_record again.OutOfMemory e before now old new text happened reads fails is same_crew same =
+    subst (HasHappenedAgain e before now old new) (sym is) (no_memory_again same_crew same)
+has_bad_record f e before now old new text happened reads fails is same_crew same =
+    subst (HasHappenedAgain e before now old new) (sym is) (bad_record text reads fails same_crew same)
