@@ -1,7 +1,7 @@
 #!/usr/bin/env python3
 """Holds what `acrun port` calls exact against Autoconf 2.71, with sources that are made by number.
 
-    tools/fuzz_exact.py PROGRAM [--idioms] [--from N] [--count N] [--seconds N] [--runs N] [--jobs N] [--only MACRO]..
+    tools/fuzz_exact.py PROGRAM [--idioms] [--from N] [--count N] [--seconds N] [--runs N] [--jobs N] [--log FILE] [--only MACRO]..
     tools/fuzz_exact.py PROGRAM --stored [NAME..]    the stored sources whose names begin so
     tools/fuzz_exact.py PROGRAM --replay N           shows source N, what port makes of it, and what differs
     tools/fuzz_exact.py PROGRAM --minimize N         the same of the smallest part of it that differs
@@ -20,7 +20,8 @@ With --idioms a source has also calls of the macros that have a line `& `, if Au
 there is such a call, what is printed and the order of definitions are not compared, and of the cache variables only those that are named in what port writes: a
 sentence of docs/commands.md says so. A line `? ` of a macro with a line `& ` states differences too.
 Prints the differences of each source that has some, and last a count. The exit status is 1 if one differs. It needs Autoconf 2.71, m4 and a
-C compiler.
+C compiler. A source takes about two seconds of a processor, nine tenths of them in the two scripts. With --log it writes a line for each
+source to FILE, and passes over those that FILE has, so that a run that was cut goes on where it was. The count is then of both.
 """
 import argparse
 import concurrent.futures
@@ -1142,6 +1143,12 @@ def try_stored(program, options):
     return int(differ > 0)
 
 
+def logged(file):
+    """Returns what came of each source that a log has."""
+    text = pathlib.Path(file).read_text() if file and os.path.exists(file) else ""
+    return {int(number): kind for number, kind in re.findall(r"(?m)^(\d+) (same|rewritten|refused|differ)$", text)}
+
+
 def main():
     options = argparse.ArgumentParser(description=__doc__, formatter_class=argparse.RawDescriptionHelpFormatter)
     options.add_argument("program")
@@ -1150,6 +1157,7 @@ def main():
     options.add_argument("--seconds", type=int, default=0)
     options.add_argument("--jobs", type=int, default=os.cpu_count())
     options.add_argument("--runs", type=int, default=2)
+    options.add_argument("--log")
     options.add_argument("--only", action="append", default=[])
     options.add_argument("--idioms", action="store_true")
     options.add_argument("--stored", nargs="*", metavar="NAME")
@@ -1170,11 +1178,16 @@ def main():
         if options.stored is not None:
             return try_stored(program, options)
         counts, began = {"same": 0, "rewritten": 0, "refused": 0, "differ": 0}, time.time()
-        rows = ((program, number, options.only, options.runs, switches) for number in range(options.first, options.first + options.count))
-        with concurrent.futures.ProcessPoolExecutor(options.jobs) as pool:
+        numbers = range(options.first, options.first + options.count)
+        known = {number: kind for number, kind in logged(options.log).items() if number in numbers}
+        for kind in known.values():
+            counts[kind] += 1
+        rows = ((program, number, options.only, options.runs, switches) for number in numbers if number not in known)
+        with concurrent.futures.ProcessPoolExecutor(options.jobs) as pool, open(options.log or os.devnull, "a") as log:
             for number, found, _, _ in pool.map(task, rows):
                 kind = found if found in ("same", "refused") else "differ" if found else "rewritten"
                 counts[kind] += 1
+                print(number, kind, file=log, flush=True)
                 if kind == "differ":
                     print(f"differs {number}", *(shown(found) if not isinstance(found, str) else [found]), sep="\n", flush=True)
                 if options.seconds and time.time() - began > options.seconds:
