@@ -157,14 +157,15 @@ END
     # So does one whose source, templates or flags are wrong: each log has the error and, on the next line, what to do about it.
     sed 's/^AC_OUTPUT/AC_NOPE([x])\n&/' "$work/before/configure.ac" > configure.ac
     ! built "$work/log" A=1 || wrong "$name: it is built from a source with an error"
-    told 'acrun: parse 2 at [0-9]*$' 'configure\.ac:[0-9]*:1: acrun does not know the macro AC_NOPE'
+    told 'acrun: parse 2 at [0-9]*$' 'configure\.ac:[0-9]*:1: error: acrun does not know the macro AC_NOPE'
     cp "$work/before/configure.ac" .
     rm Makefile.in
     ! built "$work/log" A=1 || wrong "$name: it is built without a template"
     told 'acrun: template .*Makefile\.in$' 'Makefile\.in: No such file or directory'
     cp "$work/before/Makefile.in" .
     ! built "$work/log" DEB_CFLAGS_APPEND=-O99x || wrong "$name: it is built with wrong flags"
-    told 'acrun: no compiler job of this run succeeded: see config\.log$' 'none of [0-9]* .* passed\. The first, checking for .*-O99x.*Look at CC'
+    has ' passed. The first, checking for '
+    has '. Look at CC, CFLAGS, LDFLAGS and LIBS; '
     cleaned
     rm -rf "$work/ported"
 done
