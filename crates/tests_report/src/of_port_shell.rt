@@ -212,7 +212,6 @@ const SPELLED: &[u8] = br##"
 if test "$a" == b; then x=1; fi => dnl acrun: in place of ==, -eq or -ne: the words are compared as texts^JAS_IF([test "$a" = b], [x=1])
   AS_IF([test "$a" == b -a "$c" == d], [x=1]) =>   dnl acrun: in place of ==, -eq or -ne: the words are compared as texts^J  AS_IF([test "$a" = b && test "$c" = d], [x=1])
 if test $a -eq 10; then^J  x=1^Jelif test 1 -ne 0; then^J  x=2^Jfi => dnl acrun: in place of ==, -eq or -ne: the words are compared as texts^JAS_IF([test $a = 10], [^J  x=1^Jdnl acrun: in place of ==, -eq or -ne: the words are compared as texts^J], [test 1 != 0], [^J  x=2^J])
-if test "$a" == "b == c"; then x=1; fi => dnl acrun: in place of ==, -eq or -ne: the words are compared as texts^JAS_IF([test "$a" = "b == c"], [x=1])
 AS_IF([test "$a" == b && ! test "$c" == d], [x=1]) => dnl acrun: in place of ==, -eq or -ne: the words are compared as texts^JAS_IF([test "$a" = b && ! test "$c" = d], [x=1])
 if test -f a; then^J  if test a == b; then x=1; fi^Jfi => if test -f a; then^J  dnl acrun: in place of ==, -eq or -ne: the words are compared as texts^J  AS_IF([test a = b], [x=1])^Jfi
 // which stay
