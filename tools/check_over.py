@@ -6,8 +6,9 @@
 
 `rt ci` without names leaves such libraries in crates/*/out/rlib. They are taken from there, or from those of another clone, TOP.
 First the libraries of crates below are built anew here whose sources are other than those that the libraries were made of, and
-of crates that stand on one of these. Nothing is proved of these, so begin with the lowest crate that you change. With --wait, a
-library of the same sources that TOP does not have yet is waited for, as long as an `rt ci` is at work there.
+of crates that stand on one of these. Each is proved for it, which takes as long as in the gate, so begin with the lowest crate that
+you change. With --wait, a library of the same sources that TOP does not have yet is waited for, as long as an `rt ci` is at work
+there.
 
 Words that are of use: `--only MODULE::FUNCTION` checks one function and what it calls, and `--start MODULE::FUNCTION` writes the
 files of its goals. Holes are allowed. The last line has their number, and the exit status is that of the check.
