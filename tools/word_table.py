@@ -289,7 +289,7 @@ def unknown_macros():
 
 def wrong_forms():
     """Yields a line for each macro that is read and has no form, or another one than docs/language.md has."""
-    forms = {re.match(r"\w+", form)[0]: form for form in re.findall(r'b"(\w+\([^"]*)"', FORMS.read_text())}
+    forms = {re.match(r"\w+", form)[0]: form for form in re.findall(r'b"(A[CS]_\w+(?:\([^"]*)?)"', FORMS.read_text())}
     lines = {*re.findall(r"(?m)^    (.+)$", LANGUAGE.read_text())}
     for name in sorted(macro_table.profile() - {*forms} - {"AC_OUTPUT", "AC_INCLUDES_DEFAULT"}):
         yield f"{FORMS.relative_to(ROOT)} has no form of {name}"
