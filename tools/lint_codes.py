@@ -9,7 +9,8 @@ Every other code is a key of crates/lint_table/words.txt, and what it says, and 
 
 The tables of the errors of a command line, a cache, a precious variable and a record are made too: a number and a cause are those of the
 fault, and the examples are those below. tools/try_errors.py gives them to the program. The lines of errors, and the errors of a source, are
-written by hand. Each line and each number that the code has must have a row there, and each row must be of the code.
+written by hand. Each line and each number that the code has must have a row there, and each row must be of the code. So it is with the
+manual page, which has no causes of a cache and of a record.
 """
 import pathlib
 import re
@@ -21,7 +22,7 @@ ROOT = pathlib.Path(__file__).resolve().parent.parent
 CRATES = ROOT / "crates"
 FAULTS = {"": ("ac_statement", "ParseFault"), "1.": ("m4quote", "QuoteFault"), "6.": ("shellword", "ShellFault")}
 END = "<!-- up to here -->"
-PAGE = ROOT / "docs/errors.md"
+PAGE, MANUAL = ROOT / "docs/errors.md", ROOT / "share/acrun.1"
 SEVERITIES = {"error": "error", "warning": "warning", "difference": "warning, difference"}
 # The faults that are a number of an error line: their crate, the titles of the last columns, and those of each variant. Of a cache and of a
 # record the example is the text, in which `\n` is a newline.
@@ -149,12 +150,26 @@ def missing_rows():
     yield from (f"{PAGE.name}: the rows and the errors of a source do not agree on {it}" for it in sorted(known ^ listed))
 
 
+def missing_in_manual():
+    """Yields a line for each error line that the manual page lacks, or has other numbers for than the code."""
+    text = MANUAL.read_text().partition("\n.SH ERRORS\n")[2].partition("\n.SH ")[0]
+    blocks = {re.search(r'"acrun: ([a-z ]*[a-z])', it)[1]: {*re.findall(r"(?m)^(\d+): ", it)} for it in text.split("\n.TP\n")[1:]}
+    for head in sorted({it.split()[0] for it in heads_of_code()} - {it.split()[0] for it in blocks}):
+        yield f"{MANUAL.name} does not have the error line {head}"
+    known = {"parse": {number.partition(".")[0] for number, _ in faults()}}
+    known |= {line: {number_of(shown) for _, shown, _ in variants(NUMBERED[enum][0], enum)} for line, enum in (("option", "OptionFault"), ("precious", "PreciousFault"))}
+    for line, wanted in known.items():
+        for number in sorted(wanted ^ blocks.get(line, set())):
+            yield f"{MANUAL.name}: the numbers of the line {line} and the code do not agree on {number}"
+
+
 def differences():
     """Yields a line if the page has another list, no place for it, or other rows than the code."""
     try:
         if PAGE.read_text() != document():
             yield f"{PAGE.relative_to(ROOT)} has other codes or numbers: run tools/lint_codes.py"
         yield from missing_rows()
+        yield from missing_in_manual()
     except LookupError as error:
         yield f"tools/lint_codes.py: {error}"
 
