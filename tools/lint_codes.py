@@ -129,10 +129,10 @@ def heads_of_code():
     found = {shown for crate, enum in LINES for _, shown, _ in variants(crate, enum)} | {"memory"}
     for file in CRATES.glob("cmd_*/src/*.rt"):
         text = re.sub(r"(?m)//.*$", "", file.read_text())
-        found |= {*re.findall(r'tell_\w+\(\s*errors,\s*[&b]"([^"]*)"', text)}
+        found |= {*re.findall(r'tell_(?:named|numbered|spot)\(\s*errors,\s*[&b]"([^"]*)"', text)}
         found |= {*re.findall(r'write!\(errors, "acrun: ([^"]*)\\n"', text)}
         found |= {*re.findall(r'=> \("(precious)', text)}
-    return {re.sub(r" ?\{.*", "", it) for it in found} - {""}
+    return {re.sub(r" ?\{.*| \d+$| $", "", it) for it in found} - {""}
 
 
 def section(heading):
