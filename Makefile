@@ -51,6 +51,7 @@ demo: all
 	@sh examples/install/run.sh out/acrun
 	@sh examples/hostile/run.sh out/acrun
 	@sh examples/errors/run.sh out/acrun
+	@python3 tools/try_errors.py out/acrun
 	@sh examples/compare/run.sh
 	@sh examples/editors/run.sh out/acrun || [ $$? -eq 77 ]
 

@@ -310,6 +310,17 @@ def codes_that_do_not_agree():
     yield from lint_codes.differences()
 
 
+def counts_that_are_old():
+    """A document has another number of macros, or of the sources of examples/lint, than there are."""
+    macros = len(re.findall(r'(?m)^    \(b"A[CS]_', (CRATES / "ac_macros/src/table.rt").read_text()))
+    sources = len(pathlib.Path("examples/lint/sources.txt").read_text().splitlines())
+    for file, form, count in (("README.md", r"outside the (\d+)\s+macros", macros), ("CHANGELOG.md", r"a configure.ac of (\d+) macros", macros),
+                              ("docs/promises.md", r"(\d+) sources and a package", sources)):
+        found = re.findall(form, pathlib.Path(file).read_text())
+        if found != [str(count)]:
+            yield f"{file}: it has {' and '.join(found) or 'no number'} in place of {count}, by {form}"
+
+
 def manual_page_faults():
     """A formatter of manual pages complains of a page below share; nothing if there is none. Or a page, or the texts of the help, have
     another version. Or `make install` puts a page nowhere, or `make uninstall` leaves it."""
@@ -424,6 +435,7 @@ CHECKS = [
     macros_that_do_not_agree,
     words_that_do_not_agree,
     codes_that_do_not_agree,
+    counts_that_are_old,
     manual_page_faults,
     commands_that_do_not_agree,
     options_that_do_not_agree,

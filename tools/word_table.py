@@ -156,18 +156,19 @@ def cell(text):
 
 
 def text_of_list():
-    """Returns the list of the page: below each heading the messages that have no code of their own, and help that is given for several."""
-    lines, heading, listed = [""], None, set()
+    """Returns the list of the page: below each heading the messages that have no code of their own, and help that is given for several. A text
+    that goes on with another one is listed without its comma, and left out if it has fewer than six words."""
+    lines, listed = [""], {}
     for entry in entries().values():
-        row = (named(entry, entry.message).strip(), help_in_line(entry))
-        if entry.severity or row in listed:
-            continue
-        listed.add(row)
-        if entry.heading != heading:
-            heading = entry.heading
-            title, _, rest = heading.partition(". ")
-            lines += ["", f"### {title}", "", *([rest, ""] if rest else []), "| What it says | What to do |", "|---|---|"]
-        lines.append(f"| {' | '.join(map(cell, row))} |")
+        row = tuple(re.sub(r"^[,;] ", "", it) for it in (named(entry, entry.message).strip(), help_in_line(entry)))
+        goes_on = re.match(r"[,;] |\s*and |%\d$", entry.message or help_of(entry)) and len((row[0] or row[1]).split()) < 6
+        if not entry.severity and not goes_on and row not in listed.get(entry.heading, ()):
+            listed.setdefault(entry.heading, []).append(row)
+    for heading, found in listed.items():
+        title, _, rest = heading.partition(". ")
+        titles = ["What it says", "What to do"] if any(message for message, _ in found) else ["What to do"]
+        lines += ["", f"### {title}", "", *([rest, ""] if rest else []), f"| {' | '.join(titles)} |", "|---" * len(titles) + "|"]
+        lines += [f"| {' | '.join(map(cell, row[-len(titles):]))} |" for row in found]
     return "\n".join([*lines, "", ""])
 
 
@@ -288,7 +289,7 @@ def unknown_macros():
 
 def wrong_forms():
     """Yields a line for each macro that is read and has no form, or another one than docs/language.md has."""
-    forms = {re.match(r"\w+", form)[0]: form for form in re.findall(r'b"(\w+\([^"]*)"', FORMS.read_text())}
+    forms = {re.match(r"\w+", form)[0]: form for form in re.findall(r'b"(A[CS]_\w+(?:\([^"]*)?)"', FORMS.read_text())}
     lines = {*re.findall(r"(?m)^    (.+)$", LANGUAGE.read_text())}
     for name in sorted(macro_table.profile() - {*forms} - {"AC_OUTPUT", "AC_INCLUDES_DEFAULT"}):
         yield f"{FORMS.relative_to(ROOT)} has no form of {name}"

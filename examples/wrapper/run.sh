@@ -234,7 +234,7 @@ END
     said=$($shell ../configure --src=/s)
     [ "$said" = '[-j1][configure][--srcdir=/s]' ] || { wrong=1; echo "$shell: --src: $said"; }
     said=$(ACRUN=/nowhere/acrun $shell ../configure 2>&1)
-    [ "$said" = 'configure: error: the program acrun is not in PATH; its README says where to get it' ] || { wrong=1; echo "$shell: without acrun: $said"; }
+    [ "$said" = 'configure: error: the program acrun is not in PATH: install it, or set ACRUN to its path' ] || { wrong=1; echo "$shell: without acrun: $said"; }
     cd ..
 }
 

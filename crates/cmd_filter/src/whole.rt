@@ -194,8 +194,9 @@ pub fn filter_keeping<R: Read, W: Write>(
         × Appends (W.contents writer.old) (W.contents writer.new) out)) }
     // If it fails, and not because of the writer, the writer is unchanged.
     ensures untouched { IfErr result (λ e. e ≢ FilterFault.Write → writer.new ≡ writer.old) }
-    // If it fails, the input has an error, can't be read, or its text can't be written, or memory
-    // ran out.
+    // If it fails, the input has no line `%%`; or this is the first error of its source; or its
+    // source is right, and weighs too much or has a template that doesn't exist; or the input is
+    // right, and its text can't be written; or the input can't be read; or memory ran out.
     ensures refused { IfErr result (λ e.
         IfSome (R.remaining reader.old) (λ input. IsRefused input e)) }
 {
@@ -237,8 +238,9 @@ pub fn filter<R: Read, W: Write>(
         × Appends (W.contents writer.old) (W.contents writer.new) out)) }
     // If it fails, and not because of the writer, the writer is unchanged.
     ensures untouched { IfErr result (λ e. e ≢ FilterFault.Write → writer.new ≡ writer.old) }
-    // If it fails, the input has an error, can't be read, or its text can't be written, or memory
-    // ran out.
+    // If it fails, the input has no line `%%`; or this is the first error of its source; or its
+    // source is right, and weighs too much or has a template that doesn't exist; or the input is
+    // right, and its text can't be written; or the input can't be read; or memory ran out.
     ensures refused { IfErr result (λ e.
         IfSome (R.remaining reader.old) (λ input. IsRefused input e)) }
 {

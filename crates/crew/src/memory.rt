@@ -175,6 +175,7 @@ impl Crew for MemoryCrew {
         ensures refused_count { OnErr result (
             self.new.account.failures ≡ self.old.account.failures + 1) }
         ensures after { self.new ≡ after_start slot job self.old }
+        // The start is taken exactly if the list has a reply for it that isn't a refused start.
         ensures answer { is_ok result ≡ is_taken self.old.replies }
     {
         self.attempts += 1;
@@ -203,6 +204,7 @@ impl Crew for MemoryCrew {
         ensures count { self.new.account.failures
             ≡ self.old.account.failures + failure_of result.1 }
         ensures after { self.new ≡ after_next self.old }
+        // The child is the one that the order gives, and the reply that of the list for its start.
         ensures answer { result ≡ ((ending self.old).slot, (ending self.old).reply) }
     {
         let at = next_place(&mut self.order, self.children.as_slice());

@@ -88,8 +88,11 @@ impl<R: Files + Processes + Drop> Crew for ReadyCrew<R> {
         ensures refused { OnErr result (self.new.account.events ≡ self.old.account.events) }
         ensures refused_count { OnErr result
             (self.new.account.failures ≡ self.old.account.failures + 1) }
+        // The slot now has this child, under the number of this start, and every other slot is as
+        // before.
         ensures child { OnOk result
             (Starts self.old.table self.new.table slot (self.old.account.attempts + 1)) }
+        // The cause of a refused start is kept under its number, if it is one of the first 16.
         ensures cause { OnErr result
             (RefusesStart self.old.table self.new.table (self.old.account.attempts + 1) job) }
         // The file that is to be removed is removed before the first child is started.
@@ -109,7 +112,9 @@ impl<R: Files + Processes + Drop> Crew for ReadyCrew<R> {
         ensures reply { result.1 ≢ StartRefused }
         ensures count { self.new.account.failures
             ≡ self.old.account.failures + failure_of result.1 }
-        // The reply is that of the child of the slot.
+        // The reply is that of the child of the slot, which is the one of the last start there. Its
+        // own wait gave the status, and the text is the kept part of what was in its pipe. It was
+        // waited for in each case. If the end is refused, its cause is kept.
         ensures child { Ends self.old.table self.new.table result.0
             (number_in result.0 self.old.account.events) result.1 }
         ensures stale { self.new.stale ≡ self.old.stale }

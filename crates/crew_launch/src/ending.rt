@@ -25,11 +25,18 @@ pub fn end_child<P: OpenProcess + Drop>(
     child: &mut Started<P>,
 ) -> (Reply, Option<Cause>)
     requires unread { IsUnread child.old.pipe }
+    // An answer has the status that the wait gave, or 256 if a signal ended the child. Its text is
+    // the first 65,536 bytes of what was read: the pipe was read to its end, or for 4 MiB, and no
+    // read failed.
     ensures answer { Answers result.0 child.new.status
         (λ text. IsKept child.old.pipe.left text × IsReadThrough child.new.pipe) }
+    // Without a pipe the end is refused.
     ensures piped { child.old.pipe.is_open ≡ false → result.0 ≡ Reply.EndRefused }
+    // A refused end has a cause, which is about the read or the wait, and an answer has none.
     ensures explained { IsExplained result.0 result.1 }
+    // The pipe is closed, so a child that writes more than is read doesn't wait for a reader.
     ensures closed { child.new.pipe.is_open ≡ false }
+    // The child was waited for, whatever the reply is.
     ensures awaited { child.new.is_awaited ≡ true }
 {
     let text = child.read(alloc);

@@ -101,11 +101,20 @@ impl<D: Disk + Processes> Launcher for DiskLauncher<D> {
 
     ghost stale = { λ h. h.stale };
 
-    // The file is new, and what a compiler makes of it isn't there, as `write_conftest` says.
+    /// Writes a conftest by these steps, each of which removes nothing but a regular file or a link.
+    ///
+    /// The file that is stale is removed, unless that was tried before. If the name ends in `.c`,
+    /// what a compiler made of an earlier conftest is removed: of `conftest1.c` first `conftest1.o`
+    /// and then `conftest1`. Then what is under the name is removed, a new file is made there, and
+    /// the whole text is written.
     #[tactic(auto, using(crate::proofs::Freeing::prepared_after, crate::proofs::Freeing::refused_then, crate::proofs::Freeing::refused_clear))]
     fn write(&mut self, name: &str, text: &[u8]) -> io::Result<()>
+        // If it succeeds, exactly these steps were done, and what a compiler makes of the conftest
+        // was not a directory, a pipe, a socket or a device.
         ensures written { OnOk result (Does (D.known self.old.disk) (D.known self.new.disk)
             (PreparesAfter self.old.stale name.now text.now)) }
+        // If it fails, only the first of these steps were done, and the new file may lack a part of
+        // its text.
         ensures spoilt { OnErr result (DoesFront (D.known self.old.disk) (D.known self.new.disk)
             (after (clearing_stale self.old.stale) (breaking name.now))) }
         ensures once { self.new.stale ≡ None }
@@ -116,7 +125,9 @@ impl<D: Disk + Processes> Launcher for DiskLauncher<D> {
         }
     }
 
+    /// Removes the file that is stale, unless that was tried before, and starts the command.
     fn spawn(&mut self, command: &mut Command) -> io::Result<Child<D::Started>>
+        // Nothing else is done to files.
         ensures started { OnOk result (
             DoesAll (D.known self.old.disk) (D.known self.new.disk)
             (clearing_stale self.old.stale)) }

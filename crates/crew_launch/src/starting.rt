@@ -28,14 +28,19 @@ pub fn start_child<L: Launcher>(
     alloc: Global,
     job: &Job,
 ) -> Result<Started<L::Process>, Cause>
+    // If it succeeds, the launcher wrote the conftest, if there is one, and then started the command
+    // with all words of the job.
     ensures taken { OnOk result (
         Adds (L.calls launcher.old) (L.calls launcher.new) (launch job.now)) }
     ensures unread { IfOk result (λ child. IsUnread child.pipe) }
+    // If it fails, the launcher did nothing, or it wrote the conftest and the command didn't start.
     ensures refused { OnErr result (Adds (L.calls launcher.old) (L.calls launcher.new) []
         ⊎ Adds (L.calls launcher.old) (L.calls launcher.new) (failing job.now)) }
+    // The cause is about a word of the job, its conftest or its command.
     ensures cause { IfErr result (λ cause. IsOfJob job.now cause) }
     // A file that is stale is removed before the child is started.
     ensures cleared { OnOk result (L.stale launcher.new ≡ None) }
+    // If it fails, the file that is stale was removed, or is as before.
     ensures stale { OnErr result (IsClearing (L.stale launcher.old) (L.stale launcher.new)) }
 {
     match program_of(alloc, job.words.as_slice()) {

@@ -150,7 +150,8 @@ impl<C: Crew + Drop, W: Write + Drop> Crew for Watched<C, W> {
         ensures untouched { OnErr result (self.new ≡ record self.old { crew = self.new.crew }) }
         // What is shown stays the same, unless a write fails. Then nothing is.
         ensures kept { self.new.showing ≢ Nothing → self.new.showing ≡ self.old.showing }
-        // On a terminal the text for all events so far is written, unless the write fails.
+        // On a terminal the text for all events so far is written, unless the write fails: the
+        // erasure of the line and, while a child is in flight, the line, of at most 79 columns.
         ensures written { OnOk result (self.new.showing ≡ line
             → Appends (W.contents self.old.stream) (W.contents self.new.stream)
             (progress.text_after (C.account self.new.crew).events)) }
@@ -159,6 +160,7 @@ impl<C: Crew + Drop, W: Write + Drop> Crew for Watched<C, W> {
         ensures told { OnOk result (self.new.showing ≡ lines
             → Appends (W.contents self.old.stream) (W.contents self.new.stream)
             (child.child_line (C.account self.new.crew).attempts job)) }
+        // That line has at most 400 bytes. What doesn't fit in 396 columns is three dots.
         ensures short { length (child.child_line (C.account self.new.crew).attempts job) ≤ 400 }
     {
         self.attempts += 1;

@@ -59,7 +59,7 @@ impl CauseList {
         Ok(CauseList { entries })
     }
 
-    /// Appends the cause of a child, unless the list is full.
+    /// Appends the cause of a child, unless the list has 16 already.
     #[tactic(auto, unfolding(crate::specs::Known::with_cause))]
     pub fn put(&mut self, child: u64, cause: Cause)
         ensures put { self.new ≡ with_cause self.old child cause }
