@@ -43,6 +43,7 @@ import tempfile
 import time
 
 import macro_table
+import word_table
 
 HERE = pathlib.Path(__file__).resolve().parent
 END = re.compile(r"(?m)^AC_OUTPUT\b")
@@ -198,6 +199,16 @@ def outputs(folder):
     return found
 
 
+# What begins another line of a script's messages although no newline is before it: a check within a check, and one after an AC_CACHE_VAL, which
+# prints `(cached)` alone. An answer that is cached stays on the line of its check.
+JOINED = re.compile(r"(?m)(\.\.\. |^)((?:\(cached\) )*)(?=checking |configure: |config\.status: )")
+
+
+def printed_lines(text):
+    """Returns the lines of what a script printed, with each message on a line of its own."""
+    return JOINED.sub(lambda found: (found[1] and f"{found[1]}\n") + found[2].replace(") ", ") \n"), text).splitlines()
+
+
 def left(room, body, setting, names, assigned, defined, creates=True):
     """Runs a script, and returns what it leaves: a value for each name. `names` are the variables of the template, `assigned` those of the
     shell, and `defined` the names of the header's template. Without `creates` no outputs are made, which takes a third of the time."""
@@ -211,8 +222,7 @@ def left(room, body, setting, names, assigned, defined, creates=True):
         put_templates(folder, names, defined)
         made = run(room, ["/bin/sh", "./configure", *([] if creates else ["--no-create"])], folder, setting)
         log = (folder / "config.log").read_text(errors="replace") if (folder / "config.log").exists() else ""
-        printed = re.sub(r"(\.\.\. |^\(cached\) |(?<=\(cached\) )\(cached\) )(?=checking |configure: |config\.status: |\(cached\) )", r"\1\n", made.stdout, flags=re.M)
-        found = {"status": made.returncode, "standard output": printed.splitlines()}
+        found = {"status": made.returncode, "standard output": printed_lines(made.stdout)}
         found["standard error"] = [re.sub(r"^\./configure: (line )?\d+: ", "", it) for it in made.stderr.splitlines()]
         cached, values = values_in(section(log, "Cache variables.")), values_in(section(log, "Output variables."))
         found |= {f"cache {name}": value for name, value in cached.items() if not name.startswith("ac_cv_env_")}
@@ -399,6 +409,9 @@ def unsaid():
     for document, sentence in (*stated_once, *(("differences", sentence) for sentence, _ in OF_LANGUAGE)):
         if not is_said(document, sentence):
             yield f"docs/{document}.md does not say what tools/fuzz_exact.py looks for: {sentence}"
+    for key in OF_SOURCE:
+        if key not in word_table.entries() or not word_table.entries()[key].message:
+            yield f"crates/lint_table/words.txt has no message that tools/fuzz_exact.py looks for: {key}"
 
 
 @functools.lru_cache
@@ -982,8 +995,21 @@ def joined(first, blocks, last):
     return "\n".join([*filter(None, first), *blocks, last]) + "\n"
 
 
-# Errors about what a source has itself, which port may leave on another line.
-OF_SOURCE = re.compile(r"a test on its own|not read|not run|is no statement|does not know|no macro that acrun knows|other text beside it")
+# The keys of words.txt whose errors are about what a source has itself, which port may leave on another line.
+OF_SOURCE = (
+    "unknown-macro", "no-macro", "text-beside-call", "no-statement", "argument-macro", "unread-argument", "no-value", "shell-if", "shell-test",
+    "shell-not", "shell-and", "shell-case", "shell-for", "shell-echo", "shell-exit", "shell-export", "shell-unset", "shell-command", "shell-eval",
+    "shell-function", "shell-group", "shell-cd", "shell-backquote", "shell-arithmetic", "shell-substitution", "shell-redirection", "shell-pipe",
+    "shell-subshell", "shell-variable-command", "test-and", "test-or", "test-file", "test-number", "test-semicolon", "test-bracket",
+    "variable-with-operator", "variable-with-cut", "message-backquote", "special-variable",
+)
+
+
+@functools.cache
+def of_source():
+    """Returns the pattern of the messages of these errors."""
+    texts = [re.split(r"%\d", word_table.entries()[key].message) for key in OF_SOURCE]
+    return re.compile("(?s)" + "|".join(".*?".join(map(re.escape, parts)) for parts in texts))
 
 
 def without_excerpts(message):
@@ -997,7 +1023,7 @@ def written_errors(program, text, ported):
         lines = subprocess.run([program, "lint", "--json", "-"], input=each, capture_output=True, text=True, errors="replace").stdout.splitlines()
         found.append([it for it in map(json.loads, lines) if it["severity"] == "error" and it["code"] != "template"])
     known, lines = {without_excerpts(it["message"]) for it in found[0]}, ported.splitlines()
-    new = [it for it in found[1] if without_excerpts(it["message"]) not in known and not OF_SOURCE.search(it["message"])]
+    new = [it for it in found[1] if without_excerpts(it["message"]) not in known and not of_source().match(it["message"])]
     new = [it for it in new if lines[it["line"] - 1] not in text.splitlines()]
     return [(Setting(by="lint"), {f"error in {lines[it['line'] - 1]}: {it['message']}": ("", "")}) for it in new]
 
