@@ -168,7 +168,7 @@ def run(room, words, folder, setting):
     path = f"{room.top}/{setting.programs}:{room.top}/given:{room.top}/farm"
     env = {"PATH": path, "LC_ALL": "C", "CONFIG_SHELL": "/bin/sh", "SEEDED_COMPILER": str(setting.seed), **dict(setting.environment)}
     env |= {"SEEDED_CROSS": "1"} if setting.is_cross else {}
-    how = {"cwd": folder, "env": env, "stdin": subprocess.DEVNULL, "capture_output": True, "text": True, "errors": "replace", "timeout": 120}
+    how = {"cwd": folder, "env": env, "stdin": subprocess.DEVNULL, "capture_output": True, "text": True, "errors": "replace", "timeout": 600}
     return subprocess.run([*words, *setting.arguments], **how)
 
 
@@ -288,6 +288,14 @@ def of_idioms(found, ported):
     return {name: it for name, it in found.items() if not is_printed.match(name) and name not in unset}
 
 
+def of_statements(found):
+    """Returns the differences without those that are stated of statements of the shell, which --idioms rewrites."""
+    for it in (OF_EXIT, OF_UNSET, OF_EQUALS):
+        said(*it)
+    unset = {name for name, (before, after) in found.items() if name.startswith("variable ") and before is None and after == ""}
+    return {name: it for name, it in found.items() if not OF_STATEMENTS.match(name) and name not in unset}
+
+
 def differences(before, after):
     """Returns the names in which two runs differ, each with both values."""
     found = {}
@@ -376,9 +384,12 @@ OF_WORDS = ("language", "A variable is never split into fields")
 OF_TESTS = ("differences", "If an unquoted variable is empty, it is an empty word of a test. A shell drops it.")
 TEST_ERROR = re.compile(r"\b(test|\[): .*(unexpected operator|argument expected|unknown operand|too many arguments)")
 
-# What docs/commands.md states of `unset`, so that no source with it has `${v2-none}`, and of statements whose messages may be others.
+# What docs/commands.md states of `exit`, of `unset`, so that no source with it has `${v2-none}`, and of `==` and `-eq`, which are errors for a
+# shell that has no `==` and for a word that is not a number. What `echo` prints stays as it is, since no setting has -q.
+OF_EXIT = ("commands", "An `exit` with a digit other than 0 becomes AC_MSG_ERROR, which also prints an error")
 OF_UNSET = ("commands", "An `unset` of one variable becomes an assignment of nothing, which `${name-word}` can tell apart")
-OF_STATEMENTS = re.compile(r"(?m)^ *(exit \d|unset \w+|echo.*)$| (==|-eq|-ne) ")
+OF_EQUALS = ("commands", "A shell without `==` takes a test with it for false, and `-eq` takes 01 for 1")
+OF_STATEMENTS = re.compile(r"standard error: (\+ configure: error: .*|- (test|\[): .*(unexpected operator|Illegal number: .*))$")
 
 # What docs/how-it-runs.md states of a source without AC_PROG_CC, so that acrun is given none.
 OF_COMPILER = ("how-it-runs", "linked and CC has no word, the run prints `configure: error: no acceptable C compiler found in $PATH`")
@@ -405,7 +416,7 @@ def said(document, sentence):
 
 def unsaid():
     """Yields a line for each sentence that is looked for here, and that its document doesn't have."""
-    stated_once = (OF_IDIOMS, OF_INIT, OF_JOINTS, OF_WORDS, OF_TESTS, OF_COMPILER, OF_DNL, OF_GIVEN)
+    stated_once = (OF_IDIOMS, OF_INIT, OF_JOINTS, OF_WORDS, OF_TESTS, OF_EXIT, OF_UNSET, OF_EQUALS, OF_COMPILER, OF_DNL, OF_GIVEN)
     for document, sentence in (*stated_once, *(("differences", sentence) for sentence, _ in OF_LANGUAGE)):
         if not is_said(document, sentence):
             yield f"docs/{document}.md does not say what tools/fuzz_exact.py looks for: {sentence}"
@@ -489,7 +500,7 @@ def compared(room, text, ported, settings, switches, program=""):
     names = template_names(bodies[0])
     assigned = sorted({*re.findall(r"\b([A-Za-z_]\w*)=", text + ported), *(["INSTALL"] if "AC_PROG_INSTALL" in text else [])})
     patterns, found, defined = stated(text, switches == IDIOMS), [], candidates(bodies, ported)
-    has_other_idiom = switches == IDIOMS and (any(is_word(name, text) for name, *_ in others()) or bool(OF_STATEMENTS.search(text)))
+    has_other_idiom = switches == IDIOMS and any(is_word(name, text) for name, *_ in others())
     for setting in settings:
         by_acrun = program and is_for_acrun(setting) and not joins_dnl(text)
         creates = bool(by_acrun) or setting.seed % 4 == 0
@@ -498,7 +509,7 @@ def compared(room, text, ported, settings, switches, program=""):
         runs = [left(room, it, setting, names, assigned, defined, creates) for it in dict.fromkeys(bodies)]
         runs = [runs[0], runs[-1]]
         differs = differences(*runs)
-        differs = of_idioms(differs, bodies[1]) if has_other_idiom else differs
+        differs = of_idioms(differs, bodies[1]) if has_other_idiom else of_statements(differs) if switches == IDIOMS else differs
         differs = {name: it for name, it in differs.items() if not is_stated(name, patterns, it[0])}
         if any("yntax error" in it for it in runs[0]["standard error"]):
             return "refused"
