@@ -13,7 +13,8 @@ and to print the same. If acrun reads what port wrote, it is run too, and its ou
 wrote may be an error for `acrun lint` that the source does not have.
 tools/seeded_compiler.c answers the programs, by what they ask. From number 1000000 on a source may also begin with AC_INIT without a version, and
 have variables whose names are spelled as those of macros, conditions on several lines, actions without brackets that are calls, and the macros
-of LATER_NAMES; with --idioms also `==`, `-eq`, `-ne`, `exit` and `echo` without words.
+of LATER_NAMES; with --idioms also `==`, `-eq`, `-ne`, `exit` and `echo` without words. From number 2000000 on it may also have `!` before what
+`-a` and `-o` join; with --idioms also `+=`, `echo` with `exit`, and such an operator in double quotes, as far as docs/commands.md names them.
 A difference is allowed if a line `~ ` of macros.txt states it for a macro of the source, or one of the sentences below of docs/differences.md.
 
 With --idioms a source has also calls of the macros that have a line `& `, if Autoconf itself has them, and port is given that switch. If
@@ -145,13 +146,14 @@ class Setting:
     is_cross: bool = False
     seed: int = 0
     by: str = "port"
+    shell: str = "/bin/sh"
 
     def shown(self):
         if self.by == "lint":
             return "lint:"
         of_env = " ".join(f"{name}={value}" for name, value in self.environment)
         about = f"programs {self.programs}, {'cross, ' * self.is_cross}seed {self.seed}"
-        return f"{self.by}: {of_env} ./configure {' '.join(self.arguments)}  ({about})"
+        return f"{self.by}: {of_env} {f'{self.shell} ' * (self.shell != '/bin/sh')}./configure {' '.join(self.arguments)}  ({about})"
 
 
 def section(log, title):
@@ -166,7 +168,7 @@ def values_in(text):
 
 def run(room, words, folder, setting):
     path = f"{room.top}/{setting.programs}:{room.top}/given:{room.top}/farm"
-    env = {"PATH": path, "LC_ALL": "C", "CONFIG_SHELL": "/bin/sh", "SEEDED_COMPILER": str(setting.seed), **dict(setting.environment)}
+    env = {"PATH": path, "LC_ALL": "C", "CONFIG_SHELL": setting.shell, "SEEDED_COMPILER": str(setting.seed), **dict(setting.environment)}
     env |= {"SEEDED_CROSS": "1"} if setting.is_cross else {}
     how = {"cwd": folder, "env": env, "stdin": subprocess.DEVNULL, "capture_output": True, "text": True, "errors": "replace", "timeout": 600}
     return subprocess.run([*words, *setting.arguments], **how)
@@ -220,7 +222,7 @@ def left(room, body, setting, names, assigned, defined, creates=True):
         (folder / "config.guess").write_text("#!/bin/sh\necho x86_64-pc-linux-gnu\n")
         (folder / "config.sub").write_text('#!/bin/sh\necho "$1"\n')
         put_templates(folder, names, defined)
-        made = run(room, ["/bin/sh", "./configure", *([] if creates else ["--no-create"])], folder, setting)
+        made = run(room, [setting.shell, "./configure", *([] if creates else ["--no-create"])], folder, setting)
         log = (folder / "config.log").read_text(errors="replace") if (folder / "config.log").exists() else ""
         found = {"status": made.returncode, "standard output": printed_lines(made.stdout)}
         found["standard error"] = [re.sub(r"^\./configure: (line )?\d+: ", "", it) for it in made.stderr.splitlines()]
@@ -293,7 +295,9 @@ def of_statements(found):
     for it in (OF_EXIT, OF_UNSET, OF_EQUALS):
         said(*it)
     unset = {name for name, (before, after) in found.items() if name.startswith("variable ") and before is None and after == ""}
-    return {name: it for name, it in found.items() if not OF_STATEMENTS.match(name) and name not in unset}
+    front = "standard error: + configure: error: "
+    told = {f"standard output: - {name.removeprefix(front)}" for name in found if name.startswith(front) and is_said(*OF_ECHO_EXIT)}
+    return {name: it for name, it in found.items() if not OF_STATEMENTS.match(name) and name not in unset | told}
 
 
 def differences(before, after):
@@ -389,6 +393,8 @@ TEST_ERROR = re.compile(r"\b(test|\[): .*(unexpected operator|argument expected|
 OF_EXIT = ("commands", "An `exit` with a digit other than 0 becomes AC_MSG_ERROR, which also prints an error")
 OF_UNSET = ("commands", "An `unset` of one variable becomes an assignment of nothing, which `${name-word}` can tell apart")
 OF_EQUALS = ("commands", "A shell without `==` takes a test with it for false, and `-eq` takes 01 for 1")
+OF_ECHO_EXIT = ("commands", "`echo MESSAGE; exit STATUS` becomes AC_MSG_ERROR, which prints the message as an error")
+OF_APPENDED = ("commands", "Some shells, such as dash, have no `+=`, and take it for a command")
 OF_STATEMENTS = re.compile(r"standard error: (\+ configure: error: .*|- (test|\[): .*(unexpected operator|Illegal number: .*))$")
 
 # What docs/how-it-runs.md states of a source without AC_PROG_CC, so that acrun is given none.
@@ -658,6 +664,8 @@ def others():
 
 # From this number on sources have the forms of NAMED and of INIT too. Those of lower numbers stay as they were.
 LATER = 1_000_000
+# From this number on also those of NEWER_SHELL, and negated operands of `-a` and `-o`.
+NEWER = 2_000_000
 INIT = ("AC_INIT", "AC_INIT()", "AC_INIT(configure.ac)", "AC_INIT([configure.ac])", "AC_INIT( configure.ac)dnl a note")
 NAMED = (
     "PKG_CONFIG=a", "LT_CURRENT=2", "AX_FLAGS=\"$PKG_CONFIG b\"", "v1=$PKG_CONFIG", "v2=\"${LT_CURRENT}:${AX_FLAGS}\"", "v1=a$LT_CURRENT v2=b",
@@ -681,6 +689,13 @@ OF_SHELL = (
     "level=2\nif test \"$level\" -ne 3 -a 2 -eq 2; then\n  v1=both\nfi", "if test \"$level\" -eq 3; then\n  v2=three\nfi",
     "if test \"$enable_foo\" = stop; then\n  echo\n  echo stop it\n  exit 3\nfi", "echo", "echo \"\"",
 )
+# Statements that port rewrites with --idioms if a document says so. A shell with `+=` runs a source that has one.
+NEWER_SHELL = (
+    (OF_ECHO_EXIT, ("if test \"$v2\" = yes; then\n  echo v2 is set; exit 3\nfi", "if test -n \"$level\"; then\n  v1=4\n  echo \"no $level here\"; exit 1\nfi")),
+    (OF_APPENDED, ("v1+=b", "v1=a\nv1+=$level", "v2+=\" c $v1\"", "LIBS+=\" -lz\"", "if test -n \"$v1\"; then\n  v1+=c\nfi", "CFLAGS+=' -DA'")),
+    (OF_EQUALS, ("test \"$v1\" == never && v2=equal", "if test \"$v1\" != \"b == c\"; then\n  v2=other\nfi",
+                 "level=3\ntest \"$level\" -eq 3 || v1=none\nv2=\"$v1\"", "if test \"$v2\" = \"a -eq 3\" || test \"$v1\" == never; then\n  v1=words\nfi")),
+)
 
 
 class Maker:
@@ -688,7 +703,7 @@ class Maker:
 
     def __init__(self, number, names=None, switches=()):
         self.at = random.Random(number)
-        self.is_later = number >= LATER
+        self.is_later, self.is_newer = number >= LATER, number >= NEWER
         self.all_idioms = switches == IDIOMS
         rows = [*(others() * 3 if self.all_idioms else []), *exact()]
         left_out = (*NO_CALLS, *(() if self.is_later else LATER_NAMES))
@@ -806,8 +821,13 @@ class Maker:
     def joint(self):
         """Returns a test with `-a` or `-o`."""
         said(*OF_JOINTS)
-        more = f" {self.one(['-a', '-o'])} {self.test(self.one_word)}" if self.has(0.5) else ""
-        return f"{self.test(self.one_word)} {self.one(['-a', '-o'])} {self.test(self.one_word)}{more}"
+        more = f" {self.one(['-a', '-o'])} {self.operand()}" if self.has(0.5) else ""
+        return f"{self.operand()} {self.one(['-a', '-o'])} {self.operand()}{more}"
+
+    def operand(self):
+        """Returns an operand of `-a` or `-o`."""
+        test = self.test(self.one_word)
+        return f"! {test}" if self.is_newer and self.has(0.3) else test
 
     def condition(self):
         if self.is_later and self.has(0.2):
@@ -860,6 +880,8 @@ class Maker:
         return f"{self.one(['v1', 'v2', 'level'])}={self.one(SET)}"
 
     def simple(self, depth):
+        if self.is_newer and self.all_idioms and self.has(0.4):
+            return self.one([it for sentence, texts in NEWER_SHELL if is_said(*sentence) for it in texts])
         if self.is_later and self.has(0.5):
             return self.one([*NAMED, *(OF_SHELL if self.all_idioms else ())])
         kind = self.at.randrange(10)
@@ -1039,12 +1061,17 @@ def written_errors(program, text, ported):
     return [(Setting(by="lint"), {f"error in {lines[it['line'] - 1]}: {it['message']}": ("", "")}) for it in new]
 
 
+def shell_of(text):
+    """Returns the shell that runs the scripts of a source."""
+    return "/bin/bash" if re.search(r"(?m)^ *\w+\+=", text) else "/bin/sh"
+
+
 def judge(program, room, number, names=None, runs=2, switches=()):
     """Returns what is wrong with a source: how it was run, and what differs."""
     maker = Maker(number, names, switches)
     first, blocks, last = maker.source()
-    settings = maker.settings(runs)
     text = joined(first, blocks, last)
+    settings = [dataclasses.replace(it, shell=shell_of(text)) for it in maker.settings(runs)]
     ported, is_read = port(program, text, *switches)
     if ported == text and not is_read:
         return "same", text, ported
@@ -1118,7 +1145,7 @@ def minimized(program, room, number, names, switches):
     blocks, arguments and variables of the environment go in turn."""
     maker = Maker(number, names, switches)
     first, blocks, last = maker.source()
-    settings = maker.settings(2)
+    settings = [dataclasses.replace(it, shell=shell_of(joined(first, blocks, last))) for it in maker.settings(2)]
 
     def tried(blocks, settings):
         text = joined(first, blocks, last)
