@@ -3,6 +3,7 @@
 
     tools/fuzz_exact.py PROGRAM [--idioms] [--from N] [--count N] [--seconds N] [--runs N] [--jobs N] [--log FILE] [--only MACRO]..
     tools/fuzz_exact.py PROGRAM --stored [NAME..]    the stored sources whose names begin so
+    tools/fuzz_exact.py PROGRAM --conditions         conditions by number, with --from and --count, in shells alone: a tenth of the time
     tools/fuzz_exact.py PROGRAM --replay N           shows source N, what port makes of it, and what differs
     tools/fuzz_exact.py PROGRAM --minimize N         the same of the smallest part of it that differs
 
@@ -1177,6 +1178,56 @@ def minimized(program, room, number, names, switches):
     return best
 
 
+# ---------------------------------------------------------------------------------------------------------------------- conditions
+
+# Words that are one word for a shell whatever a and b are, and the values of these. None is an operator, as OF_JOINTS asks.
+CONDITION_WORDS = ('"$a"', '"$b"', '"x$a"', "yes", '"a b"', '"${a}"', "/x", '"$a$b"', "3", '"no"')
+CONDITION_VALUES = ("", "a", "yes", "a b", "/x", "3", "no")
+WRITTEN = re.compile(r"(?ms)^AS_IF\(\[((?:(?!^AS_IF|^if ).)*?)\], \[r(\d+)=1\]\)$")
+
+
+def conditions(number):
+    """Returns the conditions of a number: tests with `-a`, `-o` and `!`, and lists of them."""
+    at = random.Random(number)
+
+    def operand():
+        kind, word = at.randrange(6), lambda: at.choice(CONDITION_WORDS)
+        text = word() if kind == 0 else f"{at.choice(('-n', '-z'))} {word()}" if kind < 3 else f"{word()} {at.choice(('=', '!='))} {word()}"
+        return f"! {text}" if at.random() < 0.2 else text
+
+    def test():
+        joint = at.choice((("-a",), ("-o",), ("-a", "-o")))
+        more = "".join(f" {at.choice(joint)} {operand()}" for _ in range(at.choice((0, 1, 1, 2))))
+        return f"{'! ' * (at.random() < 0.1)}test {operand()}{more}"
+
+    return [test() + "".join(f" {at.choice(('&&', '||'))}{at.choice((' ', chr(10)))}{test()}" for _ in range(at.choice((0, 0, 1, 2)))) for _ in range(40)]
+
+
+def try_conditions(program, options):
+    """Holds the conditions that port writes against those of the source, in each shell that is there, without a script of Autoconf."""
+    said(*OF_JOINTS)
+    shells, written, differ = [it for it in ("dash", "bash") if shutil.which(it)], 0, 0
+    for number in range(options.first, options.first + options.count):
+        before = conditions(number)
+        lines = "".join(f"if {it}; then r{k}=1; fi\n" for k, it in enumerate(before))
+        after = {int(k): it for it, k in WRITTEN.findall(port(program, f"AC_INIT([fuzz], [1.0])\nAC_PROG_CC\n{lines}AC_OUTPUT\n")[0])}
+        written += len(after)
+        tried = "".join(
+            f"a='{a}' b='{b}'\n" + "".join(
+                f"p=no; if {before[k]}; then p=yes; fi; q=no; if {it}; then q=yes; fi; test $p = $q || echo \"{k} $p '$a' '$b'\"\n" for k, it in after.items())
+            for a in CONDITION_VALUES for b in CONDITION_VALUES)
+        for shell in shells:
+            made = subprocess.run([shell], input=tried, capture_output=True, text=True)
+            found = {int(it.split()[0]): it.split(" ", 1)[1] for it in made.stdout.splitlines()}
+            differ += len(found) + bool(made.returncode or made.stderr)
+            for k, it in found.items():
+                print(f"differs {number} in {shell}: {before[k]!r} is {it}, and after port {after[k]!r}", flush=True)
+            if made.returncode or made.stderr:
+                print(f"{number} in {shell}: status {made.returncode}, {made.stderr[:200]!r}")
+    print(f"{options.count * 40} conditions, {written} rewritten, each with {len(CONDITION_VALUES) ** 2} pairs of values in {' and '.join(shells)}: {differ} differ")
+    return int(differ > 0)
+
+
 ROOM = None
 
 
@@ -1224,6 +1275,7 @@ def main():
     options.add_argument("--log")
     options.add_argument("--only", action="append", default=[])
     options.add_argument("--idioms", action="store_true")
+    options.add_argument("--conditions", action="store_true")
     options.add_argument("--stored", nargs="*", metavar="NAME")
     options.add_argument("--replay", type=int)
     options.add_argument("--minimize", type=int)
@@ -1241,6 +1293,8 @@ def main():
             return int(bool(found) and not isinstance(found, str))
         if options.stored is not None:
             return try_stored(program, options)
+        if options.conditions:
+            return try_conditions(program, options)
         counts, began = {"same": 0, "rewritten": 0, "refused": 0, "differ": 0}, time.time()
         numbers = range(options.first, options.first + options.count)
         known = {number: kind for number, kind in logged(options.log).items() if number in numbers}
