@@ -3,7 +3,7 @@
 
     tools/fuzz_exact.py PROGRAM [--idioms] [--from N] [--count N] [--seconds N] [--runs N] [--jobs N] [--log FILE] [--only MACRO]..
     tools/fuzz_exact.py PROGRAM --stored [NAME..]    the stored sources whose names begin so
-    tools/fuzz_exact.py PROGRAM --conditions         conditions by number, with --from and --count, in shells alone: a tenth of the time
+    tools/fuzz_exact.py PROGRAM --conditions         conditions by number, with --from and --count, in shells alone, without Autoconf
     tools/fuzz_exact.py PROGRAM --replay N           shows source N, what port makes of it, and what differs
     tools/fuzz_exact.py PROGRAM --minimize N         the same of the smallest part of it that differs
 
