@@ -3,6 +3,7 @@
 
     tools/fuzz_exact.py PROGRAM [--idioms] [--from N] [--count N] [--seconds N] [--runs N] [--jobs N] [--log FILE] [--only MACRO]..
     tools/fuzz_exact.py PROGRAM --stored [NAME..]    the stored sources whose names begin so
+    tools/fuzz_exact.py PROGRAM --conditions         conditions by number, with --from and --count, in shells alone, without Autoconf
     tools/fuzz_exact.py PROGRAM --replay N           shows source N, what port makes of it, and what differs
     tools/fuzz_exact.py PROGRAM --minimize N         the same of the smallest part of it that differs
 
@@ -13,7 +14,8 @@ and to print the same. If acrun reads what port wrote, it is run too, and its ou
 wrote may be an error for `acrun lint` that the source does not have.
 tools/seeded_compiler.c answers the programs, by what they ask. From number 1000000 on a source may also begin with AC_INIT without a version, and
 have variables whose names are spelled as those of macros, conditions on several lines, actions without brackets that are calls, and the macros
-of LATER_NAMES; with --idioms also `==`, `-eq`, `-ne`, `exit` and `echo` without words.
+of LATER_NAMES; with --idioms also `==`, `-eq`, `-ne`, `exit` and `echo` without words. From number 2000000 on it may also have `!` before what
+`-a` and `-o` join; with --idioms also `+=`, `echo` with `exit`, and such an operator in double quotes, as far as docs/commands.md names them.
 A difference is allowed if a line `~ ` of macros.txt states it for a macro of the source, or one of the sentences below of docs/differences.md.
 
 With --idioms a source has also calls of the macros that have a line `& `, if Autoconf itself has them, and port is given that switch. If
@@ -43,6 +45,7 @@ import tempfile
 import time
 
 import macro_table
+import word_table
 
 HERE = pathlib.Path(__file__).resolve().parent
 END = re.compile(r"(?m)^AC_OUTPUT\b")
@@ -144,13 +147,14 @@ class Setting:
     is_cross: bool = False
     seed: int = 0
     by: str = "port"
+    shell: str = "/bin/sh"
 
     def shown(self):
         if self.by == "lint":
             return "lint:"
         of_env = " ".join(f"{name}={value}" for name, value in self.environment)
         about = f"programs {self.programs}, {'cross, ' * self.is_cross}seed {self.seed}"
-        return f"{self.by}: {of_env} ./configure {' '.join(self.arguments)}  ({about})"
+        return f"{self.by}: {of_env} {f'{self.shell} ' * (self.shell != '/bin/sh')}./configure {' '.join(self.arguments)}  ({about})"
 
 
 def section(log, title):
@@ -165,9 +169,9 @@ def values_in(text):
 
 def run(room, words, folder, setting):
     path = f"{room.top}/{setting.programs}:{room.top}/given:{room.top}/farm"
-    env = {"PATH": path, "LC_ALL": "C", "CONFIG_SHELL": "/bin/sh", "SEEDED_COMPILER": str(setting.seed), **dict(setting.environment)}
+    env = {"PATH": path, "LC_ALL": "C", "CONFIG_SHELL": setting.shell, "SEEDED_COMPILER": str(setting.seed), **dict(setting.environment)}
     env |= {"SEEDED_CROSS": "1"} if setting.is_cross else {}
-    how = {"cwd": folder, "env": env, "stdin": subprocess.DEVNULL, "capture_output": True, "text": True, "errors": "replace", "timeout": 120}
+    how = {"cwd": folder, "env": env, "stdin": subprocess.DEVNULL, "capture_output": True, "text": True, "errors": "replace", "timeout": 600}
     return subprocess.run([*words, *setting.arguments], **how)
 
 
@@ -198,6 +202,16 @@ def outputs(folder):
     return found
 
 
+# What begins another line of a script's messages although no newline is before it: a check within a check, and one after an AC_CACHE_VAL, which
+# prints `(cached)` alone. An answer that is cached stays on the line of its check.
+JOINED = re.compile(r"(?m)(\.\.\. |^)((?:\(cached\) )*)(?=checking |configure: |config\.status: )")
+
+
+def printed_lines(text):
+    """Returns the lines of what a script printed, with each message on a line of its own."""
+    return JOINED.sub(lambda found: (found[1] and f"{found[1]}\n") + found[2].replace(") ", ") \n"), text).splitlines()
+
+
 def left(room, body, setting, names, assigned, defined, creates=True):
     """Runs a script, and returns what it leaves: a value for each name. `names` are the variables of the template, `assigned` those of the
     shell, and `defined` the names of the header's template. Without `creates` no outputs are made, which takes a third of the time."""
@@ -209,10 +223,9 @@ def left(room, body, setting, names, assigned, defined, creates=True):
         (folder / "config.guess").write_text("#!/bin/sh\necho x86_64-pc-linux-gnu\n")
         (folder / "config.sub").write_text('#!/bin/sh\necho "$1"\n')
         put_templates(folder, names, defined)
-        made = run(room, ["/bin/sh", "./configure", *([] if creates else ["--no-create"])], folder, setting)
+        made = run(room, [setting.shell, "./configure", *([] if creates else ["--no-create"])], folder, setting)
         log = (folder / "config.log").read_text(errors="replace") if (folder / "config.log").exists() else ""
-        printed = re.sub(r"(\.\.\. |^\(cached\) |(?<=\(cached\) )\(cached\) )(?=checking |configure: |config\.status: |\(cached\) )", r"\1\n", made.stdout, flags=re.M)
-        found = {"status": made.returncode, "standard output": printed.splitlines()}
+        found = {"status": made.returncode, "standard output": printed_lines(made.stdout)}
         found["standard error"] = [re.sub(r"^\./configure: (line )?\d+: ", "", it) for it in made.stderr.splitlines()]
         cached, values = values_in(section(log, "Cache variables.")), values_in(section(log, "Output variables."))
         found |= {f"cache {name}": value for name, value in cached.items() if not name.startswith("ac_cv_env_")}
@@ -276,6 +289,16 @@ def of_idioms(found, ported):
     unset |= {name for name, (_, after) in found.items() if ON_THE_WAY.match(name) and is_missing(after)}
     unset |= {name for name, (before, after) in found.items() if name.startswith("variable ") and before is None and after == ""}
     return {name: it for name, it in found.items() if not is_printed.match(name) and name not in unset}
+
+
+def of_statements(found):
+    """Returns the differences without those that are stated of statements of the shell, which --idioms rewrites."""
+    for it in (OF_EXIT, OF_UNSET, OF_EQUALS):
+        said(*it)
+    unset = {name for name, (before, after) in found.items() if name.startswith("variable ") and before is None and after == ""}
+    front = "standard error: + configure: error: "
+    told = {f"standard output: - {name.removeprefix(front)}" for name in found if name.startswith(front) and is_said(*OF_ECHO_EXIT)}
+    return {name: it for name, it in found.items() if not OF_STATEMENTS.match(name) and name not in unset | told}
 
 
 def differences(before, after):
@@ -366,9 +389,14 @@ OF_WORDS = ("language", "A variable is never split into fields")
 OF_TESTS = ("differences", "If an unquoted variable is empty, it is an empty word of a test. A shell drops it.")
 TEST_ERROR = re.compile(r"\b(test|\[): .*(unexpected operator|argument expected|unknown operand|too many arguments)")
 
-# What docs/commands.md states of `unset`, so that no source with it has `${v2-none}`, and of statements whose messages may be others.
+# What docs/commands.md states of `exit`, of `unset`, so that no source with it has `${v2-none}`, and of `==` and `-eq`, which are errors for a
+# shell that has no `==` and for a word that is not a number. What `echo` prints stays as it is, since no setting has -q.
+OF_EXIT = ("commands", "An `exit` with a digit other than 0 becomes AC_MSG_ERROR, which also prints an error")
 OF_UNSET = ("commands", "An `unset` of one variable becomes an assignment of nothing, which `${name-word}` can tell apart")
-OF_STATEMENTS = re.compile(r"(?m)^ *(exit \d|unset \w+|echo.*)$| (==|-eq|-ne) ")
+OF_EQUALS = ("commands", "A shell without `==` takes a test with it for false, and `-eq` takes 01 for 1")
+OF_ECHO_EXIT = ("commands", "`echo MESSAGE; exit STATUS` becomes AC_MSG_ERROR, which prints the message as an error")
+OF_APPENDED = ("commands", "Some shells, such as dash, have no `+=`, and take it for a command")
+OF_STATEMENTS = re.compile(r"standard error: (\+ configure: error: .*|- (test|\[): .*(unexpected operator|Illegal number: .*))$")
 
 # What docs/how-it-runs.md states of a source without AC_PROG_CC, so that acrun is given none.
 OF_COMPILER = ("how-it-runs", "linked and CC has no word, the run prints `configure: error: no acceptable C compiler found in $PATH`")
@@ -395,10 +423,13 @@ def said(document, sentence):
 
 def unsaid():
     """Yields a line for each sentence that is looked for here, and that its document doesn't have."""
-    stated_once = (OF_IDIOMS, OF_INIT, OF_JOINTS, OF_WORDS, OF_TESTS, OF_COMPILER, OF_DNL, OF_GIVEN)
+    stated_once = (OF_IDIOMS, OF_INIT, OF_JOINTS, OF_WORDS, OF_TESTS, OF_EXIT, OF_UNSET, OF_EQUALS, OF_COMPILER, OF_DNL, OF_GIVEN)
     for document, sentence in (*stated_once, *(("differences", sentence) for sentence, _ in OF_LANGUAGE)):
         if not is_said(document, sentence):
             yield f"docs/{document}.md does not say what tools/fuzz_exact.py looks for: {sentence}"
+    for key in OF_SOURCE:
+        if key not in word_table.entries() or not word_table.entries()[key].message:
+            yield f"crates/lint_table/words.txt has no message that tools/fuzz_exact.py looks for: {key}"
 
 
 @functools.lru_cache
@@ -476,7 +507,7 @@ def compared(room, text, ported, settings, switches, program=""):
     names = template_names(bodies[0])
     assigned = sorted({*re.findall(r"\b([A-Za-z_]\w*)=", text + ported), *(["INSTALL"] if "AC_PROG_INSTALL" in text else [])})
     patterns, found, defined = stated(text, switches == IDIOMS), [], candidates(bodies, ported)
-    has_other_idiom = switches == IDIOMS and (any(is_word(name, text) for name, *_ in others()) or bool(OF_STATEMENTS.search(text)))
+    has_other_idiom = switches == IDIOMS and any(is_word(name, text) for name, *_ in others())
     for setting in settings:
         by_acrun = program and is_for_acrun(setting) and not joins_dnl(text)
         creates = bool(by_acrun) or setting.seed % 4 == 0
@@ -485,7 +516,7 @@ def compared(room, text, ported, settings, switches, program=""):
         runs = [left(room, it, setting, names, assigned, defined, creates) for it in dict.fromkeys(bodies)]
         runs = [runs[0], runs[-1]]
         differs = differences(*runs)
-        differs = of_idioms(differs, bodies[1]) if has_other_idiom else differs
+        differs = of_idioms(differs, bodies[1]) if has_other_idiom else of_statements(differs) if switches == IDIOMS else differs
         differs = {name: it for name, it in differs.items() if not is_stated(name, patterns, it[0])}
         if any("yntax error" in it for it in runs[0]["standard error"]):
             return "refused"
@@ -634,6 +665,8 @@ def others():
 
 # From this number on sources have the forms of NAMED and of INIT too. Those of lower numbers stay as they were.
 LATER = 1_000_000
+# From this number on also those of NEWER_SHELL, and negated operands of `-a` and `-o`.
+NEWER = 2_000_000
 INIT = ("AC_INIT", "AC_INIT()", "AC_INIT(configure.ac)", "AC_INIT([configure.ac])", "AC_INIT( configure.ac)dnl a note")
 NAMED = (
     "PKG_CONFIG=a", "LT_CURRENT=2", "AX_FLAGS=\"$PKG_CONFIG b\"", "v1=$PKG_CONFIG", "v2=\"${LT_CURRENT}:${AX_FLAGS}\"", "v1=a$LT_CURRENT v2=b",
@@ -657,6 +690,13 @@ OF_SHELL = (
     "level=2\nif test \"$level\" -ne 3 -a 2 -eq 2; then\n  v1=both\nfi", "if test \"$level\" -eq 3; then\n  v2=three\nfi",
     "if test \"$enable_foo\" = stop; then\n  echo\n  echo stop it\n  exit 3\nfi", "echo", "echo \"\"",
 )
+# Statements that port rewrites with --idioms if a document says so. A shell with `+=` runs a source that has one.
+NEWER_SHELL = (
+    (OF_ECHO_EXIT, ("if test \"$v2\" = yes; then\n  echo v2 is set; exit 3\nfi", "if test -n \"$level\"; then\n  v1=4\n  echo \"no $level here\"; exit 1\nfi")),
+    (OF_APPENDED, ("v1+=b", "v1=a\nv1+=$level", "v2+=\" c $v1\"", "LIBS+=\" -lz\"", "if test -n \"$v1\"; then\n  v1+=c\nfi", "CFLAGS+=' -DA'")),
+    (OF_EQUALS, ("test \"$v1\" == never && v2=equal", "if test \"$v1\" != \"b == c\"; then\n  v2=other\nfi",
+                 "level=3\ntest \"$level\" -eq 3 || v1=none\nv2=\"$v1\"", "if test \"$v2\" = \"a -eq 3\" || test \"$v1\" == never; then\n  v1=words\nfi")),
+)
 
 
 class Maker:
@@ -664,7 +704,7 @@ class Maker:
 
     def __init__(self, number, names=None, switches=()):
         self.at = random.Random(number)
-        self.is_later = number >= LATER
+        self.is_later, self.is_newer = number >= LATER, number >= NEWER
         self.all_idioms = switches == IDIOMS
         rows = [*(others() * 3 if self.all_idioms else []), *exact()]
         left_out = (*NO_CALLS, *(() if self.is_later else LATER_NAMES))
@@ -782,8 +822,13 @@ class Maker:
     def joint(self):
         """Returns a test with `-a` or `-o`."""
         said(*OF_JOINTS)
-        more = f" {self.one(['-a', '-o'])} {self.test(self.one_word)}" if self.has(0.5) else ""
-        return f"{self.test(self.one_word)} {self.one(['-a', '-o'])} {self.test(self.one_word)}{more}"
+        more = f" {self.one(['-a', '-o'])} {self.operand()}" if self.has(0.5) else ""
+        return f"{self.operand()} {self.one(['-a', '-o'])} {self.operand()}{more}"
+
+    def operand(self):
+        """Returns an operand of `-a` or `-o`."""
+        test = self.test(self.one_word)
+        return f"! {test}" if self.is_newer and self.has(0.3) else test
 
     def condition(self):
         if self.is_later and self.has(0.2):
@@ -836,6 +881,8 @@ class Maker:
         return f"{self.one(['v1', 'v2', 'level'])}={self.one(SET)}"
 
     def simple(self, depth):
+        if self.is_newer and self.all_idioms and self.has(0.4):
+            return self.one([it for sentence, texts in NEWER_SHELL if is_said(*sentence) for it in texts])
         if self.is_later and self.has(0.5):
             return self.one([*NAMED, *(OF_SHELL if self.all_idioms else ())])
         kind = self.at.randrange(10)
@@ -982,8 +1029,21 @@ def joined(first, blocks, last):
     return "\n".join([*filter(None, first), *blocks, last]) + "\n"
 
 
-# Errors about what a source has itself, which port may leave on another line.
-OF_SOURCE = re.compile(r"a test on its own|not read|not run|is no statement|does not know|no macro that acrun knows|other text beside it")
+# The keys of words.txt whose errors are about what a source has itself, which port may leave on another line.
+OF_SOURCE = (
+    "unknown-macro", "no-macro", "text-beside-call", "no-statement", "argument-macro", "unread-argument", "no-value", "shell-if", "shell-test",
+    "shell-not", "shell-and", "shell-case", "shell-for", "shell-echo", "shell-exit", "shell-export", "shell-unset", "shell-command", "shell-eval",
+    "shell-function", "shell-group", "shell-cd", "shell-backquote", "shell-arithmetic", "shell-substitution", "shell-redirection", "shell-pipe",
+    "shell-subshell", "shell-variable-command", "test-and", "test-or", "test-file", "test-number", "test-semicolon", "test-bracket",
+    "variable-with-operator", "variable-with-cut", "message-backquote", "special-variable",
+)
+
+
+@functools.cache
+def of_source():
+    """Returns the pattern of the messages of these errors."""
+    texts = [re.split(r"%\d", word_table.entries()[key].message) for key in OF_SOURCE]
+    return re.compile("(?s)" + "|".join(".*?".join(map(re.escape, parts)) for parts in texts))
 
 
 def without_excerpts(message):
@@ -997,17 +1057,22 @@ def written_errors(program, text, ported):
         lines = subprocess.run([program, "lint", "--json", "-"], input=each, capture_output=True, text=True, errors="replace").stdout.splitlines()
         found.append([it for it in map(json.loads, lines) if it["severity"] == "error" and it["code"] != "template"])
     known, lines = {without_excerpts(it["message"]) for it in found[0]}, ported.splitlines()
-    new = [it for it in found[1] if without_excerpts(it["message"]) not in known and not OF_SOURCE.search(it["message"])]
+    new = [it for it in found[1] if without_excerpts(it["message"]) not in known and not of_source().match(it["message"])]
     new = [it for it in new if lines[it["line"] - 1] not in text.splitlines()]
     return [(Setting(by="lint"), {f"error in {lines[it['line'] - 1]}: {it['message']}": ("", "")}) for it in new]
+
+
+def shell_of(text):
+    """Returns the shell that runs the scripts of a source."""
+    return "/bin/bash" if re.search(r"(?m)^ *\w+\+=", text) else "/bin/sh"
 
 
 def judge(program, room, number, names=None, runs=2, switches=()):
     """Returns what is wrong with a source: how it was run, and what differs."""
     maker = Maker(number, names, switches)
     first, blocks, last = maker.source()
-    settings = maker.settings(runs)
     text = joined(first, blocks, last)
+    settings = [dataclasses.replace(it, shell=shell_of(text)) for it in maker.settings(runs)]
     ported, is_read = port(program, text, *switches)
     if ported == text and not is_read:
         return "same", text, ported
@@ -1081,7 +1146,7 @@ def minimized(program, room, number, names, switches):
     blocks, arguments and variables of the environment go in turn."""
     maker = Maker(number, names, switches)
     first, blocks, last = maker.source()
-    settings = maker.settings(2)
+    settings = [dataclasses.replace(it, shell=shell_of(joined(first, blocks, last))) for it in maker.settings(2)]
 
     def tried(blocks, settings):
         text = joined(first, blocks, last)
@@ -1111,6 +1176,56 @@ def minimized(program, room, number, names, switches):
                 if found := tried(blocks, without):
                     settings, best, changed = without, found, True
     return best
+
+
+# ---------------------------------------------------------------------------------------------------------------------- conditions
+
+# Words that are one word for a shell whatever a and b are, and the values of these. None is an operator, as OF_JOINTS asks.
+CONDITION_WORDS = ('"$a"', '"$b"', '"x$a"', "yes", '"a b"', '"${a}"', "/x", '"$a$b"', "3", '"no"')
+CONDITION_VALUES = ("", "a", "yes", "a b", "/x", "3", "no")
+WRITTEN = re.compile(r"(?ms)^AS_IF\(\[((?:(?!^AS_IF|^if ).)*?)\], \[r(\d+)=1\]\)$")
+
+
+def conditions(number):
+    """Returns the conditions of a number: tests with `-a`, `-o` and `!`, and lists of them."""
+    at = random.Random(number)
+
+    def operand():
+        kind, word = at.randrange(6), lambda: at.choice(CONDITION_WORDS)
+        text = word() if kind == 0 else f"{at.choice(('-n', '-z'))} {word()}" if kind < 3 else f"{word()} {at.choice(('=', '!='))} {word()}"
+        return f"! {text}" if at.random() < 0.2 else text
+
+    def test():
+        joint = at.choice((("-a",), ("-o",), ("-a", "-o")))
+        more = "".join(f" {at.choice(joint)} {operand()}" for _ in range(at.choice((0, 1, 1, 2))))
+        return f"{'! ' * (at.random() < 0.1)}test {operand()}{more}"
+
+    return [test() + "".join(f" {at.choice(('&&', '||'))}{at.choice((' ', chr(10)))}{test()}" for _ in range(at.choice((0, 0, 1, 2)))) for _ in range(40)]
+
+
+def try_conditions(program, options):
+    """Holds the conditions that port writes against those of the source, in each shell that is there, without a script of Autoconf."""
+    said(*OF_JOINTS)
+    shells, written, differ = [it for it in ("dash", "bash") if shutil.which(it)], 0, 0
+    for number in range(options.first, options.first + options.count):
+        before = conditions(number)
+        lines = "".join(f"if {it}; then r{k}=1; fi\n" for k, it in enumerate(before))
+        after = {int(k): it for it, k in WRITTEN.findall(port(program, f"AC_INIT([fuzz], [1.0])\nAC_PROG_CC\n{lines}AC_OUTPUT\n")[0])}
+        written += len(after)
+        tried = "".join(
+            f"a='{a}' b='{b}'\n" + "".join(
+                f"p=no; if {before[k]}; then p=yes; fi; q=no; if {it}; then q=yes; fi; test $p = $q || echo \"{k} $p '$a' '$b'\"\n" for k, it in after.items())
+            for a in CONDITION_VALUES for b in CONDITION_VALUES)
+        for shell in shells:
+            made = subprocess.run([shell], input=tried, capture_output=True, text=True)
+            found = {int(it.split()[0]): it.split(" ", 1)[1] for it in made.stdout.splitlines()}
+            differ += len(found) + bool(made.returncode or made.stderr)
+            for k, it in found.items():
+                print(f"differs {number} in {shell}: {before[k]!r} is {it}, and after port {after[k]!r}", flush=True)
+            if made.returncode or made.stderr:
+                print(f"{number} in {shell}: status {made.returncode}, {made.stderr[:200]!r}")
+    print(f"{options.count * 40} conditions, {written} rewritten, each with {len(CONDITION_VALUES) ** 2} pairs of values in {' and '.join(shells)}: {differ} differ")
+    return int(differ > 0)
 
 
 ROOM = None
@@ -1160,6 +1275,7 @@ def main():
     options.add_argument("--log")
     options.add_argument("--only", action="append", default=[])
     options.add_argument("--idioms", action="store_true")
+    options.add_argument("--conditions", action="store_true")
     options.add_argument("--stored", nargs="*", metavar="NAME")
     options.add_argument("--replay", type=int)
     options.add_argument("--minimize", type=int)
@@ -1177,6 +1293,8 @@ def main():
             return int(bool(found) and not isinstance(found, str))
         if options.stored is not None:
             return try_stored(program, options)
+        if options.conditions:
+            return try_conditions(program, options)
         counts, began = {"same": 0, "rewritten": 0, "refused": 0, "differ": 0}, time.time()
         numbers = range(options.first, options.first + options.count)
         known = {number: kind for number, kind in logged(options.log).items() if number in numbers}
