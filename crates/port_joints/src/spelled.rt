@@ -365,11 +365,7 @@ fn respelled_if_read(
 }
 
 /// Returns a condition that is spelled otherwise, if an operator was put, and it is then a test.
-fn respelled_if_put(
-    alloc: Global,
-    text: &[u8],
-    put: Vec<u8>,
-) -> Result<Option<Vec<u8>>, AllocError>
+fn respelled_if_put(alloc: Global, text: &[u8], put: Vec<u8>) -> Result<Option<Vec<u8>>, AllocError>
     requires plain { list_any specs.is_hard text.now ≡ false }
     requires spelled { specs.IsSpelled text.now (length text.now) put.items }
     ensures { IfOk result (λ o. IfSome o (λ v. specs.IsRespelled text.now v.items)) }
