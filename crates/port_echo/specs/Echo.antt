@@ -10,9 +10,9 @@ use Rattle.port_compounds.specs.Places.{AreSpaces, IsWord}
 abbrev pub is_shown : ℕ → Bool
 is_shown b = nat_lt 31 b && nat_lt b 127 && not (b == 34 || b == 35 || b == 91 || b == 92 || b == 93 || b == 96)
 
--- The same, but no `$`. (own)
+-- The same, but no `$` and no single quote. (own)
 abbrev pub is_constant : ℕ → Bool
-is_constant b = is_shown b && not (b == 36)
+is_constant b = is_shown b && not (b == 36 || b == 39)
 
 -- A byte that a shell reads as it is outside quotes too, or the `$` of a variable: a letter, a digit, a space, or one of
 -- `$ % + , - . / : = @ _`. (own)

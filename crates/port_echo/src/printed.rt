@@ -22,7 +22,7 @@ fn is_shown(byte: u8) -> bool
 fn is_constant(byte: u8) -> bool
     ensures { result ≡ specs.is_constant byte }
 {
-    is_shown(byte) && !(byte == b'$')
+    is_shown(byte) && !(byte == b'$' || byte == b'\'')
 }
 
 /// Returns whether the byte is one of those that are neither a letter nor a digit.
@@ -91,7 +91,7 @@ fn are_constant(text: &[u8]) -> bool
     text.iter().all(|byte| is_constant(*byte))
 }
 
-/// Returns the text in single quotes, if it has no `$`.
+/// Returns the text in single quotes, if it has no `$` and no single quote.
 fn constant(text: &[u8]) -> Option<&[u8]>
     ensures { IfSome result (λ m. specs.Prints text.now m.now) }
 {

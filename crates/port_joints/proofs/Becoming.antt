@@ -8,7 +8,7 @@ use Rattle.shellword.specs.Test.{IsTest}
 use Rattle.shellword.specs.Truth.{Joined, single}
 use Rattle.shellword.specs.declared.element.Element.{Element}
 use Rattle.shellword.specs.declared.token.Joint.{Joint}
-use Rattle.port_joints.specs.Joints.{HaveBecome, Becomes, BecomesIf, AllBecome, AreGaps, IsBegun, IsRejoined, IsOneTest, IsOperand, is_gap}
+use Rattle.port_joints.specs.Joints.{HaveBecome, Becomes, BecomesIf, AllBecome, AreGaps, IsBegun, IsRejoined, IsOneTest, IsComparison, IsOperand, is_comparison, is_gap}
 use Rattle.port_joints.specs.Joints as specs
 use Rattle.port_compounds.specs.Places.{IsWord}
 
@@ -17,18 +17,20 @@ pub on_ok : {T E P Q : Type 0} → (P → Q) → (r : Result T E) → OnOk r P �
 on_ok f (Ok v) p = f p
 on_ok f (Err e) p = tt
 
-pub joined_step : (operator joint text : List ℕ) (start : ℕ) (put : List ℕ) (at next new_at : ℕ) (new : List ℕ) → IsBegun operator joint text start put
-    → IsOperand (slice_range text start at) → (is_gap (slice_index text (at - 1)) ≡ true) × IsWord text at operator next
-    → (new_at ≡ next) × (new ≡ (put ++ slice_range text start at) ++ (joint ++ codes " test")) → IsBegun operator joint text new_at new
-joined_step operator joint text start put at next new_at new before operand is (at_is, new_is) =
-    subst (λ a. IsBegun operator joint text a new) (sym at_is) (subst (IsBegun operator joint text next) (sym new_is) (specs.IsBegun.joined at before operand is.0 is.1))
+pub joined_step : (operator joint text : List ℕ) (is_first : Bool) (start : ℕ) (put : List ℕ) (at next : ℕ) (new_first : Bool) (new_at : ℕ) (new : List ℕ)
+    → IsBegun operator joint text is_first start put → IsOperand is_first (slice_range text start at) → (is_gap (slice_index text (at - 1)) ≡ true) × IsWord text at operator next
+    → ((new_first ≡ false) × (new_at ≡ next)) × (new ≡ (put ++ slice_range text start at) ++ (joint ++ codes " test")) → IsBegun operator joint text new_first new_at new
+joined_step operator joint text is_first start put at next new_first new_at new before operand is ((first_is, at_is), new_is) =
+    subst (λ f. IsBegun operator joint text f new_at new) (sym first_is)
+    (subst (λ a. IsBegun operator joint text false a new) (sym at_is) (subst (IsBegun operator joint text false next) (sym new_is) (specs.IsBegun.joined at before operand is.0 is.1)))
 
-pub kept_step : (operator joint text : List ℕ) (start : ℕ) (put : List ℕ) (at after from end new_at : ℕ) (new : List ℕ) → IsBegun operator joint text start put
-    → IsOperand (slice_range text start at)
+pub kept_step : (operator joint text : List ℕ) (is_first : Bool) (start : ℕ) (put : List ℕ) (at after from end : ℕ) (new_first : Bool) (new_at : ℕ) (new : List ℕ)
+    → IsBegun operator joint text is_first start put → IsOperand is_first (slice_range text start at)
     → (IsWord text at joint after × AreGaps text after from) × IsWord text from (codes "test") end
-    → (new_at ≡ end) × (new ≡ put ++ slice_range text start end) → IsBegun operator joint text new_at new
-kept_step operator joint text start put at after from end new_at new before operand is (at_is, new_is) =
-    subst (λ a. IsBegun operator joint text a new) (sym at_is) (subst (IsBegun operator joint text end) (sym new_is) (specs.IsBegun.kept at after from before operand is.0.0 is.0.1 is.1))
+    → ((new_first ≡ true) × (new_at ≡ end)) × (new ≡ put ++ slice_range text start end) → IsBegun operator joint text new_first new_at new
+kept_step operator joint text is_first start put at after from end new_first new_at new before operand is ((first_is, at_is), new_is) =
+    subst (λ f. IsBegun operator joint text f new_at new) (sym first_is)
+    (subst (λ a. IsBegun operator joint text true a new) (sym at_is) (subst (IsBegun operator joint text true end) (sym new_is) (specs.IsBegun.kept at after from before operand is.0.0 is.0.1 is.1)))
 
 pub stepped : (is_condition : Bool) (part text : List ℕ) (old new : List (List ℕ)) → BecomesIf is_condition part text → new ≡ old ++ text ∷ []
     → (parts : List (List ℕ)) → HaveBecome is_condition parts old → HaveBecome (not is_condition) (parts ++ part ∷ []) new
@@ -89,3 +91,8 @@ pub one_of : (text : List ℕ) (found : Joined) (first : Element) (rest : List (
     → (length rest == 0) ≡ true → IsOneTest text
 one_of text found first rest tests is none =
     record { element = first; is = subst (IsTest text) (is ∙ ap (nested (single first)) (nothing_listed rest none)) tests }
+
+pub comparison_of : (text : List ℕ) (found : Joined) (first : Element) (rest : List (Joint × Element)) → IsTest text found → found ≡ nested (single first) rest
+    → (length rest == 0) ≡ true → is_comparison first.condition ≡ true → IsComparison text
+comparison_of text found first rest tests is none compares =
+    record { element = first; is = subst (IsTest text) (is ∙ ap (nested (single first)) (nothing_listed rest none)) tests; compares = compares }

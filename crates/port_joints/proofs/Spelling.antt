@@ -1,5 +1,5 @@
 -- What is put in the place of operators of a condition.
-use Rattle.std.proofs.Common.{◌≡◌, ℕ, ◌≤◌, List, ◌++◌, length, take, false, Result, Ok, Err, is_ok, OnOk, if◌then◌else◌, slice_range, sym, subst, arith, codes}
+use Rattle.std.proofs.Common.{◌≡◌, ℕ, ◌<◌, ◌≤◌, List, ◌++◌, length, take, false, Result, Ok, Err, is_ok, OnOk, if◌then◌else◌, slice_range, sym, subst, arith, codes}
 use Rattle.std.specs.List.{list_any}
 use Rattle.shellword.specs.Test.{IsTest}
 use Rattle.shellword.specs.Truth.{Joined}
@@ -37,5 +37,5 @@ spelled_end (Err e) text at out new before is = tt
 pub is_readable : (text last : List ℕ) (test : Joined) → Becomes text last → IsTest last test → IsReadable text
 is_readable text last test becomes tests = record { final = last; test = test; becomes = becomes; tests = tests }
 
-pub respelled : (text put : List ℕ) → list_any is_hard text ≡ false → IsSpelled text (length text) put → IsReadable put → IsRespelled text put
-respelled text put plain is readable = record { plain = plain; spelled = is; readable = readable }
+pub respelled : (text put : List ℕ) → list_any is_hard text ≡ false → IsSpelled text (length text) put → length put < length text → IsReadable put → IsRespelled text put
+respelled text put plain is less readable = record { plain = plain; spelled = is; shorter = less; readable = readable }

@@ -48,8 +48,10 @@ pub record IsReadable (text : List ℕ) : Type 0 where
   pub becomes : Becomes text final
   pub tests : IsTest final test
 
--- The condition has none of these bytes, it is spelled so to its end, and is then a test.
+-- The condition has none of these bytes, and it is spelled so to its end. It is then shorter, so at least one operator was put, and it is a
+-- test.
 pub record IsRespelled (text put : List ℕ) : Type 0 where
   pub plain : list_any is_hard text ≡ false
   pub spelled : IsSpelled text (length text) put
+  pub shorter : length put < length text
   pub readable : IsReadable put

@@ -7,7 +7,7 @@ ghost use Rattle.port_compounds.specs.Places.{IsWord};
 ghost use Rattle.port_joints.specs.Joints as specs;
 
 use port_compounds::is_word;
-use shellword::{ShellFault, Test, read_test};
+use shellword::{Condition, ShellFault, Test, read_test};
 use std::alloc::{AllocError, Global};
 
 /// How long a condition is at most that is looked at: the time that it takes grows with the square
@@ -104,27 +104,41 @@ fn is_option_between(text: &[u8], at: usize, end: usize, from: usize) -> bool
         && is_word_at(text, from)
 }
 
-/// Returns whether an option and a word begin at these offsets, after spaces and tabs.
-fn begins_with_option(text: &[u8], at: usize, end: usize, from: usize) -> bool
-    ensures { IsTrue result → specs.BeginsOperand text.now }
+/// Returns whether an option and a word are at the front of a text, at these offsets.
+fn is_option_at(text: &[u8], at: usize, end: usize, from: usize) -> bool
+    ensures { IsTrue result → specs.BeginsOption text.now }
 {
     is_option_between(text, at, end, from)
 }
 
+/// Returns whether a text has an option and a word at its front, after spaces and tabs.
+fn begins_option(text: &[u8]) -> bool
+    ensures { IsTrue result → specs.BeginsOption text.now }
+{
+    let at = after_gap(text, 0);
+    let end = at.saturating_add(2);
+    is_option_at(text, at, end, after_gap(text, end))
+}
+
+/// Returns whether an option and a word begin a text.
+fn begins_with_option(text: &[u8]) -> bool
+    ensures { IsTrue result → specs.BeginsPlain text.now }
+{
+    begins_option(text)
+}
+
 /// Returns whether a word begins at an offset, after spaces and tabs.
 fn begins_with_word(text: &[u8], at: usize) -> bool
-    ensures { IsTrue result → specs.BeginsOperand text.now }
+    ensures { IsTrue result → specs.BeginsPlain text.now }
 {
     is_gap_between(text, 0, at) && is_word_at(text, at)
 }
 
-/// Returns whether a text has the front of an operand.
-fn begins_operand(text: &[u8]) -> bool
-    ensures { IsTrue result → specs.BeginsOperand text.now }
+/// Returns whether a text has the front of an operand without `!`.
+fn begins_plain(text: &[u8]) -> bool
+    ensures { IsTrue result → specs.BeginsPlain text.now }
 {
-    let at = after_gap(text, 0);
-    let end = at.saturating_add(2);
-    begins_with_word(text, at) || begins_with_option(text, at, end, after_gap(text, end))
+    begins_with_word(text, after_gap(text, 0)) || begins_with_option(text)
 }
 
 /// Returns whether a test of a text has one element.
@@ -166,14 +180,118 @@ fn is_one_after(alloc: Global, text: &[u8]) -> Result<bool, AllocError>
     is_one(alloc, whole.as_slice())
 }
 
-/// Returns whether a text is an operand.
-fn is_operand(alloc: Global, text: &[u8]) -> Result<bool, AllocError>
-    ensures { IfOk result (λ b. IsTrue b → specs.IsOperand text.now) }
+/// Returns whether a condition compares two words.
+fn compares(condition: &Condition) -> bool
+    ensures { result ≡ specs.is_comparison condition.now }
 {
-    if !begins_operand(text) {
+    match condition {
+        Condition::Equal(..) => true,
+        Condition::Different(..) => true,
+        Condition::True | Condition::False | Condition::Nonempty(_) | Condition::Empty(_) => false,
+    }
+}
+
+/// Returns whether a test of a text has one element, which compares two words.
+#[tactic(auto, using(crate::proofs::Becoming::comparison_of))]
+fn is_single_comparison(text: &[u8], found: &Test) -> bool
+    requires { IsTest text.now found.now }
+    ensures { IsTrue result → specs.IsComparison text.now }
+{
+    let _ = text;
+    let (first, rest) = found.elements();
+    rest.is_empty() && compares(&first.condition)
+}
+
+/// Returns whether a text is one test, which compares two words.
+fn is_comparison(alloc: Global, text: &[u8]) -> Result<bool, AllocError>
+    ensures { IfOk result (λ b. IsTrue b → specs.IsComparison text.now) }
+{
+    match read_test(alloc, text) {
+        Ok(found) => Ok(is_single_comparison(text, &found)),
+        Err(ShellFault::OutOfMemory) => Err(AllocError),
+        Err(_) => Ok(false),
+    }
+}
+
+/// Returns whether `test` before a text makes it one test, which compares two words.
+fn is_comparison_after(alloc: Global, text: &[u8]) -> Result<bool, AllocError>
+    ensures { IfOk result (λ b. IsTrue b → specs.IsComparison (codes "test" ++ text.now)) }
+{
+    let whole = with_front(alloc, text)?;
+    is_comparison(alloc, whole.as_slice())
+}
+
+/// Returns whether `!` before the rest of a text negates that alone, and not more words of its
+/// `test`.
+fn may_negate(alloc: Global, text: &[u8], rest: &[u8], is_first: bool) -> Result<bool, AllocError>
+    ensures { IfOk result (λ b. IsTrue b → specs.MayNegate is_first text.now rest.now) }
+{
+    if !is_first || begins_option(rest) {
+        return Ok(true);
+    }
+    is_comparison_after(alloc, text)
+}
+
+/// Returns whether `!` is at the front of a text, after spaces and tabs, up to an offset.
+fn is_negation(text: &[u8], at: usize, end: usize) -> bool
+    ensures { IsTrue result → specs.IsNegation text.now end × (end ≤ length text.now) }
+{
+    is_gap_between(text, 0, at) && is_word(text, at, b"!", end)
+}
+
+/// Returns whether a text has the front of an operand after `!`, which ends at an offset.
+fn begins_after(alloc: Global, text: &[u8], end: usize, is_first: bool) -> Result<bool, AllocError>
+    requires negation { specs.IsNegation text.now end }
+    requires within { end ≤ length text.now }
+    ensures { IfOk result (λ b. IsTrue b → specs.BeginsOperand is_first text.now) }
+{
+    let rest = &text[end..text.len()];
+    if !begins_plain(rest) {
         return Ok(false);
     }
+    may_negate(alloc, text, rest, is_first)
+}
+
+/// Returns whether a text has `!` and the front of an operand at its front.
+fn begins_negated(alloc: Global, text: &[u8], is_first: bool) -> Result<bool, AllocError>
+    ensures { IfOk result (λ b. IsTrue b → specs.BeginsOperand is_first text.now) }
+{
+    let at = after_gap(text, 0);
+    let end = at.saturating_add(1);
+    if !is_negation(text, at, end) {
+        return Ok(false);
+    }
+    begins_after(alloc, text, end, is_first)
+}
+
+/// Returns whether a text has the front of an operand.
+fn begins_operand(alloc: Global, text: &[u8], is_first: bool) -> Result<bool, AllocError>
+    ensures { IfOk result (λ b. IsTrue b → specs.BeginsOperand is_first text.now) }
+{
+    if begins_plain(text) {
+        return Ok(true);
+    }
+    begins_negated(alloc, text, is_first)
+}
+
+/// Returns whether a text that begins as an operand is one.
+fn is_operand_begun(alloc: Global, text: &[u8], is_first: bool) -> Result<bool, AllocError>
+    requires { specs.BeginsOperand is_first text.now }
+    ensures { IfOk result (λ b. IsTrue b → specs.IsOperand is_first text.now) }
+{
+    let _ = is_first;
     is_one_after(alloc, text)
+}
+
+/// Returns whether a text is an operand. The flag says whether `test` is right before it.
+fn is_operand(alloc: Global, text: &[u8], is_first: bool) -> Result<bool, AllocError>
+    ensures { IfOk result (λ b. IsTrue b → specs.IsOperand is_first text.now) }
+{
+    if begins_operand(alloc, text, is_first)? {
+        is_operand_begun(alloc, text, is_first)
+    } else {
+        Ok(false)
+    }
 }
 
 // ---- joints
@@ -181,6 +299,8 @@ fn is_operand(alloc: Global, text: &[u8]) -> Result<bool, AllocError>
 /// How far a condition was read.
 #[derive(Drop)]
 struct Reading {
+    /// Whether `test` is right before the operand that begins.
+    is_first: bool,
     /// The offset at which an operand begins.
     at: usize,
     /// What was written up to there.
@@ -220,7 +340,7 @@ fn write_joined(
 ) -> Result<(), AllocError>
     requires { (reading.old.at ≤ at) × (at ≤ length text.now) }
     ensures { OnOk result (
-        (reading.new.at ≡ next)
+        ((reading.new.is_first ≡ false) × (reading.new.at ≡ next))
         × (reading.new.out.items
         ≡ (reading.old.out.items ++ slice_range text.now reading.old.at at)
         ++ (joint.now ++ codes " test"))) }
@@ -228,6 +348,7 @@ fn write_joined(
     reading.out.extend_from_slice(&text[reading.at..at])?;
     reading.out.extend_from_slice(joint)?;
     reading.out.extend_from_slice(b" test")?;
+    reading.is_first = false;
     reading.at = next;
     Ok(())
 }
@@ -242,13 +363,13 @@ fn go_on_joined(
     reading: &mut Reading,
 ) -> Result<(), AllocError>
     requires place { (reading.old.at ≤ at) × (at ≤ length text.now) }
-    requires operand { specs.IsOperand (slice_range text.now reading.old.at at) }
+    requires operand { specs.IsOperand reading.old.is_first (slice_range text.now reading.old.at at) }
     requires is { (specs.is_gap (slice_index text.now (at - 1)) ≡ true)
         × IsWord text.now at operator.now next }
-    requires begun { specs.IsBegun operator.now joint.now text.now reading.old.at
+    requires begun { specs.IsBegun operator.now joint.now text.now reading.old.is_first reading.old.at
         reading.old.out.items }
     ensures { OnOk result (
-        specs.IsBegun operator.now joint.now text.now reading.new.at reading.new.out.items) }
+        specs.IsBegun operator.now joint.now text.now reading.new.is_first reading.new.at reading.new.out.items) }
 {
     let _ = operator;
     write_joined(text, joint, at, next, reading)
@@ -258,11 +379,12 @@ fn go_on_joined(
 fn write_kept(text: &[u8], end: usize, reading: &mut Reading) -> Result<(), AllocError>
     requires { (reading.old.at ≤ end) × (end ≤ length text.now) }
     ensures { OnOk result (
-        (reading.new.at ≡ end)
+        ((reading.new.is_first ≡ true) × (reading.new.at ≡ end))
         × (reading.new.out.items
         ≡ reading.old.out.items ++ slice_range text.now reading.old.at end)) }
 {
     reading.out.extend_from_slice(&text[reading.at..end])?;
+    reading.is_first = true;
     reading.at = end;
     Ok(())
 }
@@ -279,13 +401,13 @@ fn go_on_kept(
     reading: &mut Reading,
 ) -> Result<(), AllocError>
     requires place { (reading.old.at ≤ end) × (end ≤ length text.now) }
-    requires operand { specs.IsOperand (slice_range text.now reading.old.at at) }
+    requires operand { specs.IsOperand reading.old.is_first (slice_range text.now reading.old.at at) }
     requires is { (IsWord text.now at joint.now after × specs.AreGaps text.now after from)
         × IsWord text.now from (codes "test") end }
-    requires begun { specs.IsBegun operator.now joint.now text.now reading.old.at
+    requires begun { specs.IsBegun operator.now joint.now text.now reading.old.is_first reading.old.at
         reading.old.out.items }
     ensures { OnOk result (
-        specs.IsBegun operator.now joint.now text.now reading.new.at reading.new.out.items) }
+        specs.IsBegun operator.now joint.now text.now reading.new.is_first reading.new.at reading.new.out.items) }
 {
     let _ = operator;
     let _ = joint;
@@ -304,16 +426,16 @@ fn read_operator(
     at: usize,
     reading: &mut Reading,
 ) -> Result<(), AllocError>
-    requires begun { specs.IsBegun operator.now joint.now text.now reading.old.at
+    requires begun { specs.IsBegun operator.now joint.now text.now reading.old.is_first reading.old.at
         reading.old.out.items }
     ensures { OnOk result (
-        specs.IsBegun operator.now joint.now text.now reading.new.at reading.new.out.items) }
+        specs.IsBegun operator.now joint.now text.now reading.new.is_first reading.new.at reading.new.out.items) }
 {
     let next = at.saturating_add(2);
     if at < reading.at || text.len() < at || !is_operator(text, at, operator, next) {
         return Ok(());
     }
-    if is_operand(alloc, &text[reading.at..at])? {
+    if is_operand(alloc, &text[reading.at..at], reading.is_first)? {
         go_on_joined(text, operator, joint, at, next, reading)
     } else {
         Ok(())
@@ -329,10 +451,10 @@ fn read_joint(
     at: usize,
     reading: &mut Reading,
 ) -> Result<(), AllocError>
-    requires begun { specs.IsBegun operator.now joint.now text.now reading.old.at
+    requires begun { specs.IsBegun operator.now joint.now text.now reading.old.is_first reading.old.at
         reading.old.out.items }
     ensures { OnOk result (
-        specs.IsBegun operator.now joint.now text.now reading.new.at reading.new.out.items) }
+        specs.IsBegun operator.now joint.now text.now reading.new.is_first reading.new.at reading.new.out.items) }
 {
     let after = at.saturating_add(2);
     let from = after_gap(text, after);
@@ -344,7 +466,7 @@ fn read_joint(
     {
         return Ok(());
     }
-    if is_operand(alloc, &text[reading.at..at])? {
+    if is_operand(alloc, &text[reading.at..at], reading.is_first)? {
         go_on_kept(text, operator, joint, at, after, from, end, reading)
     } else {
         Ok(())
@@ -360,10 +482,10 @@ fn read_at(
     at: usize,
     reading: &mut Reading,
 ) -> Result<(), AllocError>
-    requires begun { specs.IsBegun operator.now joint.now text.now reading.old.at
+    requires begun { specs.IsBegun operator.now joint.now text.now reading.old.is_first reading.old.at
         reading.old.out.items }
     ensures { OnOk result (
-        specs.IsBegun operator.now joint.now text.now reading.new.at reading.new.out.items) }
+        specs.IsBegun operator.now joint.now text.now reading.new.is_first reading.new.at reading.new.out.items) }
 {
     read_operator(alloc, text, operator, joint, at, reading)?;
     read_joint(alloc, text, operator, joint, at, reading)
@@ -377,10 +499,10 @@ fn read_all(
     joint: &[u8],
     reading: &mut Reading,
 ) -> Result<(), AllocError>
-    requires begun { specs.IsBegun operator.now joint.now text.now reading.old.at
+    requires begun { specs.IsBegun operator.now joint.now text.now reading.old.is_first reading.old.at
         reading.old.out.items }
     ensures { OnOk result (
-        specs.IsBegun operator.now joint.now text.now reading.new.at reading.new.out.items) }
+        specs.IsBegun operator.now joint.now text.now reading.new.is_first reading.new.at reading.new.out.items) }
 {
     for at in 0..text.len() {
         read_at(alloc, text, operator, joint, at, reading)?;
@@ -397,8 +519,8 @@ fn write_last(
 ) -> Result<bool, AllocError>
     requires place { reading.old.at ≤ length text.now }
     requires plain { list_any specs.is_special text.now ≡ false }
-    requires operand { specs.IsOperand (slice_range text.now reading.old.at (length text.now)) }
-    requires begun { specs.IsBegun operator.now joint.now text.now reading.old.at
+    requires operand { specs.IsOperand reading.old.is_first (slice_range text.now reading.old.at (length text.now)) }
+    requires begun { specs.IsBegun operator.now joint.now text.now reading.old.is_first reading.old.at
         reading.old.out.items }
     ensures { IfOk result (λ b.
         IsTrue b → specs.IsRejoined operator.now joint.now text.now reading.new.out.items) }
@@ -419,7 +541,7 @@ fn read_last(
     reading: &mut Reading,
 ) -> Result<bool, AllocError>
     requires plain { list_any specs.is_special text.now ≡ false }
-    requires begun { specs.IsBegun operator.now joint.now text.now reading.old.at
+    requires begun { specs.IsBegun operator.now joint.now text.now reading.old.is_first reading.old.at
         reading.old.out.items }
     ensures { IfOk result (λ b.
         IsTrue b → specs.IsRejoined operator.now joint.now text.now reading.new.out.items) }
@@ -427,7 +549,7 @@ fn read_last(
     if text.len() < reading.at {
         return Ok(false);
     }
-    if is_operand(alloc, &text[reading.at..text.len()])? {
+    if is_operand(alloc, &text[reading.at..text.len()], reading.is_first)? {
         write_last(text, operator, joint, reading)
     } else {
         Ok(false)
@@ -460,7 +582,7 @@ fn read_whole(
     joint: &[u8],
     reading: &mut Reading,
 ) -> Result<bool, AllocError>
-    requires begun { specs.IsBegun operator.now joint.now text.now reading.old.at
+    requires begun { specs.IsBegun operator.now joint.now text.now reading.old.is_first reading.old.at
         reading.old.out.items }
     ensures { IfOk result (λ b.
         IsTrue b → specs.IsRejoined operator.now joint.now text.now reading.new.out.items) }
@@ -486,7 +608,11 @@ fn read_after(
         IfSome o (λ v. specs.IsRejoined operator.now joint.now text.now v.items)) }
 {
     let out = Vec::from_slice(alloc, b"test")?;
-    let mut reading = Reading { at, out };
+    let mut reading = Reading {
+        is_first: true,
+        at,
+        out,
+    };
     if read_whole(alloc, text, operator, joint, &mut reading)? {
         let Reading { out, .. } = reading;
         Ok(Some(out))

@@ -353,11 +353,25 @@ fn respelled_if_read(
 ) -> Result<Option<Vec<u8>>, AllocError>
     requires plain { list_any specs.is_hard text.now ≡ false }
     requires spelled { specs.IsSpelled text.now (length text.now) put.items }
+    requires shorter { length put.items < length text.now }
     ensures { IfOk result (λ o. IfSome o (λ v. specs.IsRespelled text.now v.items)) }
 {
     let _ = text;
     if is_readable(alloc, put.as_slice())? {
         Ok(Some(put))
+    } else {
+        Ok(None)
+    }
+}
+
+/// Returns a condition that is spelled otherwise, if an operator was put, and it is then a test.
+fn respelled_if_put(alloc: Global, text: &[u8], put: Vec<u8>) -> Result<Option<Vec<u8>>, AllocError>
+    requires plain { list_any specs.is_hard text.now ≡ false }
+    requires spelled { specs.IsSpelled text.now (length text.now) put.items }
+    ensures { IfOk result (λ o. IfSome o (λ v. specs.IsRespelled text.now v.items)) }
+{
+    if put.len() < text.len() {
+        respelled_if_read(alloc, text, put)
     } else {
         Ok(None)
     }
@@ -369,8 +383,8 @@ fn may_have_operator(text: &[u8]) -> bool {
 }
 
 /// Returns a condition with `=` in the place of `==`, and `=` and `!=` in the place of `-eq` and
-/// `-ne` before a number, if it has one of them and is then a test that acrun reads. Its words are
-/// then compared as texts.
+/// `-ne` before a number, if it has one of them outside double quotes, and is then a test that acrun
+/// reads. Its words are then compared as texts.
 ///
 /// # Errors
 ///
@@ -382,5 +396,5 @@ pub fn respelled(alloc: Global, text: &[u8]) -> Result<Option<Vec<u8>>, AllocErr
         return Ok(None);
     }
     let put = spelled(alloc, text)?;
-    respelled_if_read(alloc, text, put)
+    respelled_if_put(alloc, text, put)
 }

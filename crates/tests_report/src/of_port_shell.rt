@@ -122,10 +122,22 @@ if test $a = -a -a b; then x=1; fi => AS_IF([test $a = -a && test b], [x=1])
 if test a -o b -a c; then x=1; fi => the same
 if test a -a b || test c; then x=1; fi => the same
 if test a || test b -a c; then x=1; fi => the same
+if test a -a ! b; then x=1; fi => AS_IF([test a && test ! b], [x=1])
+if test -n "$a" -a ! "$b" = c -a ! -z $d; then x=1; fi => AS_IF([test -n "$a" && test ! "$b" = c && test ! -z $d], [x=1])
+if test ! "$a" = b -o ! "$c"; then x=1; fi => AS_IF([test ! "$a" = b || test ! "$c"], [x=1])
+if test ! -n "$a" -a b && test a -a ! b; then x=1; fi => AS_IF([test ! -n "$a" && test b && test a && test ! b], [x=1])
+if test ! "$a" = b; then x=1; elif test ! -n "$b"; then x=2; elif test ! $c; then x=3; fi => AS_IF([test ! "$a" = b], [x=1], [test ! -n "$b"], [x=2], [test ! $c], [x=3])
 if test a -a b && ! test c; then x=1; fi => the same
 if ! test a -a b; then x=1; fi => the same
 if test ! a -a b; then x=1; fi => the same
-if test a -a ! b; then x=1; fi => the same
+if test a -a b && test ! c -a d; then x=1; fi => the same
+if test a -a ! = b; then x=1; fi => the same
+if test a -a ! -n = b; then x=1; fi => the same
+if test a -a ! ! b; then x=1; fi => the same
+if test a -a "!" b; then x=1; fi => the same
+if test a -a !b; then x=1; fi => the same
+if test a -a !; then x=1; fi => the same
+if test ! -a b; then x=1; fi => the same
 if test "!" -a b; then x=1; fi => the same
 if test \( a -a b \); then x=1; fi => the same
 if test "(" -a ")"; then x=1; fi => the same
@@ -143,6 +155,8 @@ if :; then x=1; else test a -a b; fi => the same
 // in AS_IF itself
 AS_IF([test a -a "$b"], [x=1]) => AS_IF([test a && test "$b"], [x=1])
 AS_IF([test a -o b ], [x=1], [AS_IF([test c -a d], [x=2])]) => AS_IF([test a || test b ], [x=1], [AS_IF([test c && test d], [x=2])])
+AS_IF([test a -a ! b], [x=1]) => AS_IF([test a && test ! b], [x=1])
+AS_IF([test ! a -a b], [x=1]) => the same
 AS_IF([:], [x=1], [test a -a b], [x=2]) => the same
 AS_IF(test a -a b, [x=1]) => the same
 AS_IF([test a -o b -a c], [x=1]) => the same
@@ -214,6 +228,12 @@ if test "$a" == b; then x=1; fi => dnl acrun: in place of ==, -eq or -ne: the wo
 if test $a -eq 10; then^J  x=1^Jelif test 1 -ne 0; then^J  x=2^Jfi => dnl acrun: in place of ==, -eq or -ne: the words are compared as texts^JAS_IF([test $a = 10], [^J  x=1^Jdnl acrun: in place of ==, -eq or -ne: the words are compared as texts^J], [test 1 != 0], [^J  x=2^J])
 AS_IF([test "$a" == b && ! test "$c" == d], [x=1]) => dnl acrun: in place of ==, -eq or -ne: the words are compared as texts^JAS_IF([test "$a" = b && ! test "$c" = d], [x=1])
 if test -f a; then^J  if test a == b; then x=1; fi^Jfi => if test -f a; then^J  dnl acrun: in place of ==, -eq or -ne: the words are compared as texts^J  AS_IF([test a = b], [x=1])^Jfi
+// in double quotes it is a part of a word
+if test "$a" == "b == c"; then x=1; fi => dnl acrun: in place of ==, -eq or -ne: the words are compared as texts^JAS_IF([test "$a" = "b == c"], [x=1])
+if test "$a" = "b == c"; then x=1; fi => AS_IF([test "$a" = "b == c"], [x=1])
+if test -n "a -eq 1" && test "b -ne 2"; then x=1; fi => AS_IF([test -n "a -eq 1" && test "b -ne 2"], [x=1])
+AS_IF([test "$a" = "b == c"], [x=1]) => the same
+if test -n "a == b"; then mkdir a; fi => the same
 // which stay
 if test "$a" -eq 01; then x=1; fi => the same
 if test "$a" -eq "$b"; then x=1; fi => the same

@@ -56,6 +56,7 @@ echo a* => the same
 echo "a\b" => the same
 echo 'a$b' => the same
 echo "a" 'b' => the same
+echo 'a' b 'c' => the same
 echo -n => the same
 echo  a => the same
 echo a dnl b => the same

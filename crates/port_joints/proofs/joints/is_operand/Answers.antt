@@ -1,6 +1,0 @@
-use Rattle.std.proofs.Common.{refl}
-use Rattle.port_compounds.proofs.Steps.{on_true}
-use Rattle.port_joints.proofs.joints.is_operand.Goals as goal
-
-pub returns : goal.returns
-returns c = on_true (λ tests. record { tests = tests; begins = c.if-not-begins_operand.ensures refl }) c.is_one_after.result c.is_one_after.ensures
