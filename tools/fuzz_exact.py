@@ -561,6 +561,7 @@ ARGUMENTS = {
     "AC_WARN": [TEXTS],
     "AC_MSG_FAILURE": [TEXTS],
     "AC_ERROR": [TEXTS],
+    "AC_CHECK_TYPE(default)": [("size_t", "u_int16_t", "foo_t"), ("unsigned short", "int", "[uint16_t]")],
     "AC_CHECK_DECLS_ONCE": [("getc_unlocked", "[EOF, stdin]")],
     "AC_CHECK_FUNCS_ONCE": [("strdup mmap", "getcwd", "foo\npow")],
     "AC_CHECK_HEADERS_ONCE": [("unistd.h sys/time.h", "zlib.h")],
@@ -674,10 +675,16 @@ NAMED = (
     "case $LT_CURRENT in\n2) v2=$AX_FLAGS;;\n*) AX_FLAGS=c;;\nesac", "AS_IF([test -n \"$LT_CURRENT\"], [v1=$LT_CURRENT], AX_FLAGS=d)",
     "test -z \"$AX_FLAGS\" && AX_FLAGS=$PKG_CONFIG", "AC_MSG_NOTICE([v1 is $v1, and $PKG_CONFIG])",
 )
-# Rows of the table whose names are no macros that a source may call anywhere, and AC_PROG_CXXCPP, which ends a run without a compiler of C++.
-NO_CALLS = ("AC_OUTPUT(files)", "AC_CONFIG_HEADER", "AC_INIT(file)", "AC_INIT()", "m4_ifdef(AM)", "AC_PROG_CXXCPP")
+# Rows of the table whose names are no macros that a source may call anywhere, AC_PROG_CXXCPP, which ends a run without a compiler of C++, and
+# AC_EGREP_CPP, whose idiom has another program, so that the compiler's stand-in gives another answer.
+NO_CALLS = (
+    "AC_OUTPUT(files)", "AC_CONFIG_HEADER", "AC_INIT(file)", "AC_INIT()", "AC_INIT(package)", "AC_INIT(package,file)", "m4_ifdef(AM)",
+    "AC_PROG_CXXCPP", "AC_EGREP_CPP(symbol)",
+)
 # Macros that only sources of the later numbers have.
-LATER_NAMES = ("AC_DIAGNOSE", "AC_PROG_CXX")
+LATER_NAMES = (
+    "AC_DIAGNOSE", "AC_PROG_CXX", "AC_CHECK_TYPE(default)", "AC_STRUCT_ST_BLOCKS", "AC_ST_BLOCKS", "AC_STRUCT_ST_BLKSIZE", "AC_ST_BLKSIZE", "AC_STRUCT_ST_RDEV", "AC_ST_RDEV",
+)
 # Actions without brackets.
 BARE = (
     "AC_DEFINE({0})", "AC_DEFINE({0}, 1, [a text, it])", "AC_MSG_NOTICE(a text)", "AC_DEFINE({0}) v1=yes", "AC_DEFINE_UNQUOTED({0}, \"$v1\")",

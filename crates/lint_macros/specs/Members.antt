@@ -5,7 +5,7 @@ use Rattle.std.specs.Prelude.{ℕ, List, ◌||◌, ◌&&◌, Bool, bytes_eq, nat
 -- The name of the entry for a call of a macro of this name with so many arguments. Of a check of members the first argument is what is
 -- looked for, the next two are the actions, and the fourth is the includes. (manual, "Generic Structures") AM_INIT_AUTOMAKE with two
 -- arguments or more has the name and the version of the package. (manual of Automake) PKG_CHECK_MODULES with two arguments or more has the name
--- of the variables and the modules, and the fourth is what is done if they are not found. (manual of pkg-config; the names of entries are own)
+-- of the variables and the modules, the third is what is done if they are found, and the fourth what is done if they are not. (manual of pkg-config; the names of entries are own)
 abbrev pub entry_name : List ℕ → ℕ → List ℕ
 entry_name name count =
     if bytes_eq name (codes "AC_CHECK_MEMBERS") && nat_lt 3 count then codes "AC_CHECK_MEMBERS(includes)"
@@ -13,6 +13,7 @@ entry_name name count =
     else if bytes_eq name (codes "AC_CHECK_MEMBER") && nat_lt 3 count then codes "AC_CHECK_MEMBER(includes)"
     else if bytes_eq name (codes "AM_INIT_AUTOMAKE") && nat_lt 1 count then codes "AM_INIT_AUTOMAKE(name)"
     else if bytes_eq name (codes "PKG_CHECK_MODULES") && nat_lt 3 count then codes "PKG_CHECK_MODULES(actions)"
+    else if bytes_eq name (codes "PKG_CHECK_MODULES") && nat_lt 2 count then codes "PKG_CHECK_MODULES(found)"
     else if bytes_eq name (codes "PKG_CHECK_MODULES") && nat_lt 1 count then codes "PKG_CHECK_MODULES(flags)"
     else name
 

@@ -26,6 +26,8 @@ pub fn entry_name(name: &[u8], count: usize) -> &[u8]
         b"AM_INIT_AUTOMAKE(name)"
     } else if is(name, b"PKG_CHECK_MODULES") && 3 < count {
         b"PKG_CHECK_MODULES(actions)"
+    } else if is(name, b"PKG_CHECK_MODULES") && 2 < count {
+        b"PKG_CHECK_MODULES(found)"
     } else if is(name, b"PKG_CHECK_MODULES") && 1 < count {
         b"PKG_CHECK_MODULES(flags)"
     } else {

@@ -55,7 +55,10 @@ AC_CHECK_PROGS([$1{VARIABLE}], [$2{PROGRAMS}])~idiom AC_PROGRAM_PATH
 AC_PATH_PROG([$1{VARIABLE}], [$2{PROGRAM}])~idiom AC_INIT(file)
 AC_INIT([], [])
 AC_CONFIG_SRCDIR([$1{FILE}])~idiom AC_INIT()
-AC_INIT([], [])~idiom AC_MSG_RESULT()
+AC_INIT([], [])~idiom AC_INIT(package)
+AC_INIT([$1!{NAME}], [$2!{VERSION}])~idiom AC_INIT(package,file)
+AC_INIT([$1!{NAME}], [$2!{VERSION}])
+AC_CONFIG_SRCDIR([$3{FILE}])~idiom AC_MSG_RESULT()
 AC_MSG_RESULT([])~idiom AC_OUTPUT(files)
 AC_CONFIG_FILES([$1{FILES}])
 AC_OUTPUT~none configure.in
@@ -80,7 +83,9 @@ AC_CHECK_TYPE([uid_t], [],
   [AC_DEFINE([uid_t], [int], [Define to a type of user ids if there is no uid_t.])
    AC_DEFINE([gid_t], [int], [Define to a type of group ids if there is no uid_t.])])~idiom AC_TYPE_MODE_T AC_MODE_T
 AC_CHECK_TYPE([mode_t], [], [AC_DEFINE([mode_t], [int], [Define to a type of file modes if there is no mode_t.])])~idiom AC_TYPE_SSIZE_T
-AC_CHECK_TYPE([ssize_t], [], [AC_DEFINE([ssize_t], [int], [Define to a type of signed sizes if there is no ssize_t.])])~idiom AC_HEADER_DIRENT AC_DIR_HEADER AC_DIRENT
+AC_CHECK_TYPE([ssize_t], [], [AC_DEFINE([ssize_t], [int], [Define to a type of signed sizes if there is no ssize_t.])])~idiom AC_CHECK_TYPE(default)
+AC_CHECK_TYPE([$1!{TYPE}], [],
+  [AC_DEFINE_UNQUOTED([$1!{TYPE}], [$2{DEFAULT}], [Define to a type if there is no $1!{TYPE}.])])~idiom AC_HEADER_DIRENT AC_DIR_HEADER AC_DIRENT
 AC_CHECK_HEADERS([dirent.h])~idiom AC_HEADER_SYS_WAIT
 AC_CHECK_HEADERS([sys/wait.h])~idiom AC_HEADER_STDBOOL AC_CHECK_HEADER_STDBOOL AM_STDBOOL_H
 AC_CHECK_HEADERS([stdbool.h])
@@ -248,6 +253,9 @@ CFLAGS=$$1!{NAME}_CFLAGS_before LIBS=$$1!{NAME}_LIBS_before
 AS_IF([test \"$my_cv_$1!{NAME}\" != yes], [AC_MSG_ERROR([no program links with $$1!{NAME}_LIBS: give $1!{NAME}_CFLAGS and $1!{NAME}_LIBS])])~idiom PKG_CHECK_MODULES(flags)
 AC_ARG_VAR([$1!{NAME}_CFLAGS], [flags that compile with $1!{NAME}])
 AC_ARG_VAR([$1!{NAME}_LIBS], [flags that link with $1!{NAME}])
+AS_IF([test -z \"$$1!{NAME}_LIBS\"], [AC_MSG_ERROR([give $1!{NAME}_CFLAGS and $1!{NAME}_LIBS, as pkg-config prints them])])~idiom PKG_CHECK_MODULES(found)
+AC_ARG_VAR([$1!{NAME}_CFLAGS], [flags that compile with $1!{NAME}])
+AC_ARG_VAR([$1!{NAME}_LIBS], [flags that link with $1!{NAME}])
 AS_IF([test -n \"$$1!{NAME}_LIBS\"], [$3{FOUND}], [AC_MSG_ERROR([give $1!{NAME}_CFLAGS and $1!{NAME}_LIBS, as pkg-config prints them])])~idiom PKG_CHECK_MODULES(actions)
 AC_ARG_VAR([$1!{NAME}_CFLAGS], [flags that compile with $1!{NAME}])
 AC_ARG_VAR([$1!{NAME}_LIBS], [flags that link with $1!{NAME}])
@@ -273,7 +281,9 @@ dnl SYMBOL is what the text tests
 AC_PREPROC_IFELSE([AC_LANG_SOURCE([[#include <stdio.h>
 #ifndef SYMBOL
 #error none
-#endif]])], [$3{FOUND}], [$4{NOT-FOUND}])~idiom AC_EGREP_HEADER
+#endif]])], [$3{FOUND}], [$4{NOT-FOUND}])~idiom AC_EGREP_CPP(symbol)
+AC_PREPROC_IFELSE([AC_LANG_SOURCE([[$1{PROGRAM}]])],
+  [$2{FOUND}], [$3{NOT-FOUND}])~idiom AC_EGREP_HEADER
 dnl of a type: AC_CHECK_TYPE with the same arguments
 AC_CHECK_DECL([$1!{SYMBOL}], [$3{FOUND}], [$4{NOT-FOUND}], [#include <$2!{HEADER}>])~idiom AC_CHECK_MEMBERS
 AC_CACHE_CHECK([for $1{TYPE.MEMBER}], [ac_cv_member_$1_{TYPE_MEMBER}],
@@ -345,7 +355,57 @@ AC_CACHE_CHECK([for struct tm.tm_zone], [ac_cv_member_struct_tm_tm_zone],
 AS_IF([test \"$ac_cv_member_struct_tm_tm_zone\" = yes],
   [AC_DEFINE([HAVE_STRUCT_TM_TM_ZONE], [1], [Define to 1 if struct tm has tm_zone.])
    AC_DEFINE([HAVE_TM_ZONE], [1], [Define to 1 if struct tm has tm_zone.])],
-  [AC_CHECK_DECLS([tzname], [AC_DEFINE([HAVE_TZNAME], [1], [Define to 1 if there is tzname.])], [], [#include <time.h>])])~none AC_STRUCT_ST_BLKSIZE AC_STRUCT_ST_BLOCKS AC_STRUCT_ST_RDEV AC_STRUCT_DIRENT_D_TYPE AC_STRUCT_DIRENT_D_INO AC_ST_BLKSIZE AC_ST_BLOCKS AC_ST_RDEV
+  [AC_CHECK_DECLS([tzname], [AC_DEFINE([HAVE_TZNAME], [1], [Define to 1 if there is tzname.])], [], [#include <time.h>])])~idiom AC_STRUCT_ST_BLOCKS AC_ST_BLOCKS
+AC_CACHE_CHECK([for struct stat.st_blocks], [ac_cv_member_struct_stat_st_blocks],
+  [AC_COMPILE_IFELSE([AC_LANG_PROGRAM([AC_INCLUDES_DEFAULT
+#include <inttypes.h>
+#include <sys/stat.h>
+#include <unistd.h>],
+      [[static struct stat whole; if (whole.st_blocks) return 0;]])],
+    [ac_cv_member_struct_stat_st_blocks=yes],
+    [AC_COMPILE_IFELSE([AC_LANG_PROGRAM([AC_INCLUDES_DEFAULT
+#include <inttypes.h>
+#include <sys/stat.h>
+#include <unistd.h>],
+        [[static struct stat whole; if (sizeof whole.st_blocks) return 0;]])],
+      [ac_cv_member_struct_stat_st_blocks=yes], [ac_cv_member_struct_stat_st_blocks=no])])])
+AS_IF([test \"$ac_cv_member_struct_stat_st_blocks\" = yes],
+  [AC_DEFINE([HAVE_STRUCT_STAT_ST_BLOCKS], [1], [Define to 1 if there is struct stat.st_blocks.])
+   AC_DEFINE([HAVE_ST_BLOCKS], [1], [Define to 1 if there is struct stat.st_blocks.])],
+  [EXTRA_OBJS=\"$EXTRA_OBJS fileblocks.o\"])
+AC_SUBST([EXTRA_OBJS])~idiom AC_STRUCT_ST_BLKSIZE AC_ST_BLKSIZE
+AC_CACHE_CHECK([for struct stat.st_blksize], [ac_cv_member_struct_stat_st_blksize],
+  [AC_COMPILE_IFELSE([AC_LANG_PROGRAM([AC_INCLUDES_DEFAULT
+#include <inttypes.h>
+#include <sys/stat.h>
+#include <unistd.h>],
+      [[static struct stat whole; if (whole.st_blksize) return 0;]])],
+    [ac_cv_member_struct_stat_st_blksize=yes],
+    [AC_COMPILE_IFELSE([AC_LANG_PROGRAM([AC_INCLUDES_DEFAULT
+#include <inttypes.h>
+#include <sys/stat.h>
+#include <unistd.h>],
+        [[static struct stat whole; if (sizeof whole.st_blksize) return 0;]])],
+      [ac_cv_member_struct_stat_st_blksize=yes], [ac_cv_member_struct_stat_st_blksize=no])])])
+AS_IF([test \"$ac_cv_member_struct_stat_st_blksize\" = yes],
+  [AC_DEFINE([HAVE_STRUCT_STAT_ST_BLKSIZE], [1], [Define to 1 if there is struct stat.st_blksize.])
+   AC_DEFINE([HAVE_ST_BLKSIZE], [1], [Define to 1 if there is struct stat.st_blksize.])])~idiom AC_STRUCT_ST_RDEV AC_ST_RDEV
+AC_CACHE_CHECK([for struct stat.st_rdev], [ac_cv_member_struct_stat_st_rdev],
+  [AC_COMPILE_IFELSE([AC_LANG_PROGRAM([AC_INCLUDES_DEFAULT
+#include <inttypes.h>
+#include <sys/stat.h>
+#include <unistd.h>],
+      [[static struct stat whole; if (whole.st_rdev) return 0;]])],
+    [ac_cv_member_struct_stat_st_rdev=yes],
+    [AC_COMPILE_IFELSE([AC_LANG_PROGRAM([AC_INCLUDES_DEFAULT
+#include <inttypes.h>
+#include <sys/stat.h>
+#include <unistd.h>],
+        [[static struct stat whole; if (sizeof whole.st_rdev) return 0;]])],
+      [ac_cv_member_struct_stat_st_rdev=yes], [ac_cv_member_struct_stat_st_rdev=no])])])
+AS_IF([test \"$ac_cv_member_struct_stat_st_rdev\" = yes],
+  [AC_DEFINE([HAVE_STRUCT_STAT_ST_RDEV], [1], [Define to 1 if there is struct stat.st_rdev.])
+   AC_DEFINE([HAVE_ST_RDEV], [1], [Define to 1 if there is struct stat.st_rdev.])])~none AC_STRUCT_DIRENT_D_TYPE AC_STRUCT_DIRENT_D_INO
 write what AC_CHECK_MEMBERS of the member is written as: AC_COMPILE_IFELSE of a program that uses it~idiom AC_CHECK_SIZEOF AC_SIZEOF_TYPE
 AC_CACHE_CHECK([size of $1{TYPE}], [ac_cv_sizeof_$1_{TYPE}],
   [AC_COMPILE_IFELSE([AC_LANG_PROGRAM([AC_INCLUDES_DEFAULT

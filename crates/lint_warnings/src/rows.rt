@@ -17,7 +17,7 @@ pub(crate) type Row = (
 
 /// What an argument may hold.
 #[rattlefmt::skip]
-pub(crate) const HELD: [Row; 27] = [
+pub(crate) const HELD: [Row; 30] = [
     (b"AC_CHECK_HEADERS", 0, b",", b"", false, keys::COMMA_IN_LIST),
     (b"AC_CHECK_FUNCS", 0, b",", b"", false, keys::COMMA_IN_LIST),
     (b"AC_MSG_NOTICE", 0, b"\\\"", b"\\`", false, keys::BACKSLASH_IN_MESSAGE),
@@ -29,6 +29,9 @@ pub(crate) const HELD: [Row; 27] = [
     (b"AC_CHECK_DECLS", 0, b" ,", b"\t,", false, keys::BLANK_BEFORE_COMMA),
     (b"AC_CHECK_TYPES", 0, b" ,", b"\t,", false, keys::BLANK_BEFORE_COMMA),
     (b"AC_CHECK_PROG", 2, b"\"", b"", false, keys::QUOTE_IN_VALUE),
+    (b"AC_CHECK_PROG", 3, b"\"", b"", false, keys::QUOTE_IN_VALUE),
+    (b"AC_CHECK_PROGS", 2, b"\"", b"", false, keys::QUOTE_IN_VALUE),
+    (b"AC_PATH_PROG", 2, b"\"", b"", false, keys::QUOTE_IN_VALUE),
     (b"AC_CHECK_PROGS", 1, b"\n", b"", false, keys::LIST_ON_LINES),
     (b"AC_SEARCH_LIBS", 1, b"\n", b"", false, keys::LIST_ON_LINES),
     (b"AC_SUBST", 0, b"_AC_", b"", false, keys::FORBIDDEN_NAME),

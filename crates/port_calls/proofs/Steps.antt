@@ -9,6 +9,7 @@ use Rattle.ac_calls.specs.declared.call.Extent.{Extent}
 use Rattle.ac_calls.specs.Calls.{MacroCall, calls_in, macro_call_of}
 use Rattle.port_calls.specs.Rewritten.{IsPass, IsRewritten, HasToGo, IsAround, DeclaresOption, IsOldHelp, JoinsWords, EndsItsLine, AreSpaces, IsBare, IsBareAlone, in_brackets, DoesArgument, NamesVariable, SetsGnu, AreMessages, messages_first}
 use Rattle.port_calls.specs.Rewritten as specs
+use Rattle.port_calls.specs.Making.{IsMade}
 use Rattle.port_calls.specs.Put.{MayPut, is_space, difference, below}
 use Rattle.lint_macros.specs.Entries.{entry_of}
 use Rattle.lint_macros.specs.declared.text.TheConstants.{TABLE}
@@ -28,6 +29,7 @@ pass_bound idioms text at out (specs.IsPass.enclosed c i arg end before is does 
 pass_bound idioms text at out (specs.IsPass.named c before is names to) = to
 pass_bound idioms text at out (specs.IsPass.checked c put before is all compiler sets to) = to
 pass_bound idioms text at out (specs.IsPass.turned c start end before is all output around messages) = omega arith
+pass_bound idioms text at out (specs.IsPass.made c put before is all made to) = to
 
 -- What follows from what an `Ok` says holds of the `Ok`.
 pub on_ok : {T E P Q : Type 0} → (P → Q) → (r : Result T E) → OnOk r P → OnOk r Q
@@ -85,6 +87,13 @@ name_step idioms text at out c put new_at new before is names from order to put_
     let copied = specs.IsPass.copied c.start before from (omega (arith, order, to)) in
     subst (λ a. IsPass idioms text a new) (sym at_is)
     (subst (IsPass idioms text c.end) (sym (new_is ∙ ap (λ p. (out ++ slice_range text at c.start) ++ p) put_is)) (specs.IsPass.named c copied is names to))
+
+pub made_step : (idioms : Idioms) (text : List ℕ) (at : ℕ) (out : List ℕ) (c : MacroCall) (put : List ℕ) (new_at : ℕ) (new : List ℕ)
+    → IsPass idioms text at out → Contains (calls_in text) c → idioms ≡ All → IsMade text c put → at ≤ c.start → c.start ≤ c.end → c.end ≤ length text
+    → (new_at ≡ c.end) × (new ≡ (out ++ slice_range text at c.start) ++ put) → IsPass idioms text new_at new
+made_step idioms text at out c put new_at new before is all made from order to (at_is, new_is) =
+    let copied = specs.IsPass.copied c.start before from (omega (arith, order, to)) in
+    subst (λ a. IsPass idioms text a new) (sym at_is) (subst (IsPass idioms text c.end) (sym new_is) (specs.IsPass.made c put copied is all made to))
 
 -- What is put after AC_PROG_CC sets GCC.
 pub sets_gnu : (put it said indent : List ℕ) → put_by (entry_of (codes "GCC") TABLE.now) ≡ Some it → Differs (codes "GCC") 0 said → list_all is_space indent ≡ true

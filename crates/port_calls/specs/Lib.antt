@@ -1,2 +1,3 @@
+pub mod Making
 pub mod Put
 pub mod Rewritten

@@ -27,12 +27,13 @@ count_of text (arg ∷ next ∷ more) = suc (suc (length more))
 abbrev pub init_name : ℕ → List ℕ
 init_name count = if count == 0 then codes "AC_INIT()" else codes "AC_INIT(file)"
 
--- The name that the table of macros has for a macro that acrun reads: AC_INIT or AC_MSG_RESULT with so many arguments, or AC_OUTPUT with
--- some. (own)
+-- The name that the table of macros has for a macro that acrun reads: AC_INIT or AC_MSG_RESULT with so many arguments, AC_CHECK_TYPE with a
+-- default, or AC_OUTPUT with files. (own)
 abbrev pub read_as : List ℕ → ℕ → List ℕ
 read_as name count =
     if bytes_eq name (codes "AC_INIT") then init_name count
     else if bytes_eq name (codes "AC_MSG_RESULT") then codes "AC_MSG_RESULT()"
+    else if bytes_eq name (codes "AC_CHECK_TYPE") then codes "AC_CHECK_TYPE(default)"
     else codes "AC_OUTPUT(files)"
 
 -- The same for a call. (own)

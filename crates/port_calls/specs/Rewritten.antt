@@ -1,6 +1,9 @@
 -- What the calls of a text become. The offsets are those of the text that is read. All of this is own.
-use Rattle.std.specs.Prelude.{◌≡◌, ◌⊎◌, ℕ, ◌+◌, ◌-◌, ◌<◌, ◌≤◌, ◌==◌, ◌||◌, ◌&&◌, not, Bool, true, false, List, [], ◌∷◌, ◌++◌, length, slice_range, slice_index, slice_get, Some, Contains, bytes_eq, codes}
+use Rattle.std.specs.Prelude.{◌≡◌, ◌⊎◌, ℕ, ◌+◌, ◌-◌, ◌<◌, ◌≤◌, ◌==◌, ◌||◌, ◌&&◌, nat_le, not, Bool, true, false, List, [], ◌∷◌, ◌++◌, length, slice_range, slice_index, slice_get, Some, Contains, bytes_eq, codes}
+use Rattle.std.specs.Char.{is_ascii_alphanumeric}
 use Rattle.std.specs.List.{list_all}
+use Rattle.lint_macros.specs.Around.{around}
+use Rattle.lint_macros.specs.Values.{front_or}
 use Rattle.ac_calls.specs.Calls.{MacroCall, calls_in}
 use Rattle.ac_calls.specs.declared.call.Extent.{Extent}
 use Rattle.port_idioms.specs.Filled.{text_of}
@@ -8,6 +11,7 @@ use Rattle.lint_macros.specs.Entries.{entry_of}
 use Rattle.lint_macros.specs.declared.text.TheConstants.{TABLE}
 use Rattle.port_idioms.specs.Rows.{put_by, Differs}
 use Rattle.port_idioms.specs.declared.idioms.Idioms.TheVariants.{Exact, All}
+use Rattle.port_calls.specs.Making.{IsMade, LacksVersion}
 use Rattle.port_calls.specs.Put.{MayPut, arg_text, is_space, difference, below}
 use Rattle.port_idioms.specs.declared.idioms.Idioms.{Idioms}
 
@@ -25,18 +29,48 @@ pub record NamesFiles (text : List ℕ) (c : MacroCall) : Type 0 where
   pub first : slice_get c.args 0 ≡ Some list
   pub given : IsGiven text list
 
--- The call is AC_INIT with at most one argument, so that it names no version.
-abbrev pub LacksVersion : List ℕ → MacroCall → Type 0
-LacksVersion text c = (slice_range text c.start c.name_end ≡ codes "AC_INIT") × (length c.args ≤ 1)
-
 -- The call is AC_MSG_RESULT without an argument.
 abbrev pub LacksResult : List ℕ → MacroCall → Type 0
 LacksResult text c = (slice_range text c.start c.name_end ≡ codes "AC_MSG_RESULT") × (length c.args ≤ 0)
 
--- The call has to go: the table of macros doesn't have its name, or it is AC_OUTPUT of at least one file, AC_INIT without a version, or
--- AC_MSG_RESULT without an argument.
+-- A letter, a digit, `_`, a space, a parenthesis or a star.
+abbrev pub is_type_byte : ℕ → Bool
+is_type_byte b = is_ascii_alphanumeric b || b == 95 || b == 32 || b == 40 || b == 41 || b == 42
+
+-- One of the words that the name of a type of C begins with.
+abbrev pub is_basic : List ℕ → Bool
+is_basic word =
+    bytes_eq word (codes "char") || bytes_eq word (codes "short") || bytes_eq word (codes "int") || bytes_eq word (codes "long")
+    || bytes_eq word (codes "signed") || bytes_eq word (codes "unsigned") || bytes_eq word (codes "float") || bytes_eq word (codes "double")
+
+-- A name that ends in `_t`.
+abbrev pub ends_in_t : List ℕ → Bool
+ends_in_t word = nat_le 3 (length word) && slice_index word (length word - 2) == 95 && slice_index word (length word - 1) == 116
+
+-- The text before the first space.
+abbrev pub first_part : List ℕ → List ℕ
+first_part text = front_or text (around 32 text)
+
+-- The text is a type, which AC_CHECK_TYPE takes for a default. Autoconf does so for a few more texts. (manual, "Generic Types")
+abbrev pub is_type : List ℕ → Bool
+is_type text = list_all is_type_byte text && (is_basic (first_part text) || ends_in_t (first_part text))
+
+-- The second argument of the call is a type.
+pub record HasDefault (text : List ℕ) (c : MacroCall) : Type 0 where
+  pub default : Extent
+  pub second : slice_get c.args 1 ≡ Some default
+  pub type : is_type (text_of (Some (arg_text text default))) ≡ true
+
+-- The call is AC_CHECK_TYPE of a type and a default, its old form.
+abbrev pub NamesDefault : List ℕ → MacroCall → Type 0
+NamesDefault text c = (slice_range text c.start c.name_end ≡ codes "AC_CHECK_TYPE") × (length c.args ≡ 2) × HasDefault text c
+
+-- The call has to go: the table of macros doesn't have its name, or it is AC_OUTPUT of at least one file, AC_INIT without a version,
+-- AC_MSG_RESULT without an argument, or AC_CHECK_TYPE with a default.
 abbrev pub HasToGo : List ℕ → MacroCall → Type 0
-HasToGo text c = (c.is_of_profile ≡ false) ⊎ ((slice_range text c.start c.name_end ≡ codes "AC_OUTPUT") × NamesFiles text c) ⊎ LacksVersion text c ⊎ LacksResult text c
+HasToGo text c =
+    (c.is_of_profile ≡ false) ⊎ ((slice_range text c.start c.name_end ≡ codes "AC_OUTPUT") × NamesFiles text c) ⊎ LacksVersion text c ⊎ LacksResult text c
+    ⊎ NamesDefault text c
 
 -- Between these offsets are the call and, around it, nothing but blanks.
 abbrev pub IsAround : List ℕ → MacroCall → ℕ → ℕ → Type 0
@@ -111,7 +145,7 @@ pub record IsBare (text : List ℕ) (arg : Extent) (end : ℕ) : Type 0 where
 -- A macro of this name does what its argument at this index, counted from 0, says. acrun doesn't read it, and the table has an idiom for it.
 abbrev pub does_argument : List ℕ → ℕ → Bool
 does_argument name index =
-    ((bytes_eq name (codes "AC_TRY_COMPILE") || bytes_eq name (codes "AC_TRY_LINK") || bytes_eq name (codes "PKG_CHECK_MODULES")) && (index == 2 || index == 3))
+    ((bytes_eq name (codes "AC_TRY_COMPILE") || bytes_eq name (codes "AC_TRY_LINK") || bytes_eq name (codes "AC_EGREP_CPP") || bytes_eq name (codes "PKG_CHECK_MODULES")) && (index == 2 || index == 3))
     || (bytes_eq name (codes "AC_TRY_RUN") && (index == 1 || index == 2 || index == 3))
     || ((bytes_eq name (codes "AC_TRY_LINK_FUNC") || bytes_eq name (codes "AC_TRY_CPP")) && (index == 1 || index == 2))
 
@@ -194,12 +228,13 @@ before_output = codes "dnl acrun: in place of what is printed after AC_OUTPUT: i
 abbrev pub messages_first : List ℕ → List ℕ → List ℕ
 messages_first messages call = ((((before_output ++ 10 ∷ []) ++ messages) ++ 10 ∷ []) ++ call) ++ 10 ∷ []
 
--- One pass over the calls of a text has read so much of it, and written this. Everything is copied, with nine exceptions: a call that has
+-- One pass over the calls of a text has read so much of it, and written this. Everything is copied, with ten exceptions: a call that has
 -- to go, with blanks around it, may be replaced by what may be put in its place; in a call that declares an option the old name of
 -- AS_HELP_STRING may become the name; a backslash that joins two lines of a list of words may go; after a call that ends its line a newline
 -- and an indent may be put in place of the spaces; an argument of a macro that acrun reads, which has no brackets outside the calls in it,
 -- may get a pair; so may an argument of another macro that does what it says, and the name of a variable that is spelled as a macro; and if all idioms are wanted, the lines that set GCC may be put
--- after AC_PROG_CC, and messages after AC_OUTPUT may be put before it, if nothing else is there.
+-- after AC_PROG_CC, messages after AC_OUTPUT may be put before it, if nothing else is there, and in the place of AC_INIT and of AC_EGREP_CPP may be put what
+-- is made of the text of another call or of a program.
 pub data IsPass (idioms : Idioms) (text : List ℕ) : ℕ → List ℕ → Type 0 where
   begun : IsPass idioms text 0 []
   copied : {at : ℕ} {out : List ℕ} (next : ℕ) → IsPass idioms text at out → at ≤ next → next ≤ length text → IsPass idioms text next (out ++ slice_range text at next)
@@ -220,6 +255,8 @@ pub data IsPass (idioms : Idioms) (text : List ℕ) : ℕ → List ℕ → Type 
       → IsPass idioms text c.end (out ++ put)
   turned : {out : List ℕ} (c : MacroCall) (start end : ℕ) → IsPass idioms text c.start out → Contains (calls_in text) c → idioms ≡ All → slice_range text c.start c.name_end ≡ codes "AC_OUTPUT" → IsAround text c c.start start → AreMessages text start end
       → IsPass idioms text (length text) (out ++ messages_first (slice_range text start end) (slice_range text c.start c.end))
+  made : {out : List ℕ} (c : MacroCall) (put : List ℕ) → IsPass idioms text c.start out → Contains (calls_in text) c → idioms ≡ All → IsMade text c put → c.end ≤ length text
+      → IsPass idioms text c.end (out ++ put)
 
 -- The one text becomes the other by passes over its calls, each of which reads what the one before it wrote.
 pub data IsRewritten (idioms : Idioms) : List ℕ → List ℕ → Type 0 where

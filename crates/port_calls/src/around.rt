@@ -6,7 +6,7 @@ ghost use Rattle.port_calls.specs.Put as specs;
 ghost use Rattle.port_calls.specs.Rewritten as rewritten;
 
 use crate::spots::Spot;
-use lint_text::{before, from, part};
+use lint_text::{before, from, is_word_byte, part};
 
 /// Returns whether the byte is a space, a tab or a carriage return.
 pub(crate) fn is_space(byte: u8) -> bool
@@ -123,15 +123,23 @@ pub(crate) fn has_compound(text: &[u8]) -> bool {
 }
 
 /// Returns the offset of the first byte of the last line.
-fn last_line(text: &[u8]) -> usize {
+pub(crate) fn last_line(text: &[u8]) -> usize {
     let len = text.iter().rev().take_while(|byte| **byte != b'\n').count();
     text.len().saturating_sub(len)
+}
+
+/// Returns whether a text begins with `dnl`, and m4 drops the rest of its line.
+pub(crate) fn is_dropped(text: &[u8]) -> bool {
+    let is_longer = text
+        .get(3)
+        .is_some_and(|byte| is_word_byte(*byte) || *byte == b'(');
+    text.starts_with(b"dnl") && !is_longer
 }
 
 /// Returns whether a line is blank or a comment.
 fn is_idle_line(line: &[u8]) -> bool {
     let line = from(line, space_len(line));
-    line.is_empty() || line.starts_with(b"dnl ") || line.starts_with(b"#")
+    line.is_empty() || line.starts_with(b"#") || is_dropped(line)
 }
 
 /// Returns the text before an offset without the blanks, the blank lines and the lines of comments
@@ -140,8 +148,11 @@ pub(crate) fn before_idle(text: &[u8], at: usize) -> &[u8] {
     let mut front = before(text, at);
     for _ in 0..text.len() {
         let start = last_line(front);
-        if start == 0 || !is_idle_line(from(front, start)) {
+        if !is_idle_line(from(front, start)) {
             return without_end_blanks(front);
+        }
+        if start == 0 {
+            return b"";
         }
         front = before(front, start - 1);
     }

@@ -221,6 +221,7 @@ fn does_argument(name: &[u8], index: usize) -> bool
 {
     ((name == b"AC_TRY_COMPILE".as_slice()
         || name == b"AC_TRY_LINK".as_slice()
+        || name == b"AC_EGREP_CPP".as_slice()
         || name == b"PKG_CHECK_MODULES".as_slice())
         && is_two_or_three(index))
         || (name == b"AC_TRY_RUN".as_slice() && is_one_to_three(index))

@@ -7,12 +7,14 @@ ghost use Rattle.port_idioms.specs.Exact.{text_of};
 ghost use Rattle.port_calls.specs.Put as specs;
 
 use crate::around::{
-    before_idle, begins_statement, ends_statement, indent_of, line_indent, space_len,
+    before_idle, begins_statement, ends_statement, indent_of, is_dropped, last_line, line_indent,
+    space_len,
 };
 use crate::bare::bare_in;
 use crate::gnu::compiler_in;
 use crate::names::defined_in;
 use crate::noted::noted_change;
+use crate::package::{TitleSpot, title_in};
 use crate::readers::without_meaning;
 use crate::rows::{count_of, name_of};
 use crate::spots::Spot;
@@ -49,6 +51,8 @@ pub(crate) struct Known {
     pub has_compiler: bool,
     /// The offset after the first call of AC_PROG_CC that is in no argument of another one.
     after_compiler: Option<usize>,
+    /// Where AC_INIT is to get a name and a version, if it is.
+    pub at_title: Option<TitleSpot>,
 }
 
 /// Marks an offset.
@@ -98,6 +102,7 @@ pub(crate) fn known_of(alloc: Global, text: &[u8], calls: &[CallAt]) -> Result<K
     let defined = defined_in(alloc, text)?;
     let at_compiler = compiler_in(text, calls);
     let after_compiler = after_compiler(text, calls);
+    let at_title = title_in(text, calls);
     Ok(Known {
         index,
         borders,
@@ -106,6 +111,7 @@ pub(crate) fn known_of(alloc: Global, text: &[u8], calls: &[CallAt]) -> Result<K
         at_compiler,
         has_compiler,
         after_compiler,
+        at_title,
     })
 }
 
@@ -244,10 +250,26 @@ fn is_border(known: &Known, at: usize) -> bool {
     known.borders.get(at) == Some(&true)
 }
 
+/// Returns whether on the last line of a text a call whose text is left there, or the bracket that
+/// an argument begins with, has only a `dnl` after it.
+fn ends_in_comment(known: &Known, text: &[u8]) -> bool {
+    for at in last_line(text)..text.len() {
+        let rest = from(text, at);
+        if is_border(known, at) && is_dropped(from(rest, space_len(rest))) {
+            return true;
+        }
+    }
+    false
+}
+
 /// Returns whether a call can be left out so that no list of commands of a shell becomes empty: a
-/// call or the start of an argument is before it, apart from comments.
+/// call or the start of an argument is before it, apart from comments, or nothing is.
 pub(crate) fn can_be_left_out(known: &Known, text: &[u8], spot: Spot) -> bool {
-    spot.is_first && is_border(known, before_idle(text, spot.line).len())
+    if !spot.is_first {
+        return false;
+    }
+    let front = before_idle(text, spot.line);
+    front.is_empty() || is_border(known, front.len()) || ends_in_comment(known, front)
 }
 
 /// Returns the change of a call to nothing, or to `:` if a list of commands may become empty.
@@ -298,8 +320,26 @@ fn is_same_here(known: &Known, text: &[u8], spot: Spot, call: &CallAt) -> bool {
         && knows_compiler(known, text, call)
 }
 
-/// Returns the change of a call to nothing, unless the source doesn't look for a compiler, or a `:`
-/// in its place would be joined to the next line.
+/// Macros without a meaning that look for no compiler either.
+const WITHOUT_COMPILER: [&[u8]; 7] = [
+    b"m4_pattern_allow",
+    b"AC_DIAGNOSE",
+    b"AC_REVISION",
+    b"AC_PRESERVE_HELP_ORDER",
+    b"AC_C_CROSS",
+    b"AC_FUNC_SETVBUF_REVERSED",
+    b"AC_SETVBUF_REVERSED",
+];
+
+/// Returns whether the source looks for a compiler without this call: elsewhere, or the call looks
+/// for none.
+pub(crate) fn leaves_compiler(known: &Known, text: &[u8], call: &CallAt) -> bool {
+    let name = part(text, call.start, call.name_end);
+    known.has_compiler || WITHOUT_COMPILER.iter().any(|other| *other == name)
+}
+
+/// Returns the change of a call to nothing, unless no other call looks for a compiler, or a `:` in
+/// its place would be joined to the next line.
 pub(crate) fn left_out(
     alloc: Global,
     known: &Known,
@@ -311,7 +351,8 @@ pub(crate) fn left_out(
     ensures { IfOk result (λ o.
         IfSome o (λ change. specs.IsPut text.now (macro_call_of call.now) change.put.items)) }
 {
-    if !known.has_compiler || (joins_next_line(text, call) && !can_be_left_out(known, text, spot)) {
+    let is_joined = joins_next_line(text, call) && !can_be_left_out(known, text, spot);
+    if is_joined || !leaves_compiler(known, text, call) {
         return Ok(None);
     }
     let change = to_nothing(alloc, known, text, spot, call)?;

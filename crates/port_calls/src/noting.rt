@@ -77,7 +77,7 @@ fn with_name<'a>(
 
 /// Appends an idiom with one name, after a newline and the indent. Returns whether each argument
 /// could be put there.
-fn put_named(
+pub(crate) fn put_named(
     alloc: Global,
     out: &mut Vec<u8>,
     idiom: &[u8],

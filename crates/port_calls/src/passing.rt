@@ -11,9 +11,13 @@ use crate::changes::{Change, Known, change_of, known_of};
 use crate::gnu::pass_compiler;
 use crate::joints::{first_argument, pass_words};
 use crate::lines::pass_line;
+use crate::making::lacks_version;
 use crate::names::{names_variable, pass_name};
 use crate::output::pass_output;
+use crate::package::pass_title;
+use crate::seeking::pass_search;
 use crate::spots::{Spot, Walk};
+use crate::types::names_default;
 use crate::writing::{Pass, write_change};
 use ac_calls::{CallAt, Extent, calls_of};
 use lint_text::{from, part};
@@ -53,16 +57,6 @@ pub(crate) fn is_output(text: &[u8], call: &CallAt) -> bool
     has_name && &text[call.start..call.name_end] == b"AC_OUTPUT".as_slice()
 }
 
-/// Returns whether the call is one of AC_INIT.
-fn is_init(text: &[u8], call: &CallAt) -> bool
-    ensures { IsTrue result
-        → slice_range text.now (macro_call_of call.now).start (macro_call_of call.now).name_end
-        ≡ codes "AC_INIT" }
-{
-    let has_name = call.start <= call.name_end && call.name_end <= text.len();
-    has_name && &text[call.start..call.name_end] == b"AC_INIT".as_slice()
-}
-
 /// Returns whether the call is one of AC_MSG_RESULT.
 fn is_result(text: &[u8], call: &CallAt) -> bool
     ensures { IsTrue result
@@ -71,13 +65,6 @@ fn is_result(text: &[u8], call: &CallAt) -> bool
 {
     let has_name = call.start <= call.name_end && call.name_end <= text.len();
     has_name && &text[call.start..call.name_end] == b"AC_MSG_RESULT".as_slice()
-}
-
-/// Returns whether the call is AC_INIT with at most one argument.
-fn lacks_version(text: &[u8], call: &CallAt) -> bool
-    ensures { IsTrue result → specs.LacksVersion text.now (macro_call_of call.now) }
-{
-    is_init(text, call) && call.args.len() <= 1
 }
 
 /// Returns whether the call is AC_MSG_RESULT without an argument.
@@ -98,7 +85,8 @@ fn is_output_of_files(text: &[u8], call: &CallAt) -> bool
 }
 
 /// Returns whether the call has to go: the table of macros doesn't have its name, or it is
-/// AC_OUTPUT of at least one file, AC_INIT without a version, or AC_MSG_RESULT without an argument.
+/// AC_OUTPUT of at least one file, AC_INIT without a version, AC_MSG_RESULT without an argument, or
+/// AC_CHECK_TYPE with a default.
 fn has_to_go(text: &[u8], call: &CallAt) -> bool
     ensures { IsTrue result → specs.HasToGo text.now (macro_call_of call.now) }
 {
@@ -106,6 +94,7 @@ fn has_to_go(text: &[u8], call: &CallAt) -> bool
         || is_output_of_files(text, call)
         || lacks_version(text, call)
         || lacks_result(text, call)
+        || names_default(text, call)
 }
 
 /// Returns whether the call and, around it, nothing but blanks are between two offsets of the text.
@@ -293,7 +282,8 @@ fn pass_whole(
 }
 
 /// Drops backslashes of a list of words, puts arguments in brackets, or otherwise replaces the call
-/// if it has to go. After AC_PROG_CC GCC may be set, and what is after AC_OUTPUT may come before it.
+/// if it has to go. AC_INIT may get the name of AM_INIT_AUTOMAKE. After AC_PROG_CC GCC may be set,
+/// and what is after AC_OUTPUT may come before it.
 fn pass_call(
     alloc: Global,
     idioms: Idioms,
@@ -311,6 +301,8 @@ fn pass_call(
     ensures { OnOk result (specs.IsPass idioms text.now pass.new.at pass.new.out.items) }
 {
     pass_words(idioms, text, call, pass)?;
+    pass_title(alloc, idioms, known, text, calls, spot, call, pass)?;
+    pass_search(alloc, idioms, known, text, spot, call, pass)?;
     pass_whole(alloc, idioms, known, text, spot, call, pass)?;
     pass_compiler(alloc, idioms, known, text, spot, call, pass)?;
     pass_output(alloc, idioms, text, calls, first, spot, call, pass)?;

@@ -7,7 +7,8 @@ ghost use Rattle.port_calls.specs.Put as specs;
 
 use crate::around::{ends_in_word, line_indent, space_len, without_end_blanks};
 use crate::changes::{
-    Change, Known, can_be_left_out, can_be_noted, change_to, joins_next_line, left_out,
+    Change, Known, can_be_left_out, can_be_noted, change_to, joins_next_line, leaves_compiler,
+    left_out,
 };
 use crate::keeping::{comment_of, said_by};
 use crate::spots::Spot;
@@ -134,7 +135,7 @@ fn can_be_kept(known: &Known, text: &[u8], spot: Spot, call: &CallAt) -> bool {
         || begins_list(text, spot, call)
             && can_be_noted(known, call)
             && !joins_next_line(text, call);
-    known.has_compiler && is_apart
+    is_apart && leaves_compiler(known, text, call)
 }
 
 /// Returns the change of a call to what it says to readers, as a comment, or to nothing if it says

@@ -36,6 +36,8 @@ fn read_as(name: &[u8], count: usize) -> &'static [u8]
         init_name(count)
     } else if is(name, b"AC_MSG_RESULT") {
         b"AC_MSG_RESULT()"
+    } else if is(name, b"AC_CHECK_TYPE") {
+        b"AC_CHECK_TYPE(default)"
     } else {
         b"AC_OUTPUT(files)"
     }

@@ -6,6 +6,7 @@ ghost use Rattle.std.specs.Prelude.{◌≡◌};
 #[rattlefmt::skip]
 pub const EXACT: &[u8] = b"\
 AC_CHECKING 1 1
+AC_CHECK_TYPE(default) 2 2
 AC_CONFIG_HEADER 1 1
 AC_CONST 0 0
 AC_C_CONST 0 0
@@ -128,6 +129,7 @@ AC_DIRENT 0 0 no other header and no library of directories is looked for
 AC_DIR_HEADER 0 0 no other header and no library of directories is looked for
 AC_DISABLE_SHARED 0 1 there is no libtool, so a rule of the Makefile links the library
 AC_DISABLE_STATIC 0 1 there is no libtool, so a rule of the Makefile links the library
+AC_EGREP_CPP(symbol) 2 4 the condition alone decides, no text is searched, and no program for that is looked for
 AC_ENABLE_SHARED 0 1 there is no libtool, so a rule of the Makefile links the library
 AC_ENABLE_STATIC 0 1 there is no libtool, so a rule of the Makefile links the library
 AC_FUNC_ALLOCA 0 0 the function is taken to be there, and ALLOCA is empty
@@ -163,6 +165,8 @@ AC_HEADER_STDC 0 0 STDC_HEADERS is defined without a check
 AC_HEADER_SYS_WAIT 0 0 the header counts as that of POSIX if it is there
 AC_HEADER_TIME 0 0 TIME_WITH_SYS_TIME is defined without a check, and sys/time.h is looked for here alone
 AC_HEADER_TIOCGWINSZ 0 0 a program is compiled, and no text is searched for
+AC_INIT(package) 0 0 the name and the version are those of AM_INIT_AUTOMAKE, and to Autoconf PACKAGE_NAME and its like are empty
+AC_INIT(package,file) 0 0 the name and the version are those of AM_INIT_AUTOMAKE, and to Autoconf PACKAGE_NAME and its like are empty
 AC_INLINE 0 0 inline is not defined, also where a flag such as -ansi takes it away
 AC_LANG_C 0 0 C is the only language
 AC_LANG_RESTORE 0 0 C is the only language
@@ -193,7 +197,13 @@ AC_SET_MAKE 0 0 make is taken to set MAKE, so SET_MAKE is empty
 AC_SIZEOF_TYPE 1 1 the headers that Autoconf includes are taken to be there, and a size other than 1, 2, 4, 8, 12 and 16 is an error
 AC_STDC_HEADERS 0 0 STDC_HEADERS is defined without a check
 AC_STRCOLL 0 0 no program is run, so a function that is there counts as one that works
+AC_STRUCT_ST_BLKSIZE 0 0 the headers that Autoconf includes are taken to be there
+AC_STRUCT_ST_BLOCKS 0 0 the object is in EXTRA_OBJS and not in LIBOBJS, and the headers that Autoconf includes are taken to be there
+AC_STRUCT_ST_RDEV 0 0 the headers that Autoconf includes are taken to be there
 AC_STRUCT_TIMEZONE 0 0 the programs are others, and struct tm is taken to be in time.h
+AC_ST_BLKSIZE 0 0 the headers that Autoconf includes are taken to be there
+AC_ST_BLOCKS 0 0 the object is in EXTRA_OBJS and not in LIBOBJS, and the headers that Autoconf includes are taken to be there
+AC_ST_RDEV 0 0 the headers that Autoconf includes are taken to be there
 AC_SYS_LARGEFILE 0 0 _FILE_OFFSET_BITS is defined on each system, and --disable-largefile is not read
 AC_SYS_LONG_FILE_NAMES 0 0 HAVE_LONG_FILE_NAMES is defined without a check
 AC_TIMEZONE 0 0 the programs are others, and struct tm is taken to be in time.h
@@ -266,7 +276,8 @@ GCC 0 0 AC_PROG_CC does not set it here, so a program asks for __GNUC__
 LT_INIT 0 1 there is no libtool, so a rule of the Makefile links the library
 LT_PREREQ 0 1 there is no libtool, so a rule of the Makefile links the library
 PKG_CHECK_MODULES(actions) 4 4 no pkg-config is run, so the user gives the flags, and without those that link it is not found
-PKG_CHECK_MODULES(flags) 2 3 no pkg-config is run, so the user gives the flags, and without those that link it is an error
+PKG_CHECK_MODULES(flags) 2 2 no pkg-config is run, so the user gives the flags, and without those that link it is an error
+PKG_CHECK_MODULES(found) 3 3 no pkg-config is run, so the user gives the flags, and without those that link it is an error
 PKG_PROG_PKG_CONFIG 0 1 no pkg-config is run, so the user gives what it prints
 gl_PROG_CC_C99 0 0 no flag is added
 gl_USE_SYSTEM_EXTENSIONS 0 0 only _GNU_SOURCE and __EXTENSIONS__ are defined, and config.h.in needs a line for each

@@ -1,0 +1,125 @@
+//! Whether a call is AC_CHECK_TYPE with a default, its old form.
+
+ghost use Rattle.std.specs.Prelude.{◌≡◌, Some, None, codes, length, position, map, slice_get, slice_range, ◌==◌, ◌<◌, option_map, IfSome, IsTrue, true};
+ghost use Rattle.std.specs.List.{list_all};
+ghost use Rattle.ac_calls.specs.Calls.{macro_call_of};
+ghost use Rattle.lint_macros.specs.Around.{around};
+ghost use Rattle.port_idioms.specs.Filled.{text_of};
+ghost use Rattle.port_calls.specs.Put.{arg_text};
+ghost use Rattle.port_calls.specs.Rewritten as specs;
+
+use ac_calls::{CallAt, Extent};
+use lint_text::part;
+use port_idioms::text_of;
+
+/// Returns whether the byte may be in the name of a type.
+fn is_type_byte(byte: u8) -> bool
+    ensures { result ≡ specs.is_type_byte byte }
+{
+    byte.is_ascii_alphanumeric()
+        || byte == b'_'
+        || byte == b' '
+        || byte == b'('
+        || byte == b')'
+        || byte == b'*'
+}
+
+/// Returns whether a text has nothing but such bytes.
+fn are_type_bytes(text: &[u8]) -> bool
+    ensures { result ≡ list_all specs.is_type_byte text.now }
+{
+    text.iter().all(|byte| is_type_byte(*byte))
+}
+
+/// Returns whether the name of a type of C begins with this word.
+fn is_basic(word: &[u8]) -> bool
+    ensures { result ≡ specs.is_basic word.now }
+{
+    word == b"char".as_slice()
+        || word == b"short".as_slice()
+        || word == b"int".as_slice()
+        || word == b"long".as_slice()
+        || word == b"signed".as_slice()
+        || word == b"unsigned".as_slice()
+        || word == b"float".as_slice()
+        || word == b"double".as_slice()
+}
+
+/// Returns whether a name ends in `_t`.
+fn ends_in_t(word: &[u8]) -> bool
+    ensures { result ≡ specs.ends_in_t word.now }
+{
+    let len = word.len();
+    len >= 3 && word[len - 2] == b'_' && word[len - 1] == b't'
+}
+
+/// Returns the offset of the first space.
+fn space_in(text: &[u8]) -> Option<usize>
+    ensures value { result ≡ position (λ b. b == 32) text.now }
+    ensures within { IfSome result (λ i. i < length text.now) }
+{
+    text.iter().position(|byte| *byte == b' ')
+}
+
+/// Returns the text before the first space.
+fn first_part(text: &[u8]) -> &[u8]
+    ensures { result.now ≡ specs.first_part text.now }
+{
+    match space_in(text) {
+        Some(i) => &text[..i],
+        None => text,
+    }
+}
+
+/// Returns whether a text is a type, which AC_CHECK_TYPE takes for a default.
+fn is_type(text: &[u8]) -> bool
+    ensures { result ≡ specs.is_type text.now }
+{
+    let first = first_part(text);
+    are_type_bytes(text) && (is_basic(first) || ends_in_t(first))
+}
+
+/// Returns whether the call is one of AC_CHECK_TYPE.
+fn is_check(text: &[u8], call: &CallAt) -> bool
+    ensures { IsTrue result
+        → slice_range text.now (macro_call_of call.now).start (macro_call_of call.now).name_end
+        ≡ codes "AC_CHECK_TYPE" }
+{
+    let has_name = call.start <= call.name_end && call.name_end <= text.len();
+    has_name && &text[call.start..call.name_end] == b"AC_CHECK_TYPE".as_slice()
+}
+
+/// Returns where the second argument of the call is.
+fn second_argument(call: &CallAt) -> Option<Extent>
+    ensures { result ≡ slice_get (macro_call_of call.now).args 1 }
+{
+    call.args.get(1).copied()
+}
+
+/// Returns whether an argument is a type.
+fn is_default(text: &[u8], arg: Extent) -> bool
+    ensures { IsTrue result
+        → specs.is_type (text_of (Some (arg_text text.now arg))) ≡ true }
+{
+    match text_of(part(text, arg.start, arg.end)) {
+        Some(inner) => is_type(inner),
+        None => false,
+    }
+}
+
+/// Returns whether the second argument of the call is a type.
+fn has_default(text: &[u8], call: &CallAt) -> bool
+    ensures { IsTrue result → specs.HasDefault text.now (macro_call_of call.now) }
+{
+    match second_argument(call) {
+        Some(default) => is_default(text, default),
+        None => false,
+    }
+}
+
+/// Returns whether the call is AC_CHECK_TYPE of a type and a default.
+pub(crate) fn names_default(text: &[u8], call: &CallAt) -> bool
+    ensures { IsTrue result → specs.NamesDefault text.now (macro_call_of call.now) }
+{
+    is_check(text, call) && call.args.len() == 2 && has_default(text, call)
+}
