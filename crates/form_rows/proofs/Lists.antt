@@ -1,5 +1,5 @@
 -- That a list whose tests are asked for at once is that of its entries' forms.
-use Rattle.std.proofs.Common.{◌≡◌, ℕ, suc, Bool, true, false, cond, List, [], ◌∷◌, codes, map, refl, ap, ◌∙◌}
+use Rattle.std.proofs.Common.{◌≡◌, ℕ, suc, Bool, true, false, cond, List, [], ◌∷◌, map, refl, ap, ◌∙◌}
 use Rattle.std.specs.Prelude.{Option, Some, None}
 use Rattle.std.proofs.Math.Path.{fun_ext}
 use Rattle.conftest_source.specs.Sources.{declaration_source}
@@ -8,14 +8,14 @@ use Rattle.crew_trait.specs.declared.reply.Reply.{Reply}
 use Rattle.shellword.specs.declared.part.Part.{Part}
 use Rattle.ac_tree.specs.declared.listed.Listed.{Listed}
 use Rattle.ac_tree.specs.declared.listed.Listed.TheVariants.{Header, Function, Declaration}
-use Rattle.meaning.specs.State.{State, Run}
+use Rattle.meaning.specs.State.{State}
 use Rattle.meaning.specs.Asking.{only_reply}
 use Rattle.meaning.specs.Rows as rows
 use Rattle.meaning.specs.Batches as batches
 use Rattle.meaning.specs.Batches.{Batch, asks_all, commits, is_known, replied, replies_after, with_body}
 use Rattle.meaning.specs.Tests.{Row, tested}
 use Rattle.form_rows.specs.Forms.{FormTest, form_name, row_of}
-use Rattle.form_rows.specs.Batches.{ListsAreForms, asking, committed, forms_batched, jobs_in, listed_form, test_job, tests_of}
+use Rattle.form_rows.specs.Batches.{ListsAreForms, asking, committed, jobs_in, listed_form, test_job}
 use Rattle.form_rows.proofs.Rows.{rows_are}
 
 -- The test of an entry.

@@ -1,5 +1,5 @@
 -- That the form of each macro's test has the row of its kind.
-use Rattle.std.proofs.Common.{◌≡◌, ℕ, Bool, true, false, List, [], ◌∷◌, ◌++◌, codes, map, refl, ap, ◌∙◌}
+use Rattle.std.proofs.Common.{◌≡◌, ℕ, Bool, true, false, List, [], ◌∷◌, ◌++◌, codes, map, refl, ap}
 use Rattle.std.specs.Prelude.{Option, Some, None}
 use Rattle.std.proofs.lemmas.List.{append_assoc}
 use Rattle.conftest_source.specs.Sources.{declaration_source, type_source, second_type_source}
@@ -12,7 +12,7 @@ use Rattle.meaning.specs.Tests.{Row, by_attempts}
 use Rattle.test_forms.specs.declared.form.Snippet.TheVariants.{Body}
 use Rattle.form_rows.specs.Forms.{attempt_of_try, row_of, value_in}
 use Rattle.test_forms.specs.Macros.{declaration_form, function_form, header_form, library_form, linked_try, sized_try, type_form, search_form}
-use Rattle.form_rows.specs.Laws.{FormsAreRows, IsFormOf}
+use Rattle.form_rows.specs.Laws.{FormsAreRows}
 
 headers : (header : List ℕ) (includes : Option (List Part)) (defines : Bool) → (st : State) → rows.row_of (rows.Single Header header includes defines) st ≡ row_of (record { form = header_form header defines; given = includes }) st
 headers header None false st = refl

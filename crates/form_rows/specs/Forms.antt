@@ -1,5 +1,5 @@
 -- What a form means: its row, of any form.
-use Rattle.std.specs.Prelude.{ℕ, Bool, true, false, List, [], ◌∷◌, ◌++◌, Option, Some, None, codes, map, option_map, unwrap_or, is_some, if◌then◌else◌}
+use Rattle.std.specs.Prelude.{ℕ, Bool, true, List, [], ◌∷◌, ◌++◌, Option, Some, None, codes, map, option_map, unwrap_or, is_some, if◌then◌else◌}
 use Rattle.crew_jobs.specs.declared.job.Job.{Job}
 use Rattle.crew_jobs.specs.Probe.{Compile, Link, job_of}
 use Rattle.conftest_source.specs.Sources.{default_includes, header_source, function_source, program_source}
