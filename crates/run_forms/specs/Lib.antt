@@ -1,0 +1,4 @@
+pub mod Courses
+pub mod Attempts
+pub mod Ends
+pub mod Laws

@@ -1,0 +1,76 @@
+//! Where a form becomes a course.
+
+ghost use Rattle.std.specs.Prelude.{◌≡◌, IfOk};
+ghost use Rattle.form_rows.specs.Forms.{form_name, value_in};
+ghost use Rattle.run_forms.specs.Courses.{Opens, value_unless};
+
+use crate::course::FormCourse;
+use deftable::Bytes;
+use m4quote::sh_name;
+use run_state::Store;
+use shellword::HereText;
+use std::alloc::{AllocError, Global};
+use test_forms::TestForm;
+
+/// A test that a step begins: its course, and the value that its name has. If it has one, the
+/// course is without the value that was given.
+#[derive(Drop)]
+pub struct Opening {
+    pub course: FormCourse,
+    pub value: Option<Bytes>,
+}
+
+/// Returns the cached name of a test.
+fn form_name(alloc: Global, form: &TestForm) -> Result<Bytes, AllocError>
+    ensures { IfOk result (λ n. n ≡ form_name form.now) }
+{
+    let part = sh_name(alloc, form.key.as_slice())?;
+    Bytes::concat(alloc, &[b"ac_cv_", part.as_slice()])
+}
+
+/// Returns the value of a text, if there is one.
+pub(crate) fn value_in(
+    alloc: Global,
+    store: &Store,
+    text: &Option<HereText>,
+) -> Result<Option<Bytes>, AllocError>
+    ensures { IfOk result (λ v. v ≡ value_in text.now store.now) }
+{
+    let Some(text) = text else {
+        return Ok(None);
+    };
+    let value = store.here_text(alloc, text)?;
+    Ok(Some(value))
+}
+
+/// Returns the value of a text, if there is one. If `known` is true, the name of the test is set,
+/// and none is needed.
+fn value_unless(
+    alloc: Global,
+    store: &Store,
+    text: &Option<HereText>,
+    known: bool,
+) -> Result<Option<Bytes>, AllocError>
+    ensures { IfOk result (λ v. v ≡ value_unless known text.now store.now) }
+{
+    if known {
+        return Ok(None);
+    }
+    value_in(alloc, store, text)
+}
+
+/// Opens the test of a form, which was given these includes or other libraries.
+pub fn open_form(
+    alloc: Global,
+    store: &Store,
+    form: TestForm,
+    given: &Option<HereText>,
+) -> Result<Opening, AllocError>
+    ensures { IfOk result (Opens (record { form = form; given = given.now }) store.now) }
+{
+    let name = form_name(alloc, &form)?;
+    let value = store.value_of(alloc, name.as_slice())?;
+    let given = value_unless(alloc, store, given, value.is_some())?;
+    let course = FormCourse { form, given, name };
+    Ok(Opening { course, value })
+}
