@@ -77,7 +77,8 @@ fn source_settings<'a>(
     Ok((plan, settings))
 }
 
-/// Judges a source, which `engine::configure` runs then, by its arguments and its environment.
+/// Judges a source by its arguments and its environment: what it needs if it is to be run, or the
+/// report that shows a text. `engine::go` runs it.
 ///
 /// # Errors
 ///
