@@ -2,7 +2,10 @@
 """Proves crates over libraries of statements, as `rt ci` does, and keeps what passed: a crate is proved again only if it has changed,
 or what a crate below it hands to the crates above. It serves a toolchain whose `rt ci` keeps nothing, as rattle-kit-13b.
 
-  prove_kept.py [--lanes N] [--tests] [CRATE..]   at the top of the repository; no CRATE: all; --tests: their tests are proved too
+  prove_kept.py [--lanes N] [--tests] [--leave] [CRATE..]   at the top of the repository; no CRATE: all
+
+With --tests, their tests are proved too. With --leave, each library is also left in crates/*/out/rlib, as a whole `rt ci` leaves it, and
+`check_over.py` finds it there.
 
 What is kept is in the folder that ACRUN_KEPT names, or else in out/kept. Several clones may share one folder, also at the same
 time. There is a line for each crate that is proved now, with all that the check says if it fails. The last line is
@@ -96,10 +99,23 @@ def proved(crates, name, kind, slots):
     return True
 
 
+def leave(crate):
+    """Leaves the library of a proved crate where a whole `rt ci` leaves it."""
+    if crate.library is None or crate.is_program:
+        return
+    left = crate.folder / "out/rlib" / f"{crate.name}.rlib"
+    with tempfile.TemporaryDirectory(dir=crate.folder) as room:
+        shutil.copytree(crate.library, f"{room}/library")
+        shutil.rmtree(left, ignore_errors=True)
+        left.parent.mkdir(parents=True, exist_ok=True)
+        os.rename(f"{room}/library", left)
+
+
 def main():
     reader = argparse.ArgumentParser(usage=__doc__)
     reader.add_argument("--lanes", type=int, default=2)
     reader.add_argument("--tests", action="store_true")
+    reader.add_argument("--leave", action="store_true")
     reader.add_argument("crates", nargs="*")
     given = reader.parse_args()
     wanted = given.crates or [*ROWS]
@@ -110,7 +126,10 @@ def main():
         for it in crates[name].below:
             done[it].wait()
         try:
-            return proved(crates, name, "crate", slots)
+            is_proved = proved(crates, name, "crate", slots)
+            if given.leave and is_proved:
+                leave(crates[name])
+            return is_proved
         finally:
             done[name].set()
 

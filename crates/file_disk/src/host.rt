@@ -1,6 +1,6 @@
 //! The files of a real system.
 
-ghost use Rattle.std.specs.Prelude.{◌≡◌, ◌+◌, ◌^◌, take, IfOk, IfSome};
+ghost use Rattle.std.specs.Prelude.{◌≡◌, ◌≤◌, ◌+◌, ◌^◌, take, IfOk, IfSome};
 
 use crate::disk_trait::Disk;
 use crate::found::{Found, not_regular};
@@ -27,13 +27,30 @@ impl<'a, F: Files> Host<'a, F> {
     }
 }
 
-/// Returns all that a reader gives, but no more than one byte too many.
-fn read_front<R: Read>(alloc: Global, reader: &mut R) -> Result<Option<Bytes>, AllocError>
+/// Returns how many bytes a file has, as far as they are read, or 0 if the system doesn't say.
+fn size_of<T: OpenFile>(file: &T) -> usize
+    ensures { result ≤ 2 ^ 26 }
+{
+    match file.metadata() {
+        Ok(found) if found.len() <= LARGEST_TEXT as u64 => found.len() as usize,
+        Ok(_) => LARGEST_TEXT,
+        Err(_) => 0,
+    }
+}
+
+/// Returns all that a reader gives, but no more than one byte too many. There is room for `size`
+/// bytes and one more at once, so a file of this size is read without a copy of what was read.
+fn read_front<R: Read>(
+    alloc: Global,
+    reader: &mut R,
+    size: usize,
+) -> Result<Option<Bytes>, AllocError>
+    requires { size ≤ 2 ^ 26 }
     ensures { IfOk result
         (λ o. IfSome o
         (λ text. IfSome (R.remaining reader.old) (λ all. text ≡ take (2 ^ 26 + 1) all))) }
 {
-    let mut text = Vec::new(alloc);
+    let mut text = Vec::with_capacity(alloc, size + 1)?;
     match reader.take(LARGEST_TEXT as u64 + 1).read_to_end(&mut text) {
         Ok(_) => Ok(Some(Bytes::from_vec(text))),
         Err(e) if e.kind() == ErrorKind::OutOfMemory => Err(AllocError),
@@ -89,7 +106,10 @@ impl<'a, F: Files> Disk for Host<'a, F> {
 
     fn read(&self, alloc: Global, name: &str) -> Result<Option<Bytes>, AllocError> {
         match open_regular(self.files, name) {
-            Ok(mut file) => read_front(alloc, &mut file),
+            Ok(mut file) => {
+                let size = size_of(&file);
+                read_front(alloc, &mut file, size)
+            }
             Err(e) if e.kind() == ErrorKind::OutOfMemory => Err(AllocError),
             Err(_) => Ok(None),
         }
