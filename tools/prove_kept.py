@@ -2,10 +2,12 @@
 """Proves crates over libraries of statements, as `rt ci` does, and keeps what passed: a crate is proved again only if it has changed,
 or what a crate below it hands to the crates above. It serves a toolchain whose `rt ci` keeps nothing, as rattle-kit-13b.
 
-  prove_kept.py [--lanes N] [--tests] [--leave] [CRATE..]   at the top of the repository; no CRATE: all
+  prove_kept.py [--lanes N] [--tests] [--leave] [--base TOP] [CRATE..]   at the top of the repository; no CRATE: all
 
 With --tests, their tests are proved too. With --leave, each library is also left in crates/*/out/rlib, as a whole `rt ci` leaves it, and
-`check_over.py` finds it there.
+`check_over.py` finds it there. With --base, what is the same in the clone TOP is not proved here: a crate with the same sources, over
+libraries that hand the same to the crates above. Its library is taken from crates/*/out/rlib of TOP, where a whole `make check` has
+passed, and passed means that it passed there.
 
 What is kept is in the folder that ACRUN_KEPT names, or else in out/kept. Several clones may share one folder, also at the same
 time. There is a line for each crate that is proved now, with all that the check says if it fails. The last line is
@@ -32,6 +34,7 @@ KIT = pathlib.Path(shutil.which("rt") or sys.exit("the toolchain's command `rt` 
 STORE = pathlib.Path(os.environ.get("ACRUN_KEPT", "out/kept")).resolve()
 ROWS = repository.rows()
 TEST = re.compile(rb"#\[test\]")
+PARTS = ("src", "specs", "proofs")
 
 
 def digest(folders):
@@ -44,11 +47,25 @@ def digest(folders):
 
 
 class Crate:
-    def __init__(self, name):
+    def __init__(self, name, base):
         self.name, self.folder = name, repository.CRATES / name
         self.below = sorted(repository.below(name, ROWS))
         self.is_program = (self.folder / "src/main.rt").exists()
         self.library, self.digest = None, None
+        # The library that the base has, and its digest, if the sources there are the same.
+        self.given, self.given_digest, self.is_given = None, None, False
+        if base:
+            there = base / "crates" / name
+            self.given = there / "out/rlib" / f"{name}.rlib"
+            self.given_digest = digest([self.given.parent]) if self.given.exists() else None
+            self.is_given = self.sources() == digest([there / part for part in PARTS]) and ROWS[name] == repository.rows(base).get(name)
+
+    def sources(self):
+        return digest([self.folder / part for part in PARTS])
+
+    def is_same(self, crates):
+        """Whether the base has proved this crate, over libraries that hand the same to it. Those below are proved."""
+        return self.is_given and all(crates[it].digest == crates[it].given_digest for it in self.below)
 
     def has_tests(self):
         return any(TEST.search(file.read_bytes()) for file in (self.folder / "src").rglob("*.rt"))
@@ -73,8 +90,12 @@ def proved(crates, name, kind, slots):
     crate = crates[name]
     if any(crates[it].digest is None for it in crate.below):
         return False
-    parts = [crate.folder / part for part in ("src", "specs", "proofs")]
-    made_of = [kind, (KIT / "KIT-ID").read_text(), digest(parts), *sorted(ROWS[name]), *(crates[it].digest for it in crate.below)]
+    if crate.is_same(crates) and (kind == "tests" or crate.is_program or crate.given_digest):
+        if kind == "crate":
+            crate.library, crate.digest = crate.given, crate.given_digest or ""
+        return True
+    parts = [crate.folder / part for part in PARTS]
+    made_of = [kind, (KIT / "KIT-ID").read_text(), crate.sources(), *sorted(ROWS[name]), *(crates[it].digest for it in crate.below)]
     room = STORE / hashlib.sha256("\0".join(made_of).encode()).hexdigest()[:40]
     STORE.mkdir(parents=True, exist_ok=True)
     with open(f"{room}.lock", "w") as lock:
@@ -116,10 +137,11 @@ def main():
     reader.add_argument("--lanes", type=int, default=2)
     reader.add_argument("--tests", action="store_true")
     reader.add_argument("--leave", action="store_true")
+    reader.add_argument("--base", type=lambda it: pathlib.Path(it).resolve())
     reader.add_argument("crates", nargs="*")
     given = reader.parse_args()
     wanted = given.crates or [*ROWS]
-    crates = {it: Crate(it) for it in {*wanted, *(low for it in wanted for low in repository.below(it, ROWS))}}
+    crates = {it: Crate(it, given.base) for it in {*wanted, *(low for it in wanted for low in repository.below(it, ROWS))}}
     slots, done = threading.Semaphore(given.lanes), {it: threading.Event() for it in crates}
 
     def prove(name):

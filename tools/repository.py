@@ -29,9 +29,9 @@ MOST_PROMISES = 160
 NOT_OF_CODE = {"conftestN", "enable_NAME", "with_NAME", "enable_shared", "with_x"}
 
 
-def rows():
-    """Returns the libraries of each crate, by crates.txt."""
-    lines = (line.partition("#")[0].partition(":") for line in pathlib.Path("crates.txt").read_text().splitlines())
+def rows(top="."):
+    """Returns the libraries of each crate, by crates.txt of a repository."""
+    lines = (line.partition("#")[0].partition(":") for line in pathlib.Path(top, "crates.txt").read_text().splitlines())
     return {name.strip(): uses.split() for name, _, uses in lines if name.strip()}
 
 

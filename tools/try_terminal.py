@@ -89,6 +89,24 @@ class Trial:
         _, out, err, _ = self.configure(0, "-q", on=["stdout", "stderr"])
         self.look("a quiet run shows its warning alone", (out, err) == ("", "configure: WARNING: c\\x1bd\n"), out, err)
 
+    def lines(self):
+        """Progress goes on after a command that is longer than what is shown of it."""
+        pathlib.Path("configure.ac").write_text(SOURCE.replace("[have.h]", "[have.h more.h]"))
+        words = ["configure", f"CC=sh cc.sh 0 -I{'a' * 300}"]
+        _, _, err, _ = run(self.program, words, (), ACRUN_PROGRESS="lines")
+        shown = re.findall(r"(?m)^acrun: child (\d), header (\S+):", err)
+        self.look("each child has a line of progress, also after a long one", shown == [("1", "have.h"), ("2", "more.h")], err)
+        _, _, err, _ = run(self.program, words, ["stderr"])
+        self.look("the second child is shown, also after a long command", "2 started, 1 ended: header more.h" in err, err)
+        pathlib.Path("configure.ac").write_text(SOURCE)
+
+    def cached(self):
+        """A run that takes each answer from the cache."""
+        for _ in range(2):
+            _, out, err, _ = self.configure(0, "-C", on=["stderr"])
+        self.look("a check of the cache is answered by it", "have.h... (cached) yes\n" in out, out)
+        self.look("a run without a child has a last line", re.search(r"acrun: 1 check, 1 from the cache, no children, \d+ ms\n\Z", err), err)
+
     def control_bytes(self):
         """Control bytes, on each stream that is a terminal and on one that is none."""
         _, out, err, _ = self.configure(0, on=["stdout"])
@@ -116,6 +134,8 @@ class Trial:
         self.look("lint has colours on a terminal", "\x1b[" in out and "\\x1b" not in out, out)
         _, out, _, _ = run(self.program, ["lint"], ["stderr"])
         self.look("lint has no colours elsewhere", "error" in out and "\x1b" not in out, out)
+        _, out, _, _ = run(self.program, ["lint"], ["stdout"], NO_COLOR="1")
+        self.look("lint has no colours if NO_COLOR is set", "error" in out and "\x1b" not in out, out)
 
 
 def main():
@@ -127,6 +147,8 @@ def main():
         pathlib.Path("configure.ac").write_text(SOURCE)
         pathlib.Path("cc.sh").write_text(COMPILER)
         trial.progress()
+        trial.lines()
+        trial.cached()
         trial.control_bytes()
         trial.again()
         trial.words()

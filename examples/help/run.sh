@@ -43,6 +43,10 @@ has() {
 }
 has port '`if`, and a statement after a test and `&&` or `||`, become AS_IF, and `case` becomes AS_CASE'
 has port '--idioms'
+for option in --srcdir= --cache-file= -C --prefix= --bindir= --enable- --disable- --with- --without- '-n, --no-create' '-q, --quiet, --silent' \
+    '-h, --help' '-V, --version' VARIABLE=VALUE; do
+    has configure "$option"
+done
 has configure 'Besides its outputs a run may leave: config.log config.status config.cache conftest* acrun-*.tmp'
 
 for command in '' configure status lint port why standin help; do

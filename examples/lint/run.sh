@@ -14,10 +14,19 @@ while IFS= read -r row; do
     printf '%s.ac\n' "${row%% *}" >> names
 done < "$here/sources.txt"
 {
+    printf 'AC_INIT([x],[1])\nAS_IF([:], [\n'
+    yes 'mkdir a-directory-whose-name-is-so-long-that-sixty-of-them-have-four-kilobytes' | head -n 60
+    printf '])\nAC_OUTPUT\n'
+} > messages-many.ac
+{
     "$acrun" lint $(cat names) || echo "status $?"
-    cp -R "$here/package" package
-    "$acrun" lint package || echo "status $?"
+    for name in package headers; do
+        cp -R "$here/$name" "$name"
+        "$acrun" lint "$name" || echo "status $?"
+    done
     "$acrun" lint --json macros-unknown.ac columns.ac - < macro-misspelt.ac || echo "status $?"
+    # Each of 300 words is read, and each of 60 errors within one call is found.
+    "$acrun" lint $(yes without-findings.ac | head -n 299) messages-many.ac | grep -c '^messages-many.ac:'
 } > printed
 if [ "$2" = --write ]; then
     cp printed "$here/expected.txt"

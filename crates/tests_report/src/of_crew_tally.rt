@@ -35,5 +35,7 @@ fn checks_are_counted(rt: HostRuntime) -> Result<(), Fail> {
     let line = b"acrun: 5 checks, 2 from the cache, 1 child, 12.3 s\n";
     try_line(&rt, &TEXTS, 12_399, line)?;
     try_line(&rt, &TEXTS[..1], 999, b"acrun: 1 check, 1 child, 999 ms\n")?;
+    let cached = b"acrun: 1 check, 1 from the cache, 1 child, 7 ms\n";
+    try_line(&rt, &[b"checking for a.h... (cached) yes\n"], 7, cached)?;
     try_line(&rt, &[], 1, b"")
 }
