@@ -569,7 +569,7 @@ only C compilers are tried: let the user give the compiler by AC_ARG_VAR~none LT
 there is no libtool: a rule of the Makefile links the library~drop LT_INIT LT_PREREQ AC_PROG_LIBTOOL AM_PROG_LIBTOOL AC_LIBTOOL_DLOPEN AC_LIBTOOL_WIN32_DLL AC_DISABLE_SHARED AC_DISABLE_STATIC AC_ENABLE_SHARED AC_ENABLE_STATIC AM_DISABLE_SHARED AM_DISABLE_STATIC AM_ENABLE_SHARED AM_ENABLE_STATIC
 there is no libtool: a rule of the Makefile links the library~none AM_CFLAGS AM_CPPFLAGS AM_LDFLAGS AM_CXXFLAGS AM_YFLAGS AM_LFLAGS AM_MAKEFLAGS AM_DEFAULT_VERBOSITY AC_FD_MSG AC_FD_CC
 a name that begins so is read as a macro: put it in brackets in an assignment, as [AM_CFLAGS]=\"-Wall\", or rename it~none gl_EARLY gl_INIT gl_gcc_warnings gl_MANYWARN_ALL_GCC gl_MANYWARN_COMPLEMENT gl_GCC_VERSION_IFELSE gl_WARN_ADD_MULTIPLE gl_LIBSOURCES gl_SET_LIBSOURCES
-gnulib is not read: check what the sources use by AC_CHECK_FUNCS and AC_CHECK_HEADERS~family AC_LIBTOOL_
+acrun doesn't support gnulib: check what the sources use by AC_CHECK_FUNCS and AC_CHECK_HEADERS~family AC_LIBTOOL_
 there is no libtool: a rule of the Makefile links the library~family AC_HEADER_
 check the header by AC_CHECK_HEADERS~family AC_STRUCT_
 compile a program that uses the member by AC_COMPILE_IFELSE~family AC_ERLANG_
@@ -583,12 +583,12 @@ it is of an archive of macros: write out the checks that its definition makes~fa
 no pkg-config is run: let the user give the flags by AC_ARG_VAR~family AX_
 it is of the Autoconf Archive: write out the checks that its definition makes~family CF_
 it is one of the package's own macros: write out the checks that its definition makes~family gl_
-gnulib is not read: check what the sources use by AC_CHECK_FUNCS and AC_CHECK_HEADERS~family gt_
-gettext is not read: check what the sources use by AC_CHECK_FUNCS and AC_SEARCH_LIBS~family LT_
+acrun doesn't support gnulib: check what the sources use by AC_CHECK_FUNCS and AC_CHECK_HEADERS~family gt_
+acrun doesn't support gettext: check what the sources use by AC_CHECK_FUNCS and AC_SEARCH_LIBS~family LT_
 there is no libtool: a rule of the Makefile links the library~family AM_
 there is no Automake: write a plain Makefile.in~family AH_
 its text is in config.h.in itself~family AS_
-write the shell statement that it makes, as far as acrun reads it~family AU_
+write the shell statement that it makes, as far as acrun supports it~family AU_
 write out what it expands to~family m4_
 write out what it expands to";
 
