@@ -16,6 +16,8 @@ tools/seeded_compiler.c answers the programs, by what they ask. From number 1000
 have variables whose names are spelled as those of macros, conditions on several lines, actions without brackets that are calls, and the macros
 of LATER_NAMES; with --idioms also `==`, `-eq`, `-ne`, `exit` and `echo` without words. From number 2000000 on it may also have `!` before what
 `-a` and `-o` join; with --idioms also `+=`, `echo` with `exit`, and such an operator in double quotes, as far as docs/commands.md names them.
+From number 3000000 on it may also have blanks after the arguments of macros that have an exact idiom, more texts of NEWEST_ARGUMENTS, and
+the macros of NEWEST_NAMES.
 A difference is allowed if a line `~ ` of macros.txt states it for a macro of the source, or one of the sentences below of docs/differences.md.
 
 With --idioms a source has also calls of the macros that have a line `& `, if Autoconf itself has them, and port is given that switch. If
@@ -581,12 +583,21 @@ ARGUMENTS = {
     "AC_TRY_COMPILE": [INCLUDES, BODIES, "action", "action"],
     "AC_TRY_LINK": [INCLUDES, BODIES, "action", "action"],
     "AC_TRY_LINK_FUNC": [FUNCTIONS, "action", "action"],
+    "AC_TRY_LINK_FUNC(main)": [("main", "[main]"), "action", "action"],
     "AC_TRY_RUN": [PROGRAMS, "action", "action", "action"],
     "AC_TEST_PROGRAM": [PROGRAMS, "action", "action", "action"],
     "AC_TRY_CPP": [("#include <stdio.h>", "#include <foo.h>\n#ifndef FOO\n#error none\n#endif"), "action", "action"],
     "AS_VAR_COPY": [("copy", "v1"), ("level", "enable_foo", "v2")],
     "m4_pattern_allow": [("^AC_FOO$", "^fz_")],
     "AC_DIAGNOSE": [("obsolete", "syntax"), TEXTS],
+}
+# More texts of places, in sources of the highest numbers.
+NEWEST_ARGUMENTS = {
+    "AC_CHECK_TYPE(default)": [("x.t", "struct foo"), ("3_t", "__t", "_a3_t", "x*_t", "long long")],
+    "AC_MSG_FAILURE": [("it  ends", "a\nb")],
+    "AC_PROGRAM_CHECK": [("SED",), ("strip", "sed"), ("yes it is", "[yes ]", "[ yes]"), ("[no ]", "$v1")],
+    "AC_TRY_LINK_FUNC": [("main", "[main]", "[[main]]"), "action", "action"],
+    "AS_VAR_COPY": [("v2",), ("v1",)],
 }
 MEMBERS = ("struct stat.st_blksize", "struct tm.tm_zone", "struct foo.bar")
 SIZED = ("long", "[void *]", "size_t", "foo_t", "[unsigned int]", "struct foo", "[long long]")
@@ -668,6 +679,12 @@ def others():
 LATER = 1_000_000
 # From this number on also those of NEWER_SHELL, and negated operands of `-a` and `-o`.
 NEWER = 2_000_000
+# From this number on also blanks after arguments, NEWEST_ARGUMENTS, and the macros of NEWEST_NAMES.
+NEWEST = 3_000_000
+NEWEST_NAMES = ("AC_TRY_LINK_FUNC(main)",)
+# What may be after an argument. Autoconf refuses a blank after the name of a variable, and a newline after a program is an error of its script.
+ENDS = ("", "", "", " ", "  ", "\n", "\t", " \n  ")
+OF_PROGRAMS = ("AC_PROGRAM_CHECK", "AC_PROGRAMS_CHECK", "AC_PROGRAM_PATH")
 INIT = ("AC_INIT", "AC_INIT()", "AC_INIT(configure.ac)", "AC_INIT([configure.ac])", "AC_INIT( configure.ac)dnl a note")
 NAMED = (
     "PKG_CONFIG=a", "LT_CURRENT=2", "AX_FLAGS=\"$PKG_CONFIG b\"", "v1=$PKG_CONFIG", "v2=\"${LT_CURRENT}:${AX_FLAGS}\"", "v1=a$LT_CURRENT v2=b",
@@ -711,10 +728,10 @@ class Maker:
 
     def __init__(self, number, names=None, switches=()):
         self.at = random.Random(number)
-        self.is_later, self.is_newer = number >= LATER, number >= NEWER
+        self.is_later, self.is_newer, self.is_newest = number >= LATER, number >= NEWER, number >= NEWEST
         self.all_idioms = switches == IDIOMS
         rows = [*(others() * 3 if self.all_idioms else []), *exact()]
-        left_out = (*NO_CALLS, *(() if self.is_later else LATER_NAMES))
+        left_out = (*NO_CALLS, *(() if self.is_later else LATER_NAMES), *(() if self.is_newest else NEWEST_NAMES))
         self.exact = [it for it in rows if it[0] not in left_out and (not names or it[0] in names)]
         self.count = 0
         self.used = []
@@ -762,18 +779,28 @@ class Maker:
         name, _, least, most = self.one(self.exact)
         count = self.at.randint(least, most)
         kinds = ARGUMENTS.get(name) or ARGUMENTS_OF_OTHERS.get(name)
+        if self.is_newest and name in NEWEST_ARGUMENTS and self.has(0.4):
+            kinds = NEWEST_ARGUMENTS[name]
+        has_ends = self.is_newest and name in ARGUMENTS and self.has(0.6)
         name = name.partition("(")[0]
         if count == 0:
             return name
         if kinds is None:
             sys.exit(f"{name} has no arguments in ARGUMENTS")
-        made = f"{name}({', '.join(self.argument(it, depth) for it in kinds[:count])})"
+        count = min(count, len(kinds))
+        made = f"{name}({', '.join(self.argument(it, depth) + self.end(name, k, has_ends) for k, it in enumerate(kinds[:count]))})"
         if name in ("AC_MSG_FAILURE", "AC_ERROR", "AS_EXIT"):
             return f"if test \"$enable_foo\" = stop; then {made}; fi" if self.has(0.8) else made
         if name == "AC_CACHE_VAL" and self.has(0.5):
             variable = re.match(r"AC_CACHE_VAL\(\[?(\w+)", made)[1]
             return f"AC_MSG_CHECKING([for {self.one(['it', variable])}])\n{made}\nAC_MSG_RESULT([${variable}])"
         return made
+
+    def end(self, name, index, has_ends):
+        """Returns what is after an argument."""
+        if not has_ends or name in OF_PROGRAMS and index == 0:
+            return ""
+        return self.one(("", " ")) if name in OF_PROGRAMS and index == 1 else self.one(ENDS)
 
     def check(self, depth):
         """Returns a check that both read."""

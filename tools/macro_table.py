@@ -62,7 +62,7 @@ What is used most comes first. `acrun lint` prints the same at each call, and `a
 block. `tools/macro_table.py` writes this page from `crates/lint_macros/macros.txt`.
 """
 KINDS = ("idiom", "drop", "none", "family")
-PLACE = re.compile(r"\$([1-9@])([!_^<>]?)\{([^}]*)\}")
+PLACE = re.compile(r"\$([1-9@])([!+=_^<>]?)\{([^}]*)\}")
 
 
 @dataclasses.dataclass
@@ -148,15 +148,17 @@ def plain(argument):
 
 
 def formed(sign, word, text):
-    if sign == "!":
+    if sign in ("!", "="):
         return word if re.search(r"[ \t\n]", text) else text
     if sign == "_":
         return re.sub(r"\W", "_", re.sub("[*+]", "p", text), flags=re.ASCII)
     if sign == "^":
         return re.sub(r"\W", "_", text.replace("*", "P"), flags=re.ASCII).upper()
-    if sign and "." not in text:
+    if sign in ("", "+"):
+        return text
+    if "." not in text:
         return word
-    return {"": text, "<": text.partition(".")[0], ">": text.partition(".")[2]}[sign]
+    return {"<": text.partition(".")[0], ">": text.partition(".")[2]}[sign]
 
 
 def fill(text, arguments):
@@ -186,7 +188,7 @@ def written(text, arguments, words):
             return ", ".join(f"[{bare(it)}]" for it in arguments) or word
         if int(which) > len(arguments):
             return words.get(word, word)
-        return formed(sign if sign != "!" else "", word, bare(arguments[int(which) - 1]))
+        return formed(sign if sign not in ("!", "=") else "", word, bare(arguments[int(which) - 1]))
 
     return re.sub(pattern, value, text)
 
@@ -277,7 +279,7 @@ def wrong():
                 yield f"{name} is exact, and no idiom of the entry has the name"
             if not least <= most <= (max(places, default=0) if entry.kind == "idiom" else 9):
                 yield f"{name}: an argument has no place in the idiom"
-            if any(place[2] not in ("", "!") for place in PLACE.finditer(text)):
+            if any(place[2] not in ("", "!", "+", "=") for place in PLACE.finditer(text)):
                 yield f"{name}: an exact idiom has its arguments as they are"
         for name, least, most, said in entry.other:
             if name not in entry.names or entry.kind not in ("idiom", "drop") or "$@" in text or entry.words:

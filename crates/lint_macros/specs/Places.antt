@@ -4,7 +4,7 @@ use Rattle.std.specs.Prelude.{ℕ, ◌-◌, ◌==◌, ◌&&◌, nat_le, List, []
 use Rattle.std.specs.Str.{bytes_eq}
 use Rattle.lint_macros.specs.Around.{around}
 use Rattle.lint_macros.specs.declared.place.Form.{Form}
-use Rattle.lint_macros.specs.declared.place.Form.TheVariants.{AsItIs, OneWord, ShellName, Symbol, Front, Rest}
+use Rattle.lint_macros.specs.declared.place.Form.TheVariants.{AsItIs, Whole, OneWord, WholeWord, ShellName, Symbol, Front, Rest}
 use Rattle.lint_macros.specs.declared.place.HoleSource.{HoleSource}
 use Rattle.lint_macros.specs.declared.place.HoleSource.TheVariants.{Argument, All}
 use Rattle.lint_macros.specs.declared.place.Hole.{Hole as Cut}
@@ -28,11 +28,13 @@ source_of b = if b == 64 then Some All else (if nat_le 49 b && nat_le b 57 then 
 abbrev pub form_of : List ℕ → Option Form
 form_of s =
     if bytes_eq s (codes "") then Some AsItIs
+    else (if bytes_eq s (codes "+") then Some Whole
     else (if bytes_eq s (codes "!") then Some OneWord
+    else (if bytes_eq s (codes "=") then Some WholeWord
     else (if bytes_eq s (codes "_") then Some ShellName
     else (if bytes_eq s (codes "^") then Some Symbol
     else (if bytes_eq s (codes "<") then Some Front
-    else (if bytes_eq s (codes ">") then Some Rest else None)))))
+    else (if bytes_eq s (codes ">") then Some Rest else None)))))))
 
 -- A place with what it takes, its form, and around a brace its word and the rest. (own)
 abbrev pub place_with : HoleSource → Option Form → Option (List ℕ × List ℕ) → Option Hole

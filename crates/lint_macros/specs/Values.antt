@@ -8,7 +8,7 @@ use Rattle.m4quote.specs.Names.{sh_byte, cpp_byte}
 use Rattle.lint_macros.specs.Around.{around}
 use Rattle.lint_macros.specs.Places.{Hole}
 use Rattle.lint_macros.specs.declared.place.Form.{Form}
-use Rattle.lint_macros.specs.declared.place.Form.TheVariants.{AsItIs, OneWord, ShellName, Symbol, Front, Rest}
+use Rattle.lint_macros.specs.declared.place.Form.TheVariants.{AsItIs, Whole, OneWord, WholeWord, ShellName, Symbol, Front, Rest}
 use Rattle.lint_macros.specs.declared.place.HoleSource.{HoleSource}
 use Rattle.lint_macros.specs.declared.place.HoleSource.TheVariants.{Argument, All}
 
@@ -76,10 +76,13 @@ rest_or word (Some (front, rest)) = rest
 rest_or word None = word
 
 -- The text in a form: as it is, as it is if it is one word, as a shell name, as a symbol of the preprocessor, or what is before or
--- after its first dot. If the text can't have the form, the word. (own)
+-- after its first dot. If the text can't have the form, the word. Of a call that a reader is to write, the blanks after an argument are
+-- left out. (own)
 abbrev pub formed_or : Form → List ℕ → List ℕ → List ℕ
 formed_or AsItIs word t = t
+formed_or Whole word t = t
 formed_or OneWord word t = if is_word t then t else word
+formed_or WholeWord word t = if is_word t then t else word
 formed_or ShellName word t = map sh_byte t
 formed_or Symbol word t = map cpp_byte t
 formed_or Front word t = front_or word (around 46 t)

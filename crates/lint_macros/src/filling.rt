@@ -70,7 +70,9 @@ fn put_formed(
 {
     match form {
         Form::AsItIs => out.extend_from_slice(text),
+        Form::Whole => out.extend_from_slice(text),
         Form::OneWord => out.extend_from_slice(word_or(word, text)),
+        Form::WholeWord => out.extend_from_slice(word_or(word, text)),
         Form::ShellName => put_shell_name(alloc, out, text),
         Form::Symbol => put_symbol(alloc, out, text),
         Form::Front => out.extend_from_slice(front_or(word, text)),

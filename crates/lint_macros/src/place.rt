@@ -20,8 +20,12 @@ pub enum HoleSource {
 pub enum Form {
     /// As it is.
     AsItIs,
+    /// As it is, with the blanks after it.
+    Whole,
     /// As it is, if it is one word.
     OneWord,
+    /// As it is, if it is one word and no blank is after it.
+    WholeWord,
     /// As a part of a shell variable's name: `sys_stat_h`.
     ShellName,
     /// As a part of a symbol of the preprocessor: `SYS_STAT_H`.
@@ -61,8 +65,12 @@ fn form_of(sign: &[u8]) -> Option<Form>
 {
     if is(sign, b"") {
         Some(Form::AsItIs)
+    } else if is(sign, b"+") {
+        Some(Form::Whole)
     } else if is(sign, b"!") {
         Some(Form::OneWord)
+    } else if is(sign, b"=") {
+        Some(Form::WholeWord)
     } else if is(sign, b"_") {
         Some(Form::ShellName)
     } else if is(sign, b"^") {

@@ -39,22 +39,22 @@ AC_DEFINE([_GNU_SOURCE], [1], [Enable GNU extensions.])
 AC_DEFINE([__EXTENSIONS__], [1], [Enable extensions of Solaris.])~idiom AC_CONFIG_HEADER AM_CONFIG_HEADER
 AC_CONFIG_HEADERS([$1{HEADER}])~idiom AC_HELP_STRING
 AS_HELP_STRING([$1{OPTION}], [$2{TEXT}])~idiom AC_MSG_FAILURE AC_ERROR AS_ERROR m4_fatal AC_FATAL
-AC_MSG_ERROR([$1{MESSAGE}])~idiom AC_CHECKING
-AC_MSG_NOTICE([checking $1{MESSAGE}...])~idiom AC_VERBOSE
-AC_MSG_RESULT([$1{MESSAGE}])~idiom AS_MESSAGE
-AC_MSG_NOTICE([$1{MESSAGE}])~idiom AC_WARN
-AC_MSG_WARN([$1{MESSAGE}])~idiom AC_CHECK_TOOL AC_CHECK_TOOLS AC_CHECK_TARGET_TOOL AC_CHECK_TARGET_TOOLS
-AC_CHECK_PROGS([$1{VARIABLE}], [$2{PROGRAM}], [$3{}])~idiom AC_PATH_TOOL AC_PATH_TARGET_TOOL AM_PATH_PROG_WITH_TEST
+AC_MSG_ERROR([$1+{MESSAGE}])~idiom AC_CHECKING
+AC_MSG_NOTICE([checking $1+{MESSAGE}...])~idiom AC_VERBOSE
+AC_MSG_RESULT([$1+{MESSAGE}])~idiom AS_MESSAGE
+AC_MSG_NOTICE([$1+{MESSAGE}])~idiom AC_WARN
+AC_MSG_WARN([$1+{MESSAGE}])~idiom AC_CHECK_TOOL AC_CHECK_TOOLS AC_CHECK_TARGET_TOOL AC_CHECK_TARGET_TOOLS
+AC_CHECK_PROGS([$1{VARIABLE}], [$2{PROGRAM}], [$3+{}])~idiom AC_PATH_TOOL AC_PATH_TARGET_TOOL AM_PATH_PROG_WITH_TEST
 AC_PATH_PROG([$1{VARIABLE}], [$2{PROGRAM}])~idiom AC_HAVE_HEADERS
 AC_CHECK_HEADERS([$1{HEADERS}])~idiom AC_HAVE_FUNCS
 AC_CHECK_FUNCS([$1{FUNCTIONS}])~idiom AC_HEADER_CHECK
-AC_CHECK_HEADER([$1{HEADER}])~idiom AC_FUNC_CHECK
-AC_CHECK_FUNC([$1{FUNCTION}])~idiom AC_PROGRAM_CHECK
-AC_CHECK_PROG([$1{VARIABLE}], [$2{PROGRAM}], [$3{VALUE}], [$4{OTHERWISE}])~idiom AC_PROGRAMS_CHECK
+AC_CHECK_HEADER([$1+{HEADER}])~idiom AC_FUNC_CHECK
+AC_CHECK_FUNC([$1+{FUNCTION}])~idiom AC_PROGRAM_CHECK
+AC_CHECK_PROG([$1{VARIABLE}], [$2{PROGRAM}], [$3+{VALUE}], [$4+{OTHERWISE}])~idiom AC_PROGRAMS_CHECK
 AC_CHECK_PROGS([$1{VARIABLE}], [$2{PROGRAMS}])~idiom AC_PROGRAM_PATH
 AC_PATH_PROG([$1{VARIABLE}], [$2{PROGRAM}])~idiom AC_INIT(file)
 AC_INIT([], [])
-AC_CONFIG_SRCDIR([$1{FILE}])~idiom AC_INIT()
+AC_CONFIG_SRCDIR([$1+{FILE}])~idiom AC_INIT()
 AC_INIT([], [])~idiom AC_INIT(package)
 AC_INIT([$1!{NAME}], [$2!{VERSION}])~idiom AC_INIT(package,file)
 AC_INIT([$1!{NAME}], [$2!{VERSION}])
@@ -84,8 +84,8 @@ AC_CHECK_TYPE([uid_t], [],
    AC_DEFINE([gid_t], [int], [Define to a type of group ids if there is no uid_t.])])~idiom AC_TYPE_MODE_T AC_MODE_T
 AC_CHECK_TYPE([mode_t], [], [AC_DEFINE([mode_t], [int], [Define to a type of file modes if there is no mode_t.])])~idiom AC_TYPE_SSIZE_T
 AC_CHECK_TYPE([ssize_t], [], [AC_DEFINE([ssize_t], [int], [Define to a type of signed sizes if there is no ssize_t.])])~idiom AC_CHECK_TYPE(default)
-AC_CHECK_TYPE([$1!{TYPE}], [],
-  [AC_DEFINE_UNQUOTED([$1!{TYPE}], [$2{DEFAULT}], [Define to a type if there is no $1!{TYPE}.])])~idiom AC_HEADER_DIRENT AC_DIR_HEADER AC_DIRENT
+AC_CHECK_TYPE([$1={TYPE}], [],
+  [AC_DEFINE_UNQUOTED([$1={TYPE}], [$2+{DEFAULT}], [Define to a type if there is no $1={TYPE}.])])~idiom AC_HEADER_DIRENT AC_DIR_HEADER AC_DIRENT
 AC_CHECK_HEADERS([dirent.h])~idiom AC_HEADER_SYS_WAIT
 AC_CHECK_HEADERS([sys/wait.h])~idiom AC_HEADER_STDBOOL AC_CHECK_HEADER_STDBOOL AM_STDBOOL_H
 AC_CHECK_HEADERS([stdbool.h])
@@ -268,6 +268,8 @@ AC_COMPILE_IFELSE([AC_LANG_PROGRAM([[$1{INCLUDES}]], [[$2{BODY}]])],
 AC_LINK_IFELSE([AC_LANG_PROGRAM([[$1{INCLUDES}]], [[$2{BODY}]])],
   [$3{FOUND}], [$4{NOT-FOUND}])~idiom AC_TRY_LINK_FUNC
 AC_LINK_IFELSE([AC_LANG_PROGRAM([[char $1!{FUNCTION} ();]], [[return $1!{FUNCTION} ();]])],
+  [$2{FOUND}], [$3{NOT-FOUND}])~idiom AC_TRY_LINK_FUNC(main)
+AC_LINK_IFELSE([AC_LANG_PROGRAM([], [[return $1={FUNCTION} ();]])],
   [$2{FOUND}], [$3{NOT-FOUND}])~idiom AC_TRY_RUN AC_TEST_PROGRAM
 AC_RUN_IFELSE([AC_LANG_SOURCE([[$1{PROGRAM}]])],
   [$2{FOUND}], [$3{NOT-FOUND}], [$4{CROSS}])~idiom AC_TRY_CPP AC_TEST_CPP
@@ -547,7 +549,7 @@ AS_IF([test \"$prefix\" = NONE], [prefix=$1!{DIRECTORY}])~none AC_PREFIX_PROGRAM
 the user gives --prefix~idiom AS_VAR_SET
 $1!{VARIABLE}=\"$2{VALUE}\"~idiom AS_VAR_APPEND
 $1!{VARIABLE}=\"${$1!{VARIABLE}}$2{TEXT}\"~idiom AS_VAR_COPY
-$1!{VARIABLE}=$$2!{OTHER}~idiom AS_VAR_IF
+$1={VARIABLE}=$$2!{OTHER}~idiom AS_VAR_IF
 AS_IF([test \"$$1!{VARIABLE}\" = \"$2{VALUE}\"], [$3{THEN}], [$4{ELSE}])~idiom AS_VAR_TEST_SET
 test -n \"$$1!{VARIABLE}\"~idiom AS_VAR_SET_IF
 AS_IF([test -n \"$$1!{VARIABLE}\"], [$2{THEN}], [$3{ELSE}])~idiom AS_UNSET
@@ -569,7 +571,7 @@ only C compilers are tried: let the user give the compiler by AC_ARG_VAR~none LT
 there is no libtool: a rule of the Makefile links the library~drop LT_INIT LT_PREREQ AC_PROG_LIBTOOL AM_PROG_LIBTOOL AC_LIBTOOL_DLOPEN AC_LIBTOOL_WIN32_DLL AC_DISABLE_SHARED AC_DISABLE_STATIC AC_ENABLE_SHARED AC_ENABLE_STATIC AM_DISABLE_SHARED AM_DISABLE_STATIC AM_ENABLE_SHARED AM_ENABLE_STATIC
 there is no libtool: a rule of the Makefile links the library~none AM_CFLAGS AM_CPPFLAGS AM_LDFLAGS AM_CXXFLAGS AM_YFLAGS AM_LFLAGS AM_MAKEFLAGS AM_DEFAULT_VERBOSITY AC_FD_MSG AC_FD_CC
 a name that begins so is read as a macro: put it in brackets in an assignment, as [AM_CFLAGS]=\"-Wall\", or rename it~none gl_EARLY gl_INIT gl_gcc_warnings gl_MANYWARN_ALL_GCC gl_MANYWARN_COMPLEMENT gl_GCC_VERSION_IFELSE gl_WARN_ADD_MULTIPLE gl_LIBSOURCES gl_SET_LIBSOURCES
-gnulib is not read: check what the sources use by AC_CHECK_FUNCS and AC_CHECK_HEADERS~family AC_LIBTOOL_
+acrun doesn't support gnulib: check what the sources use by AC_CHECK_FUNCS and AC_CHECK_HEADERS~family AC_LIBTOOL_
 there is no libtool: a rule of the Makefile links the library~family AC_HEADER_
 check the header by AC_CHECK_HEADERS~family AC_STRUCT_
 compile a program that uses the member by AC_COMPILE_IFELSE~family AC_ERLANG_
@@ -583,12 +585,12 @@ it is of an archive of macros: write out the checks that its definition makes~fa
 no pkg-config is run: let the user give the flags by AC_ARG_VAR~family AX_
 it is of the Autoconf Archive: write out the checks that its definition makes~family CF_
 it is one of the package's own macros: write out the checks that its definition makes~family gl_
-gnulib is not read: check what the sources use by AC_CHECK_FUNCS and AC_CHECK_HEADERS~family gt_
-gettext is not read: check what the sources use by AC_CHECK_FUNCS and AC_SEARCH_LIBS~family LT_
+acrun doesn't support gnulib: check what the sources use by AC_CHECK_FUNCS and AC_CHECK_HEADERS~family gt_
+acrun doesn't support gettext: check what the sources use by AC_CHECK_FUNCS and AC_SEARCH_LIBS~family LT_
 there is no libtool: a rule of the Makefile links the library~family AM_
 there is no Automake: write a plain Makefile.in~family AH_
 its text is in config.h.in itself~family AS_
-write the shell statement that it makes, as far as acrun reads it~family AU_
+write the shell statement that it makes, as far as acrun supports it~family AU_
 write out what it expands to~family m4_
 write out what it expands to";
 

@@ -53,10 +53,27 @@ asks_automake text (arg ∷ more) = is_of_automake (arg_text text arg)
 abbrev pub is_ifdef : List ℕ → MacroCall → Bool
 is_ifdef text c = bytes_eq (part text c.start c.name_end) (codes "m4_ifdef") && asks_automake text c.args
 
--- The name that the table of macros has for a call: of macros that acrun reads, and of m4_ifdef, it says what they have. For
--- another macro it depends on the number of arguments. (own)
+-- The argument is `main`, in brackets or without. (own)
+abbrev pub is_main : List ℕ → Bool
+is_main arg = bytes_eq (trimmed arg) (codes "[main]") || bytes_eq (trimmed arg) (codes "main")
+
+-- The first argument is `main`. (own)
+abbrev pub asks_main : List ℕ → List Extent → Bool
+asks_main text [] = false
+asks_main text (arg ∷ more) = is_main (arg_text text arg)
+
+-- The call asks by AC_TRY_LINK_FUNC for `main`, which Autoconf calls without a declaration. (own)
+abbrev pub links_main : List ℕ → MacroCall → Bool
+links_main text c = bytes_eq (part text c.start c.name_end) (codes "AC_TRY_LINK_FUNC") && asks_main text c.args
+
+-- The name that the table of macros has for a call: of macros that acrun reads, of m4_ifdef, and of AC_TRY_LINK_FUNC of `main`, it says
+-- what they have. For another macro it depends on the number of arguments. (own)
 abbrev pub row_name : List ℕ → MacroCall → List ℕ
-row_name text c = if c.is_of_profile then read_name text c else if is_ifdef text c then codes "m4_ifdef(AM)" else entry_name (part text c.start c.name_end) (length c.args)
+row_name text c =
+    if c.is_of_profile then read_name text c
+    else if is_ifdef text c then codes "m4_ifdef(AM)"
+    else if links_main text c then codes "AC_TRY_LINK_FUNC(main)"
+    else entry_name (part text c.start c.name_end) (length c.args)
 
 -- What the table of macros puts in the place of a call: the text of an idiom, or nothing if the call has no meaning. (own)
 unfoldable pub put_for : List ℕ → MacroCall → Option (List ℕ)

@@ -1,17 +1,17 @@
 -- What the calls of a text become. The offsets are those of the text that is read. All of this is own.
 use Rattle.std.specs.Prelude.{◌≡◌, ◌⊎◌, ℕ, ◌+◌, ◌-◌, ◌<◌, ◌≤◌, ◌==◌, ◌||◌, ◌&&◌, nat_le, not, Bool, true, false, List, [], ◌∷◌, ◌++◌, length, slice_range, slice_index, slice_get, Some, Contains, bytes_eq, codes}
-use Rattle.std.specs.Char.{is_ascii_alphanumeric}
+use Rattle.std.specs.Char.{is_ascii_alphabetic, is_ascii_alphanumeric}
 use Rattle.std.specs.List.{list_all}
 use Rattle.lint_macros.specs.Around.{around}
 use Rattle.lint_macros.specs.Values.{front_or}
 use Rattle.ac_calls.specs.Calls.{MacroCall, calls_in}
 use Rattle.ac_calls.specs.declared.call.Extent.{Extent}
-use Rattle.port_idioms.specs.Filled.{text_of}
+use Rattle.port_idioms.specs.Filled.{ending, text_of}
 use Rattle.lint_macros.specs.Entries.{entry_of}
 use Rattle.lint_macros.specs.declared.text.TheConstants.{TABLE}
 use Rattle.port_idioms.specs.Rows.{put_by, Differs}
 use Rattle.port_idioms.specs.declared.idioms.Idioms.TheVariants.{Exact, All}
-use Rattle.port_calls.specs.Making.{IsMade, LacksVersion}
+use Rattle.port_calls.specs.Making.{IsMade, LacksVersion, is_name_byte}
 use Rattle.port_calls.specs.Put.{MayPut, arg_text, is_space, difference, below}
 use Rattle.port_idioms.specs.declared.idioms.Idioms.{Idioms}
 
@@ -43,9 +43,15 @@ is_basic word =
     bytes_eq word (codes "char") || bytes_eq word (codes "short") || bytes_eq word (codes "int") || bytes_eq word (codes "long")
     || bytes_eq word (codes "signed") || bytes_eq word (codes "unsigned") || bytes_eq word (codes "float") || bytes_eq word (codes "double")
 
+-- A letter or `_`.
+abbrev pub begins_name : ℕ → Bool
+begins_name b = is_ascii_alphabetic b || b == 95
+
 -- A name that ends in `_t`.
 abbrev pub ends_in_t : List ℕ → Bool
-ends_in_t word = nat_le 3 (length word) && slice_index word (length word - 2) == 95 && slice_index word (length word - 1) == 116
+ends_in_t word =
+    nat_le 3 (length word) && begins_name (slice_index word 0) && list_all is_name_byte word
+    && slice_index word (length word - 2) == 95 && slice_index word (length word - 1) == 116
 
 -- The text before the first space.
 abbrev pub first_part : List ℕ → List ℕ
@@ -55,11 +61,12 @@ first_part text = front_or text (around 32 text)
 abbrev pub is_type : List ℕ → Bool
 is_type text = list_all is_type_byte text && (is_basic (first_part text) || ends_in_t (first_part text))
 
--- The second argument of the call is a type.
+-- The second argument of the call is a type, with nothing after it but spaces.
 pub record HasDefault (text : List ℕ) (c : MacroCall) : Type 0 where
   pub default : Extent
   pub second : slice_get c.args 1 ≡ Some default
   pub type : is_type (text_of (Some (arg_text text default))) ≡ true
+  pub spaces : list_all is_type_byte (ending (arg_text text default)) ≡ true
 
 -- The call is AC_CHECK_TYPE of a type and a default, its old form.
 abbrev pub NamesDefault : List ℕ → MacroCall → Type 0

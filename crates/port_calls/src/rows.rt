@@ -83,8 +83,34 @@ fn is_ifdef(text: &[u8], call: &CallAt) -> bool
         && asks_automake(text, call.args.as_slice())
 }
 
-/// Returns the name that the table has for a call: of macros that acrun reads, and of m4_ifdef, it
-/// says what they have.
+/// Returns whether an argument is `main`, in brackets or without.
+fn is_main(arg: &[u8]) -> bool
+    ensures { result ≡ specs.is_main arg.now }
+{
+    let name = trim(arg);
+    is(name, b"[main]") || is(name, b"main")
+}
+
+/// Returns whether the first argument is `main`.
+fn asks_main(text: &[u8], args: &[Extent]) -> bool
+    ensures { result ≡ specs.asks_main text.now args.now }
+{
+    match args.split_first() {
+        Some((arg, _)) => is_main(part(text, arg.start, arg.end)),
+        None => false,
+    }
+}
+
+/// Returns whether the call asks by AC_TRY_LINK_FUNC for `main`.
+fn links_main(text: &[u8], call: &CallAt) -> bool
+    ensures { result ≡ specs.links_main text.now (macro_call_of call.now) }
+{
+    is(part(text, call.start, call.name_end), b"AC_TRY_LINK_FUNC")
+        && asks_main(text, call.args.as_slice())
+}
+
+/// Returns the name that the table has for a call: of macros that acrun reads, of m4_ifdef, and of
+/// AC_TRY_LINK_FUNC of `main`, it says what they have.
 pub(crate) fn name_of<'a>(text: &'a [u8], call: &CallAt) -> &'a [u8]
     ensures { result.now ≡ specs.row_name text.now (macro_call_of call.now) }
 {
@@ -92,6 +118,8 @@ pub(crate) fn name_of<'a>(text: &'a [u8], call: &CallAt) -> &'a [u8]
         read_name(text, call)
     } else if is_ifdef(text, call) {
         b"m4_ifdef(AM)"
+    } else if links_main(text, call) {
+        b"AC_TRY_LINK_FUNC(main)"
     } else {
         entry_name(part(text, call.start, call.name_end), call.args.len())
     }

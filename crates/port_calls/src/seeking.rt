@@ -28,7 +28,7 @@ use port_idioms::{Idioms, Other, other_of, text_of};
 use std::alloc::{AllocError, Global};
 use text_cut::{parts, trim};
 
-/// Returns whether the byte may be in a word that is searched for.
+/// Returns whether the byte may be in a name.
 fn is_name_byte(byte: u8) -> bool
     ensures { result ≡ specs.is_name_byte byte }
 {
@@ -36,7 +36,7 @@ fn is_name_byte(byte: u8) -> bool
 }
 
 /// Returns whether a text has nothing but such bytes.
-fn are_name_bytes(text: &[u8]) -> bool
+pub(crate) fn are_name_bytes(text: &[u8]) -> bool
     ensures { result ≡ list_all specs.is_name_byte text.now }
 {
     text.iter().all(|byte| is_name_byte(*byte))

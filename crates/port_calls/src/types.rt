@@ -4,13 +4,14 @@ ghost use Rattle.std.specs.Prelude.{◌≡◌, Some, None, codes, length, positi
 ghost use Rattle.std.specs.List.{list_all};
 ghost use Rattle.ac_calls.specs.Calls.{macro_call_of};
 ghost use Rattle.lint_macros.specs.Around.{around};
-ghost use Rattle.port_idioms.specs.Filled.{text_of};
+ghost use Rattle.port_idioms.specs.Filled.{ending, text_of};
 ghost use Rattle.port_calls.specs.Put.{arg_text};
 ghost use Rattle.port_calls.specs.Rewritten as specs;
 
+use crate::seeking::are_name_bytes;
 use ac_calls::{CallAt, Extent};
 use lint_text::part;
-use port_idioms::text_of;
+use port_idioms::{ending, text_of};
 
 /// Returns whether the byte may be in the name of a type.
 fn is_type_byte(byte: u8) -> bool
@@ -45,12 +46,23 @@ fn is_basic(word: &[u8]) -> bool
         || word == b"double".as_slice()
 }
 
-/// Returns whether a name ends in `_t`.
+/// Returns whether a name may begin with the byte.
+fn begins_name(byte: u8) -> bool
+    ensures { result ≡ specs.begins_name byte }
+{
+    byte.is_ascii_alphabetic() || byte == b'_'
+}
+
+/// Returns whether a text is a name that ends in `_t`.
 fn ends_in_t(word: &[u8]) -> bool
     ensures { result ≡ specs.ends_in_t word.now }
 {
     let len = word.len();
-    len >= 3 && word[len - 2] == b'_' && word[len - 1] == b't'
+    len >= 3
+        && begins_name(word[0])
+        && are_name_bytes(word)
+        && word[len - 2] == b'_'
+        && word[len - 1] == b't'
 }
 
 /// Returns the offset of the first space.
@@ -96,18 +108,21 @@ fn second_argument(call: &CallAt) -> Option<Extent>
     call.args.get(1).copied()
 }
 
-/// Returns whether an argument is a type.
+/// Returns whether an argument is a type, with nothing after it but spaces.
 fn is_default(text: &[u8], arg: Extent) -> bool
-    ensures { IsTrue result
+    ensures kind { IsTrue result
         → specs.is_type (text_of (Some (arg_text text.now arg))) ≡ true }
+    ensures spaces { IsTrue result
+        → list_all specs.is_type_byte (ending (arg_text text.now arg)) ≡ true }
 {
-    match text_of(part(text, arg.start, arg.end)) {
-        Some(inner) => is_type(inner),
+    let written = part(text, arg.start, arg.end);
+    match text_of(written) {
+        Some(inner) => is_type(inner) && are_type_bytes(ending(written)),
         None => false,
     }
 }
 
-/// Returns whether the second argument of the call is a type.
+/// Returns whether the second argument of the call is a type, with nothing after it but spaces.
 fn has_default(text: &[u8], call: &CallAt) -> bool
     ensures { IsTrue result → specs.HasDefault text.now (macro_call_of call.now) }
 {

@@ -1,14 +1,14 @@
 -- An idiom with the arguments of a call. A place of an idiom is `$`, a digit from 1 to 9, perhaps the sign of a form, and a
 -- word in braces. The digit counts arguments.
-use Rattle.std.specs.Prelude.{ℕ, List, [], ◌∷◌, ◌++◌, map, slice_get, Option, Some, None, option_map}
+use Rattle.std.specs.Prelude.{ℕ, List, [], ◌∷◌, ◌++◌, length, map, not, Bool, true, false, position, slice_get, slice_range, Option, Some, None, option_map, if◌then◌else◌}
 use Rattle.std.specs.List.{flat_map}
-use Rattle.text_cut.specs.Cuts.{parts, trimmed}
+use Rattle.text_cut.specs.Cuts.{is_blank, parts, trimmed}
 use Rattle.m4quote.specs.Names.{sh_byte, cpp_byte}
 use Rattle.lint_macros.specs.Around.{around}
 use Rattle.lint_macros.specs.Places as places
 use Rattle.lint_macros.specs.Values.{unquoted}
 use Rattle.lint_macros.specs.declared.place.Form.{Form}
-use Rattle.lint_macros.specs.declared.place.Form.TheVariants.{AsItIs, OneWord, ShellName, Symbol, Front, Rest}
+use Rattle.lint_macros.specs.declared.place.Form.TheVariants.{AsItIs, Whole, OneWord, WholeWord, ShellName, Symbol, Front, Rest}
 use Rattle.lint_macros.specs.declared.place.HoleSource.{HoleSource}
 use Rattle.lint_macros.specs.declared.place.HoleSource.TheVariants.{Argument, All}
 use Rattle.port_idioms.specs.declared.filling.Place.{Place as Cut}
@@ -47,6 +47,42 @@ abbrev pub text_of : Option (List ℕ) → List ℕ
 text_of (Some argument) = unquoted (trimmed argument)
 text_of None = []
 
+-- No blank. (own)
+abbrev pub is_shown : ℕ → Bool
+is_shown b = not (is_blank b)
+
+-- The text from this offset on; nothing if there is none. (own)
+abbrev pub from_offset : List ℕ → Option ℕ → List ℕ
+from_offset text (Some at) = slice_range text at (length text)
+from_offset text None = []
+
+-- An argument without the blanks before it, which m4 drops. (manual, "Macro Arguments" of GNU M4)
+abbrev pub begun : List ℕ → List ℕ
+begun argument = from_offset argument (position is_shown argument)
+
+-- What is left of a text after a part of this length. (own)
+abbrev pub rest_after : List ℕ → List ℕ → List ℕ
+rest_after text front = slice_range text (length front) (length text)
+
+-- The blanks after an argument, which are a part of it for m4. (manual, "Macro Arguments" of GNU M4)
+abbrev pub ending : List ℕ → List ℕ
+ending argument = rest_after (begun argument) (trimmed (begun argument))
+
+-- The blanks after an argument that may be given. (own)
+abbrev pub ending_of : Option (List ℕ) → List ℕ
+ending_of (Some argument) = ending argument
+ending_of None = []
+
+-- A place of this form takes the blanks after the argument. (own)
+abbrev pub takes_blanks : Form → Bool
+takes_blanks Whole = true
+takes_blanks WholeWord = true
+takes_blanks form = false
+
+-- The blanks that are put in a place of this form after the argument. (own)
+abbrev pub ending_for : Form → Option (List ℕ) → List ℕ
+ending_for form argument = if takes_blanks form then ending_of argument else []
+
 -- The text before a byte. (own)
 abbrev pub front_of : Option (List ℕ × List ℕ) → List ℕ
 front_of (Some (front, rest)) = front
@@ -61,15 +97,17 @@ rest_of None = []
 -- before or after its first dot. (own)
 abbrev pub formed : Form → List ℕ → List ℕ
 formed AsItIs text = text
+formed Whole text = text
 formed OneWord text = text
+formed WholeWord text = text
 formed ShellName text = map sh_byte text
 formed Symbol text = map cpp_byte text
 formed Front text = front_of (around 46 text)
 formed Rest text = rest_of (around 46 text)
 
--- What is put in a place of a call with these arguments. (own)
+-- What is put in a place of a call with these arguments: the argument in the form, and perhaps the blanks after it. (own)
 abbrev pub value : Place → List (List ℕ) → List ℕ
-value p args = formed p.form (text_of (slice_get args p.index))
+value p args = formed p.form (text_of (slice_get args p.index)) ++ ending_for p.form (slice_get args p.index)
 
 -- What a `$` and the text after it become: if that text begins with a place, the place's argument and the rest;
 -- otherwise they stay. (own)

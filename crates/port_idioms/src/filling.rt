@@ -12,7 +12,7 @@ use lint_macros::{Form, HoleSource};
 use lint_text::is_word_byte;
 use m4quote::{cpp_name, sh_name};
 use std::alloc::{AllocError, Global};
-use text_cut::{parts, trim};
+use text_cut::{is_blank, parts, trim};
 
 /// What the names of macros begin with.
 const FRONTS: [&[u8]; 13] = [
@@ -162,6 +162,79 @@ fn place_of(text: &[u8]) -> Option<Place<'_>>
     })
 }
 
+/// Returns whether the byte is no blank.
+fn is_shown(byte: u8) -> bool
+    ensures { result ≡ specs.is_shown byte }
+{
+    !is_blank(byte)
+}
+
+/// Returns the offset of the first byte that is no blank.
+fn first_shown(text: &[u8]) -> Option<usize>
+    ensures value { result ≡ position specs.is_shown text.now }
+    ensures within { IfSome result (λ i. i < length text.now) }
+{
+    text.iter().position(|byte| is_shown(*byte))
+}
+
+/// Returns an argument without the blanks before it.
+fn begun(argument: &[u8]) -> &[u8]
+    ensures { result.now ≡ specs.begun argument.now }
+{
+    match first_shown(argument) {
+        Some(at) => &argument[at..argument.len()],
+        None => b"",
+    }
+}
+
+/// Returns the blanks after an argument, which are a part of it for m4.
+pub fn ending(argument: &[u8]) -> &[u8]
+    ensures blanks { result.now ≡ specs.ending argument.now }
+{
+    let text = begun(argument);
+    let written = trim(text);
+    &text[written.len()..text.len()]
+}
+
+/// Returns the blanks after the argument of an index.
+fn ending_of<'a>(args: &[&'a [u8]], index: usize) -> &'a [u8]
+    ensures { result.now ≡ specs.ending_of (slice_get (map (λ a. a.now) args.now) index) }
+{
+    match args.get(index) {
+        Some(argument) => ending(argument),
+        None => b"",
+    }
+}
+
+/// Returns whether a place of this form takes the blanks after the argument.
+fn takes_blanks(form: Form) -> bool
+    ensures { result ≡ specs.takes_blanks form }
+{
+    match form {
+        Form::Whole => true,
+        Form::WholeWord => true,
+        Form::AsItIs => false,
+        Form::OneWord => false,
+        Form::ShellName => false,
+        Form::Symbol => false,
+        Form::Front => false,
+        Form::Rest => false,
+    }
+}
+
+/// Returns the blanks that are put in a place after its argument.
+fn ending_at<'a>(args: &[&'a [u8]], place: &Place<'_>) -> &'a [u8]
+    ensures { result.now
+        ≡ specs.ending_for place.now.form
+        (slice_get (map (λ a. a.now) args.now) place.now.index) }
+{
+    if takes_blanks(place.form) {
+        ending_of(args, place.index)
+    } else {
+        b""
+    }
+}
+
 /// Returns whether the byte may be in a text that a name is made of.
 fn is_plain_byte(byte: u8) -> bool {
     byte.is_ascii_alphanumeric()
@@ -194,11 +267,13 @@ fn around_dot(text: &[u8]) -> Option<(&[u8], &[u8])>
     }
 }
 
-/// Returns whether a text can have a form.
-fn can_have(form: Form, text: &[u8]) -> bool {
+/// Returns whether a text with these blanks after it can have a form.
+fn can_have(form: Form, text: &[u8], blanks: &[u8]) -> bool {
     match form {
         Form::AsItIs => true,
+        Form::Whole => true,
         Form::OneWord => is_word(text),
+        Form::WholeWord => is_word(text) && blanks.is_empty(),
         _ => is_plain(text),
     }
 }
@@ -254,12 +329,33 @@ fn put_formed(alloc: Global, out: &mut Vec<u8>, form: Form, text: &[u8]) -> Resu
 {
     match form {
         Form::AsItIs => out.extend_from_slice(text)?,
+        Form::Whole => out.extend_from_slice(text)?,
         Form::OneWord => out.extend_from_slice(text)?,
+        Form::WholeWord => out.extend_from_slice(text)?,
         Form::ShellName => put_shell_name(alloc, out, text)?,
         Form::Symbol => put_symbol(alloc, out, text)?,
         Form::Front => return put_front(out, text),
         Form::Rest => return put_rest(out, text),
     }
+    Ok(true)
+}
+
+/// Appends the text in a form, and the blanks after it. Returns whether it can have the form.
+fn put_ended(
+    alloc: Global,
+    out: &mut Vec<u8>,
+    form: Form,
+    text: &[u8],
+    blanks: &[u8],
+) -> Result<bool, AllocError>
+    ensures { IfOk result (λ b.
+        IsTrue b
+        → out.new.items ≡ out.old.items ++ (specs.formed form text.now ++ blanks.now)) }
+{
+    if !put_formed(alloc, out, form, text)? {
+        return Ok(false);
+    }
+    out.extend_from_slice(blanks)?;
     Ok(true)
 }
 
@@ -276,8 +372,11 @@ fn put_value(
         → out.new.items
         ≡ out.old.items ++ specs.value (specs.seen place.now) (map (λ a. a.now) args.now)) }
 {
+    let blanks = ending_at(args, place);
     match text_at(args, are_text, place.index) {
-        Some(text) if can_have(place.form, text) => put_formed(alloc, out, place.form, text),
+        Some(text) if can_have(place.form, text, blanks) => {
+            put_ended(alloc, out, place.form, text, blanks)
+        }
         _ => Ok(false),
     }
 }
@@ -430,8 +529,9 @@ fn put_lines(
 /// Returns an idiom with the arguments in their places and the indent at the front of each line but
 /// the first, or `None` if one can't be put there.
 ///
-/// An argument is put in its place without the blanks and the pair of brackets around it. If it has
-/// no brackets, a word of it may be a macro of the package, unless the words are taken for text.
+/// An argument is put in its place without the blanks and the pair of brackets around it, but with
+/// the blanks after it if the place asks for them. If it has no brackets, a word of it may be a
+/// macro of the package, unless the words are taken for text.
 #[tactic(auto, unfolding(crate::specs::Filled::filled))]
 pub fn filled(
     alloc: Global,

@@ -4,7 +4,8 @@
 //!
 //! An idiom is written for some numbers of arguments. An argument is put into it only if the text
 //! that m4 puts in its place is known without a definition of any macro, or with one of none of the
-//! package's own if the caller says so.
+//! package's own if the caller says so. For m4 the blanks after an argument are a part of it. They are
+//! put into the places where they may matter, and one that has to be a word is not filled then.
 //!
 //! ```text
 //! exact_of(alloc, &index, b"AC_HAVE_FUNCS", 1)?             // the idiom AC_CHECK_FUNCS([$1{FUNCTIONS}])
@@ -23,5 +24,5 @@ mod rows;
 mod table;
 
 pub use exact::{Exact, Other, exact_of, other_of};
-pub use filling::{filled, text_of};
+pub use filling::{ending, filled, text_of};
 pub use idioms::Idioms;

@@ -63,6 +63,7 @@ AC_TRY_COMPILE 2 4
 AC_TRY_CPP 1 3
 AC_TRY_LINK 2 4
 AC_TRY_LINK_FUNC 1 3
+AC_TRY_LINK_FUNC(main) 1 3
 AC_TRY_RUN 1 4
 AC_TYPE_MODE_T 0 0
 AC_TYPE_OFF_T 0 0
@@ -204,7 +205,7 @@ AC_STRUCT_TIMEZONE 0 0 the programs are others, and struct tm is taken to be in 
 AC_ST_BLKSIZE 0 0 the headers that Autoconf includes are taken to be there
 AC_ST_BLOCKS 0 0 the object is in EXTRA_OBJS and not in LIBOBJS, and the headers that Autoconf includes are taken to be there
 AC_ST_RDEV 0 0 the headers that Autoconf includes are taken to be there
-AC_SYS_LARGEFILE 0 0 _FILE_OFFSET_BITS is defined on each system, and --disable-largefile is not read
+AC_SYS_LARGEFILE 0 0 _FILE_OFFSET_BITS is defined on each system, and --disable-largefile does nothing
 AC_SYS_LONG_FILE_NAMES 0 0 HAVE_LONG_FILE_NAMES is defined without a check
 AC_TIMEZONE 0 0 the programs are others, and struct tm is taken to be in time.h
 AC_TIME_WITH_SYS_TIME 0 0 TIME_WITH_SYS_TIME is defined without a check, and sys/time.h is looked for here alone

@@ -16,7 +16,7 @@ said AC_SUBST_FILE => none AC_SUBST_FILE [put the text of the file into the temp
 said AC_FUNC_NEW => family AC_FUNC_ [check the function by AC_CHECK_FUNCS]
 said AM_PATH_NEW => family AM_PATH_ [let the user give the flags by AC_ARG_VAR, and link a program with them]
 said AC_FUNC_VPRINT => family AC_FUNC_ [check the function by AC_CHECK_FUNCS]
-said AC_INIT(file) => idiom AC_INIT(file) [AC_INIT([], [])^JAC_CONFIG_SRCDIR([$1{FILE}])]
+said AC_INIT(file) => idiom AC_INIT(file) [AC_INIT([], [])^JAC_CONFIG_SRCDIR([$1+{FILE}])]
 said AC_SUBST => nothing
 said AC_SUBST_FILES => nothing
 said  => nothing
@@ -34,6 +34,9 @@ fill $9{A} $0{A} $1A $1?{A} $1{A $ $$1{A}%x => [A $0{A} $1A $1?{A} $1{A $ $x]
 fill $1_{A} $1!{A} $1<{A} $1>{A}%[struct s.m+] => [struct_s_mp A struct s m+]
 fill $1!{A} $1<{B} $1>{C}%void* => [void* B C]
 fill $1_{A} $1!{A}%[-std=gnu99] => [_std_gnu99 -std=gnu99]
+fill $1+{A} $1={A}%[x^J]%y => [x x]
+fill $1+{A} $1={B} $2={C}%[x y]%z => [x y B z]
+fill $1+{A} $1={B}%$x => [A B]
 fill X($@{ALL})%[a]%b c => [X([a], [b c])]
 fill X($@{ALL})%[a]%$b => [X(ALL)]
 fill $CC \"$CC -E\" ${INSTALL}%x => [$CC \"$CC -E\" ${INSTALL}]
