@@ -293,6 +293,12 @@ def of_idioms(found, ported):
     return {name: it for name, it in found.items() if not is_printed.match(name) and name not in unset}
 
 
+def stop_alike(before, after):
+    """Returns whether two runs stop by the same error. What each has left by then goes by the order of definitions, which may differ."""
+    errors = [[it for it in run["standard error"] if it.startswith("configure: error: ")] for run in (before, after)]
+    return before["status"] == after["status"] != 0 and errors[0] == errors[1] != []
+
+
 def of_statements(found):
     """Returns the differences without those that are stated of statements of the shell, which --idioms rewrites."""
     for it in (OF_EXIT, OF_UNSET, OF_EQUALS):
@@ -517,7 +523,7 @@ def compared(room, text, ported, settings, switches, program=""):
             continue
         runs = [left(room, it, setting, names, assigned, defined, creates) for it in dict.fromkeys(bodies)]
         runs = [runs[0], runs[-1]]
-        differs = differences(*runs)
+        differs = {} if has_other_idiom and stop_alike(*runs) else differences(*runs)
         differs = of_idioms(differs, bodies[1]) if has_other_idiom else of_statements(differs) if switches == IDIOMS else differs
         differs = {name: it for name, it in differs.items() if not is_stated(name, patterns, it[0])}
         if any("yntax error" in it for it in runs[0]["standard error"]):
