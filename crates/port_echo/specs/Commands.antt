@@ -1,6 +1,8 @@
 -- A command of a shell on a line of its own. The offsets are those of the text. All of this is own.
-use Rattle.std.specs.Prelude.{◌≡◌, ◌⊎◌, ℕ, ◌-◌, ◌<◌, ◌≤◌, List, ◌∷◌, [], ◌++◌, length, slice_index, slice_range, codes}
+use Rattle.std.specs.Prelude.{◌≡◌, ◌⊎◌, ℕ, ◌-◌, ◌<◌, ◌≤◌, ◌==◌, Bool, false, List, ◌∷◌, [], ◌++◌, length, slice_index, slice_range, codes}
+use Rattle.std.specs.List.{list_any}
 use Rattle.port_compounds.specs.Places.{AreSpaces}
+use Rattle.port_echo.specs.Echo.{Prints}
 
 -- Between the first and the last of these offsets is a line, which has only spaces, and this command at offset `at`.
 pub record IsCommandLine (text : List ℕ) (start at end : ℕ) (command : List ℕ) : Type 0 where
@@ -14,3 +16,13 @@ pub record IsCommandLine (text : List ℕ) (start at end : ℕ) (command : List 
 abbrev pub IsBlankEcho : List ℕ → Type 0
 IsBlankEcho command =
     (command ≡ codes "echo") ⊎ (command ≡ codes "echo " ++ (34 ∷ 34 ∷ [])) ⊎ (command ≡ codes "echo " ++ (39 ∷ 39 ∷ []))
+
+-- A space. (own)
+abbrev pub is_gap : ℕ → Bool
+is_gap b = b == 32
+
+-- The text is one word of which it is known what `echo` prints: it has no space, or it begins with a quote.
+pub record IsOneWord (text : List ℕ) : Type 0 where
+  pub message : List ℕ
+  pub prints : Prints text message
+  pub one : (list_any is_gap text ≡ false) ⊎ ((slice_index text 0 ≡ 34) ⊎ (slice_index text 0 ≡ 39))

@@ -9,7 +9,8 @@
 //! echo_message(b"echo a > b", 0, 0, 10)            // None
 //! ```
 //!
-//! [`line_command`] returns the command of a line, whatever it is.
+//! [`line_command`] returns the command of a line, whatever it is. [`message_of`] reads what is given
+//! to `echo` alone, and [`is_one_word`] a single word.
 //!
 //! Read `specs/Echo` and `specs/Commands`, and then this crate from `printed` on. No call allocates, and none fails. "own"
 //! marks a rule that no manual gives.
@@ -21,3 +22,4 @@ mod printed;
 
 pub use command::{is_blank_echo, line_command};
 pub use line::echo_message;
+pub use printed::{is_one_word, message_of};

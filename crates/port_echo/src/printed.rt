@@ -1,7 +1,8 @@
 //! What is printed of the words that are given to `echo`.
 
-ghost use Rattle.std.specs.Prelude.{◌≡◌, ◌≤◌, ◌+◌, ◌==◌, ◌||◌, ◌∷◌, ◌++◌, [], false, length, slice_range, IfSome, IsTrue};
-ghost use Rattle.std.specs.List.{list_all};
+ghost use Rattle.std.specs.Prelude.{◌≡◌, ◌⊎◌, ◌≤◌, ◌+◌, ◌==◌, ◌||◌, ◌∷◌, ◌++◌, [], false, length, slice_index, slice_range, IfSome, IsTrue};
+ghost use Rattle.std.specs.List.{list_all, list_any};
+ghost use Rattle.port_echo.specs.Commands as words;
 ghost use Rattle.port_echo.specs.Echo as specs;
 
 use port_compounds::has_dnl;
@@ -154,8 +155,9 @@ fn is_message(text: &[u8]) -> bool
     0 < text.len() && text[0] != b'-' && !has_dnl(text)
 }
 
-/// Returns the message that is printed of the words that are given to `echo`, if that is known.
-pub(crate) fn message_of(text: &[u8]) -> Option<&[u8]>
+/// Returns the message that `echo` prints of a text, which is what it is given, or `None` if that
+/// isn't known or can't be a message.
+pub fn message_of(text: &[u8]) -> Option<&[u8]>
     ensures { IfSome result (λ m. specs.Prints text.now m.now × specs.IsMessage m.now) }
 {
     let message = printed_of(text)?;
@@ -163,5 +165,47 @@ pub(crate) fn message_of(text: &[u8]) -> Option<&[u8]>
         Some(message)
     } else {
         None
+    }
+}
+
+/// Returns whether a text has a space.
+fn has_space(text: &[u8]) -> bool
+    ensures { result ≡ list_any words.is_gap text.now }
+{
+    text.iter().any(|byte| *byte == b' ')
+}
+
+/// Returns whether a text begins with a byte.
+fn begins_with(text: &[u8], byte: u8) -> bool
+    ensures { IsTrue result → slice_index text.now 0 ≡ byte }
+{
+    0 < text.len() && text[0] == byte
+}
+
+/// Returns whether a text has no space, or begins with a quote.
+fn is_one(text: &[u8]) -> bool
+    ensures { IsTrue result
+        → (list_any words.is_gap text.now ≡ false)
+        ⊎ ((slice_index text.now 0 ≡ 34) ⊎ (slice_index text.now 0 ≡ 39)) }
+{
+    !has_space(text) || begins_with(text, b'"') || begins_with(text, b'\'')
+}
+
+/// Returns whether a text of which this is printed is one word.
+fn is_one_of(text: &[u8], message: &[u8]) -> bool
+    requires { specs.Prints text.now message.now }
+    ensures { IsTrue result → words.IsOneWord text.now }
+{
+    let _ = message;
+    is_one(text)
+}
+
+/// Returns whether a text is one word of which it is known what `echo` prints.
+pub fn is_one_word(text: &[u8]) -> bool
+    ensures { IsTrue result → words.IsOneWord text.now }
+{
+    match printed_of(text) {
+        Some(message) => is_one_of(text, message),
+        None => false,
     }
 }

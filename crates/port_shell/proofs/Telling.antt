@@ -1,10 +1,11 @@
 -- What one step of telling makes.
 use Rattle.std.proofs.Common.{◌≡◌, ℕ, ◌≤◌, List, [], ◌∷◌, ◌++◌, length, Result, Ok, Err, is_ok, OnOk, if◌then◌else◌, slice_range, sym, subst, ap, ◌∙◌, arith}
 use Rattle.std.specs.Prelude.{codes}
-use Rattle.port_echo.specs.Echo.{IsEcho}
+use Rattle.port_echo.specs.Echo.{IsEcho, IsMessage, Prints}
 use Rattle.port_echo.specs.Commands.{IsCommandLine}
-use Rattle.port_shell.specs.Calls.{IsPut}
-use Rattle.port_shell.specs.Told.{IsToldTo, Speaks, Unsets, noted, noted_so}
+use Rattle.lint_errors.specs.Errors.{IsAccepted}
+use Rattle.port_shell.specs.Calls.{IsPut, source_with}
+use Rattle.port_shell.specs.Told.{IsToldTo, IsEchoThen, IsExit, Fails, Speaks, Unsets, Appends, noted, noted_so, longer}
 use Rattle.port_shell.specs.Told as specs
 
 pub told_bound : (text : List ℕ) (at : ℕ) (out : List ℕ) → IsToldTo text at out → at ≤ length text
@@ -13,6 +14,7 @@ told_bound text at out (specs.IsToldTo.copied next before from to) = to
 told_bound text at out (specs.IsToldTo.told echo end message call before is puts) = is.line.order.2
 told_bound text at out (specs.IsToldTo.spoken place end command name args said call before is speaks puts) = is.order.2
 told_bound text at out (specs.IsToldTo.cleared place end command name before is unsets) = is.order.2
+told_bound text at out (specs.IsToldTo.appended place end command name word before is appends accepted) = is.order.2
 
 pub told_step : (text : List ℕ) (read : ℕ) (out : List ℕ) (start at end : ℕ) (message call put : List ℕ) (new_at : ℕ) (new : List ℕ)
     → IsToldTo text read out → IsEcho text start at end message → IsPut (codes "AC_MSG_RESULT") (message ∷ []) call → read ≤ start → start ≤ length text
@@ -42,3 +44,22 @@ cleared_step text read out start at end command name put new_at new before is un
     subst (λ a. IsToldTo text a new) (sym at_is)
     (subst (IsToldTo text end) (sym (new_is ∙ ap (λ p. (out ++ slice_range text read start) ++ p) put_is))
     (specs.IsToldTo.cleared at end command name (specs.IsToldTo.copied start before from within) is unsets))
+
+pub appended_step : (text : List ℕ) (read : ℕ) (out : List ℕ) (start at end : ℕ) (command name word put : List ℕ) (new_at : ℕ) (new : List ℕ)
+    → IsToldTo text read out → IsCommandLine text start at end command → Appends command name word → IsAccepted (source_with (longer name word)) → read ≤ start → start ≤ length text
+    → put ≡ noted_so (slice_range text start at) (codes "+=: some shells take it for a command") (longer name word)
+    → (new_at ≡ end) × (new ≡ (out ++ slice_range text read start) ++ put) → IsToldTo text new_at new
+appended_step text read out start at end command name word put new_at new before is appends accepted from within put_is (at_is, new_is) =
+    subst (λ a. IsToldTo text a new) (sym at_is)
+    (subst (IsToldTo text end) (sym (new_is ∙ ap (λ p. (out ++ slice_range text read start) ++ p) put_is))
+    (specs.IsToldTo.appended at end command name word (specs.IsToldTo.copied start before from within) is appends accepted))
+
+-- A message and a status that the command ends with.
+pub failing : (command : List ℕ) (to from : ℕ) (message status : List ℕ) → IsEchoThen command to from → IsExit command from status
+    → Prints (slice_range command 5 to) message × IsMessage message → Speaks command (codes "AC_MSG_ERROR") (message ∷ status ∷ []) (codes "echo and exit: the message is an error")
+failing command to from message status front exits (prints, shown) =
+    specs.Speaks.fails message status (record { to = to; from = from; front = front; prints = prints; can_be_shown = shown; exits = exits })
+
+-- The parts of a command that `+=` is between.
+pub joined_by : (command name rest word : List ℕ) → command ≡ name ++ rest → rest ≡ codes "+=" ++ word → command ≡ name ++ (codes "+=" ++ word)
+joined_by command name rest word split is = split ∙ ap (λ r. name ++ r) is

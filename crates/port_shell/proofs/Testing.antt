@@ -1,17 +1,18 @@
 -- What one step of a pass over conditions makes.
-use Rattle.std.proofs.Common.{◌≡◌, ℕ, ◌<◌, ◌≤◌, List, ◌++◌, length, slice_range, sym, subst, ap, ◌∙◌, true, map, get_or, arith}
+use Rattle.std.proofs.Common.{◌≡◌, ℕ, ◌<◌, ◌≤◌, List, ◌∷◌, ◌++◌, length, slice_range, sym, subst, ap, ◌∙◌, true, map, get_or, arith}
 use Rattle.std.specs.Prelude.{Contains}
 use Rattle.std.proofs.lemmas.List.{get_or-map, length-map}
 use Rattle.std.proofs.lemmas.List.Elements.{Contains-get_or}
 use Rattle.ac_calls.specs.declared.call.CallAt.{CallAt}
 use Rattle.ac_calls.specs.Calls.{MacroCall, macro_call_of}
 use Rattle.std.specs.List.{list_all}
+use Rattle.port_compounds.specs.Guards.{IsGuarded}
 use Rattle.port_compounds.specs.Places.{is_space}
 use Rattle.port_idioms.specs.declared.idioms.Idioms.{Idioms}
 use Rattle.port_idioms.specs.declared.idioms.Idioms.TheVariants.{All}
 use Rattle.port_joints.specs.Joints.{Becomes}
 use Rattle.port_joints.specs.Spelled.{IsRespelled}
-use Rattle.port_shell.specs.Formed.{IsPass, IsTestAt, AreOrdered, spelled_so}
+use Rattle.port_shell.specs.Formed.{IsPass, IsTestAt, IsListTest, AreOrdered, spelled_so}
 use Rattle.port_shell.specs.Formed as specs
 
 pub tested_step : (idioms : Idioms) (text : List ℕ) (at : ℕ) (out : List ℕ) (start from to : ℕ) (put : List ℕ) (new_at : ℕ) (new : List ℕ)
@@ -36,3 +37,14 @@ has_call calls all i c is lt here =
     let within : i < length (map macro_call_of calls) = subst (λ n. i < n) (sym (length-map calls macro_call_of)) lt in
     let found : get_or (map macro_call_of calls) i (macro_call_of c) ≡ macro_call_of c = get_or-map macro_call_of calls i c (macro_call_of c) lt ∙ ap macro_call_of (sym here) in
     subst (λ l. Contains l (macro_call_of c)) is (subst (Contains (map macro_call_of calls)) found (Contains-get_or (map macro_call_of calls) i (macro_call_of c) within))
+
+-- A statement at this offset, whose first part is between these offsets.
+pub list_test : (text first : List ℕ) (rest : List (List ℕ)) (cut_start end start from to : ℕ) → IsGuarded text cut_start end (first ∷ rest) → cut_start ≡ start → start ≡ from
+    → first ≡ slice_range text from to → IsListTest text start from to
+list_test text first rest cut_start end start from to is here begins same =
+    record { end = end; rest = rest; begins = begins; is = subst (λ s. IsGuarded text s end (slice_range text from to ∷ rest)) here (subst (λ p. IsGuarded text cut_start end (p ∷ rest)) same is) }
+
+-- The parts of a statement with a first one.
+pub first_part : {V : Type 0} (view : V → List ℕ) (text : List ℕ) (start end : ℕ) (parts rest : List V) (first : V) → parts ≡ first ∷ rest → IsGuarded text start end (map view parts)
+    → IsGuarded text start end (view first ∷ map view rest)
+first_part view text start end parts rest first split is = subst (λ p. IsGuarded text start end (map view p)) split is

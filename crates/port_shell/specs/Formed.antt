@@ -46,10 +46,18 @@ pub record IsCallTest (text : List ℕ) (start from to : ℕ) : Type 0 where
   pub opened : (arg.start + 1 ≡ from) × (slice_index text arg.start ≡ 91)
   pub closed : (to < arg.end) × (slice_index text to ≡ 93)
 
--- One of the two is at the first of these offsets.
+-- A statement that a condition guards is at the first of these offsets, and begins with the condition, which is between the other two.
+pub record IsListTest (text : List ℕ) (start from to : ℕ) : Type 0 where
+  pub end : ℕ
+  pub rest : List (List ℕ)
+  pub begins : start ≡ from
+  pub is : IsGuarded text start end (slice_range text from to ∷ rest)
+
+-- One of the three is at the first of these offsets.
 pub data IsTestAt (text : List ℕ) (start from to : ℕ) : Type 0 where
   of_if : IsIfTest text start from to → IsTestAt text start from to
   of_call : IsCallTest text start from to → IsTestAt text start from to
+  of_list : IsListTest text start from to → IsTestAt text start from to
 
 -- The offsets are in this order.
 abbrev pub AreOrdered : List ℕ → ℕ → ℕ → ℕ → Type 0
@@ -62,8 +70,9 @@ spelled_so indent = codes "dnl acrun: in place of ==, -eq or -ne: the words are 
 -- One pass over a text has read so much of it, and written this. Everything is copied, but an `if` may become the call of AS_IF with the
 -- same conditions and bodies in the same order, and a `case` that of AS_CASE with the same word, patterns and bodies.
 -- If the text reads no status of a command, a statement after `&&` or `||` may become the call of AS_IF with its condition and itself. In a
--- condition of AS_IF, `-a` and `-o` of `test` may become `&&` and `||`. If all idioms are wanted, a comment may be right before the call, and
--- in a condition of an `if` or of AS_IF `==`, `-eq` and `-ne` may be spelled otherwise, with a comment right before the statement.
+-- condition, `-a` and `-o` of `test` may become `&&` and `||`. If all idioms are wanted, a comment may be right before the call, and in a
+-- condition of an `if`, of AS_IF or of a guarded statement `==`, `-eq` and `-ne` may be spelled otherwise, with a comment right before the
+-- statement.
 pub data IsPass (idioms : Idioms) (text : List ℕ) : ℕ → List ℕ → Type 0 where
   begun : IsPass idioms text 0 []
   copied : {at : ℕ} {out : List ℕ} (next : ℕ) → IsPass idioms text at out → at ≤ next → next ≤ length text → IsPass idioms text next (out ++ slice_range text at next)

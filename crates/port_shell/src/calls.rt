@@ -174,7 +174,7 @@ fn has_no_errors(alloc: Global, source: &[u8]) -> Result<bool, AllocError>
 }
 
 /// Returns whether acrun accepts a source with this statement alone.
-fn is_accepted(alloc: Global, text: &[u8]) -> Result<bool, AllocError>
+pub(crate) fn is_accepted(alloc: Global, text: &[u8]) -> Result<bool, AllocError>
     ensures { IfOk result (λ b. IsTrue b → IsAccepted (specs.source_with text.now)) }
 {
     let source = source_with(alloc, text)?;

@@ -1,14 +1,18 @@
 //! Lines with another command than an `echo` that prints something.
 
-ghost use Rattle.std.specs.Prelude.{◌≡◌, ◌≤◌, ◌<◌, ◌∷◌, ◌++◌, [], true, List, ℕ, map, length, slice_range, codes, IfOk, IfSome, OnOk, IsTrue};
+ghost use Rattle.std.specs.Prelude.{◌≡◌, ◌≤◌, ◌<◌, ◌∷◌, ◌++◌, [], true, false, List, ℕ, map, length, slice_index, slice_range, codes, IfOk, IfSome, OnOk, IsTrue};
 ghost use Rattle.std.specs.List.{list_all};
+ghost use Rattle.lint_errors.specs.Errors.{IsAccepted};
 ghost use Rattle.port_echo.specs.Commands.{IsCommandLine};
-ghost use Rattle.port_shell.specs.Calls.{IsPut};
+ghost use Rattle.port_echo.specs.Echo.{IsMessage, Prints};
+ghost use Rattle.port_shell.specs.Calls.{IsPut, source_with};
 ghost use Rattle.port_shell.specs.Told as specs;
 
-use crate::calls::accepted_call;
+use crate::calls::{accepted_call, is_accepted};
 use crate::passing::{Pass, write_change};
-use port_echo::{is_blank_echo, line_command};
+use lint_text::part;
+use port_compounds::{are_spaces, is_word};
+use port_echo::{is_blank_echo, is_one_word, line_command, message_of};
 use std::alloc::{AllocError, Global};
 
 /// What the comments begin with.
@@ -298,6 +302,420 @@ fn pass_unset(
     write_change(text, start, end, put.as_slice(), pass)
 }
 
+// ---- a message before `exit`
+
+/// Returns the offset of the last `;` of a command, or 0.
+fn last_semicolon(command: &[u8]) -> usize {
+    command.iter().rposition(|byte| *byte == b';').unwrap_or(0)
+}
+
+/// Returns whether a byte is a space.
+fn is_space(byte: u8) -> bool {
+    byte == b' ' || byte == b'\t'
+}
+
+/// Returns the offset before the spaces that end at an offset.
+fn before_spaces(command: &[u8], at: usize) -> usize {
+    let front = part(command, 0, at);
+    let spaces = front
+        .iter()
+        .rev()
+        .take_while(|byte| is_space(**byte))
+        .count();
+    at.saturating_sub(spaces)
+}
+
+/// Returns the offset after the spaces at an offset.
+fn after_spaces(command: &[u8], at: usize) -> usize {
+    let rest = part(command, at, command.len());
+    let spaces = rest.iter().take_while(|byte| is_space(**byte)).count();
+    at.saturating_add(spaces)
+}
+
+/// Returns what is given to `exit`, if the rest of a command is that with a digit other than 0.
+fn checked_exit<'a>(command: &[u8], from: usize, status: &'a [u8]) -> Option<&'a [u8]>
+    requires { slice_range command.now from (length command.now) ≡ codes "exit " ++ status.now }
+    ensures { IfSome result (λ s. specs.IsExit command.now from s.now) }
+{
+    let _ = command;
+    let _ = from;
+    if is_digit(status) { Some(status) } else { None }
+}
+
+/// Returns the digit that a command gives to `exit` from an offset on, if it isn't 0.
+fn exit_from(command: &[u8], from: usize) -> Option<&[u8]>
+    ensures { IfSome result (λ s. specs.IsExit command.now from s.now) }
+{
+    if command.len() < from {
+        return None;
+    }
+    match rest_after(&command[from..command.len()], b"exit ") {
+        Some(status) => checked_exit(command, from, status),
+        None => None,
+    }
+}
+
+/// Returns whether a command begins with `echo`, and has a `;` at an offset with spaces around it,
+/// up to two others.
+fn is_echo_then(command: &[u8], to: usize, at: usize, from: usize) -> bool
+    ensures { IsTrue result → specs.IsEchoThen command.now to from }
+{
+    5 <= to
+        && to <= at
+        && at < from
+        && from <= command.len()
+        && is_word(command, 0, b"echo ", 5)
+        && are_spaces(&command[to..at])
+        && command[at] == b';'
+        && are_spaces(&command[at + 1..from])
+}
+
+/// Writes AC_MSG_ERROR with a message in place of a line.
+fn pass_error(
+    alloc: Global,
+    text: &[u8],
+    start: usize,
+    at: usize,
+    end: usize,
+    command: &[u8],
+    message: &[u8],
+    status: &[u8],
+    pass: &mut Pass,
+) -> Result<(), AllocError>
+    requires line { IsCommandLine text.now start at end command.now }
+    requires speaks { specs.Speaks command.now (codes "AC_MSG_ERROR") (message.now ∷ status.now ∷ [])
+        (codes "echo and exit: the message is an error") }
+    requires begun { specs.IsToldTo text.now pass.old.at pass.old.out.items }
+    ensures { OnOk result (specs.IsToldTo text.now pass.new.at pass.new.out.items) }
+{
+    pass_call(
+        alloc,
+        text,
+        start,
+        at,
+        end,
+        command,
+        b"AC_MSG_ERROR",
+        &[message, status],
+        b"echo and exit: the message is an error",
+        pass,
+    )
+}
+
+/// Writes AC_MSG_ERROR in place of a line with an `echo` of a message, up to an offset, and an `exit`
+/// from another one on.
+fn pass_failing(
+    alloc: Global,
+    text: &[u8],
+    start: usize,
+    at: usize,
+    end: usize,
+    command: &[u8],
+    to: usize,
+    from: usize,
+    message: &[u8],
+    status: &[u8],
+    pass: &mut Pass,
+) -> Result<(), AllocError>
+    requires line { IsCommandLine text.now start at end command.now }
+    requires front { specs.IsEchoThen command.now to from }
+    requires exits { specs.IsExit command.now from status.now }
+    requires prints { Prints (slice_range command.now 5 to) message.now × IsMessage message.now }
+    requires begun { specs.IsToldTo text.now pass.old.at pass.old.out.items }
+    ensures { OnOk result (specs.IsToldTo text.now pass.new.at pass.new.out.items) }
+{
+    let _ = to;
+    let _ = from;
+    pass_error(alloc, text, start, at, end, command, message, status, pass)
+}
+
+/// Writes AC_MSG_ERROR in place of a line with an `echo`, up to an offset, and an `exit` from
+/// another one on, if it is known what that prints.
+fn pass_exit_after(
+    alloc: Global,
+    text: &[u8],
+    start: usize,
+    at: usize,
+    end: usize,
+    command: &[u8],
+    to: usize,
+    from: usize,
+    status: &[u8],
+    pass: &mut Pass,
+) -> Result<(), AllocError>
+    requires line { IsCommandLine text.now start at end command.now }
+    requires front { specs.IsEchoThen command.now to from }
+    requires exits { specs.IsExit command.now from status.now }
+    requires begun { specs.IsToldTo text.now pass.old.at pass.old.out.items }
+    ensures { OnOk result (specs.IsToldTo text.now pass.new.at pass.new.out.items) }
+{
+    if to < 5 || command.len() < to {
+        return Ok(());
+    }
+    match message_of(&command[5..to]) {
+        Some(message) => pass_failing(
+            alloc, text, start, at, end, command, to, from, message, status, pass,
+        ),
+        None => Ok(()),
+    }
+}
+
+/// Writes AC_MSG_ERROR in place of a line with an `echo` and an `exit`, if it is one with this `;`.
+fn pass_joined(
+    alloc: Global,
+    text: &[u8],
+    start: usize,
+    at: usize,
+    end: usize,
+    command: &[u8],
+    semicolon: usize,
+    pass: &mut Pass,
+) -> Result<(), AllocError>
+    requires line { IsCommandLine text.now start at end command.now }
+    requires begun { specs.IsToldTo text.now pass.old.at pass.old.out.items }
+    ensures { OnOk result (specs.IsToldTo text.now pass.new.at pass.new.out.items) }
+{
+    let to = before_spaces(command, semicolon);
+    let from = after_spaces(command, semicolon.saturating_add(1));
+    if !is_echo_then(command, to, semicolon, from) {
+        return Ok(());
+    }
+    match exit_from(command, from) {
+        Some(status) => pass_exit_after(
+            alloc, text, start, at, end, command, to, from, status, pass,
+        ),
+        None => Ok(()),
+    }
+}
+
+// ---- `+=`
+
+/// Returns how many bytes of a variable's name are at the front of a text.
+fn name_length(command: &[u8]) -> usize {
+    command.iter().take_while(|byte| is_of_name(**byte)).count()
+}
+
+/// Returns whether a text begins with a digit.
+fn begins_with_digit(name: &[u8]) -> bool
+    requires { 0 < length name.now }
+    ensures { result ≡ specs.is_digit (slice_index name.now 0) }
+{
+    47 < name[0] && name[0] < 58
+}
+
+/// Returns whether a text is the name of a variable.
+fn is_variable(name: &[u8]) -> bool
+    ensures { IsTrue result
+        → ((0 < length name.now) × (list_all specs.is_of_name name.now ≡ true))
+        × (specs.is_digit (slice_index name.now 0) ≡ false) }
+{
+    is_name(name) && !begins_with_digit(name)
+}
+
+/// Returns whether a command appends a word to the value of a variable.
+fn appends(command: &[u8], name: &[u8], word: &[u8]) -> bool
+    requires { command.now ≡ name.now ++ (codes "+=" ++ word.now) }
+    ensures { IsTrue result → specs.Appends command.now name.now word.now }
+{
+    let _ = command;
+    is_variable(name) && is_one_word(word)
+}
+
+/// Returns an assignment of a variable's value, with a word after it.
+#[tactic(auto, unfolding(crate::specs::Told::longer))]
+fn longer(alloc: Global, name: &[u8], word: &[u8]) -> Result<Vec<u8>, AllocError>
+    ensures { IfOk result (λ v. v.items ≡ specs.longer name.now word.now) }
+{
+    let mut out = Vec::from_slice(alloc, name)?;
+    out.extend_from_slice(b"=\"$")?;
+    out.extend_from_slice(name)?;
+    out.push(b'"')?;
+    out.extend_from_slice(word)?;
+    Ok(out)
+}
+
+/// Returns the comment and the assignment in place of a line that appends a word to a variable.
+fn longer_below(
+    alloc: Global,
+    indent: &[u8],
+    name: &[u8],
+    word: &[u8],
+) -> Result<Vec<u8>, AllocError>
+    ensures { IfOk result (λ v.
+        v.items
+        ≡ specs.noted_so indent.now (codes "+=: some shells take it for a command")
+        (specs.longer name.now word.now)) }
+{
+    let put = longer(alloc, name, word)?;
+    noted_so(
+        alloc,
+        indent,
+        b"+=: some shells take it for a command",
+        put.as_slice(),
+    )
+}
+
+/// Writes an assignment in place of a line that appends a word to a variable, unless the line was in
+/// what was rewritten.
+fn put_appended(
+    alloc: Global,
+    text: &[u8],
+    start: usize,
+    at: usize,
+    end: usize,
+    command: &[u8],
+    name: &[u8],
+    word: &[u8],
+    pass: &mut Pass,
+) -> Result<(), AllocError>
+    requires line { IsCommandLine text.now start at end command.now }
+    requires appends { specs.Appends command.now name.now word.now }
+    requires accepted { IsAccepted (source_with (specs.longer name.now word.now)) }
+    requires begun { specs.IsToldTo text.now pass.old.at pass.old.out.items }
+    ensures { OnOk result (specs.IsToldTo text.now pass.new.at pass.new.out.items) }
+{
+    let _ = command;
+    if start < pass.at || at < start || text.len() < at {
+        return Ok(());
+    }
+    let put = longer_below(alloc, &text[start..at], name, word)?;
+    write_change(text, start, end, put.as_slice(), pass)
+}
+
+/// Returns whether acrun accepts an assignment of a variable's value, with a word after it.
+fn is_longer_accepted(alloc: Global, name: &[u8], word: &[u8]) -> Result<bool, AllocError>
+    ensures { IfOk result (λ b.
+        IsTrue b → IsAccepted (source_with (specs.longer name.now word.now))) }
+{
+    let put = longer(alloc, name, word)?;
+    is_accepted(alloc, put.as_slice())
+}
+
+/// Writes an assignment in place of a line that appends a word to a variable, unless acrun doesn't
+/// accept it.
+fn pass_accepted(
+    alloc: Global,
+    text: &[u8],
+    start: usize,
+    at: usize,
+    end: usize,
+    command: &[u8],
+    name: &[u8],
+    word: &[u8],
+    pass: &mut Pass,
+) -> Result<(), AllocError>
+    requires line { IsCommandLine text.now start at end command.now }
+    requires appends { specs.Appends command.now name.now word.now }
+    requires begun { specs.IsToldTo text.now pass.old.at pass.old.out.items }
+    ensures { OnOk result (specs.IsToldTo text.now pass.new.at pass.new.out.items) }
+{
+    if !is_longer_accepted(alloc, name, word)? {
+        return Ok(());
+    }
+    put_appended(alloc, text, start, at, end, command, name, word, pass)
+}
+
+/// Writes an assignment in place of a line with `+=`, if it appends a word to a variable.
+fn pass_appended(
+    alloc: Global,
+    text: &[u8],
+    start: usize,
+    at: usize,
+    end: usize,
+    command: &[u8],
+    name: &[u8],
+    word: &[u8],
+    pass: &mut Pass,
+) -> Result<(), AllocError>
+    requires line { IsCommandLine text.now start at end command.now }
+    requires is { command.now ≡ name.now ++ (codes "+=" ++ word.now) }
+    requires begun { specs.IsToldTo text.now pass.old.at pass.old.out.items }
+    ensures { OnOk result (specs.IsToldTo text.now pass.new.at pass.new.out.items) }
+{
+    if appends(command, name, word) {
+        pass_accepted(alloc, text, start, at, end, command, name, word, pass)
+    } else {
+        Ok(())
+    }
+}
+
+/// Writes an assignment in place of a line with a name and a rest, if `+=` and a word are that.
+#[tactic(auto, using(crate::proofs::Telling::joined_by))]
+fn pass_rest(
+    alloc: Global,
+    text: &[u8],
+    start: usize,
+    at: usize,
+    end: usize,
+    command: &[u8],
+    name: &[u8],
+    rest: &[u8],
+    pass: &mut Pass,
+) -> Result<(), AllocError>
+    requires line { IsCommandLine text.now start at end command.now }
+    requires split { command.now ≡ name.now ++ rest.now }
+    requires begun { specs.IsToldTo text.now pass.old.at pass.old.out.items }
+    ensures { OnOk result (specs.IsToldTo text.now pass.new.at pass.new.out.items) }
+{
+    match rest_after(rest, b"+=") {
+        Some(word) => pass_appended(alloc, text, start, at, end, command, name, word, pass),
+        None => Ok(()),
+    }
+}
+
+/// Writes an assignment in place of a line that begins with a name of some length, if `+=` and a
+/// word come after it.
+fn pass_named(
+    alloc: Global,
+    text: &[u8],
+    start: usize,
+    at: usize,
+    end: usize,
+    command: &[u8],
+    length: usize,
+    pass: &mut Pass,
+) -> Result<(), AllocError>
+    requires line { IsCommandLine text.now start at end command.now }
+    requires begun { specs.IsToldTo text.now pass.old.at pass.old.out.items }
+    ensures { OnOk result (specs.IsToldTo text.now pass.new.at pass.new.out.items) }
+{
+    if command.len() < length {
+        return Ok(());
+    }
+    let (name, rest) = command.split_at(length);
+    pass_rest(alloc, text, start, at, end, command, name, rest, pass)
+}
+
+/// Writes what takes the place of a command of two parts, if it is one that has something.
+fn pass_other(
+    alloc: Global,
+    text: &[u8],
+    start: usize,
+    at: usize,
+    end: usize,
+    command: &[u8],
+    pass: &mut Pass,
+) -> Result<(), AllocError>
+    requires line { IsCommandLine text.now start at end command.now }
+    requires begun { specs.IsToldTo text.now pass.old.at pass.old.out.items }
+    ensures { OnOk result (specs.IsToldTo text.now pass.new.at pass.new.out.items) }
+{
+    if command.starts_with(b"echo ") {
+        let semicolon = last_semicolon(command);
+        return pass_joined(alloc, text, start, at, end, command, semicolon, pass);
+    }
+    pass_named(
+        alloc,
+        text,
+        start,
+        at,
+        end,
+        command,
+        name_length(command),
+        pass,
+    )
+}
+
 /// Writes what takes the place of a command that prints nothing, if it is one that has something.
 fn pass_silent(
     alloc: Global,
@@ -317,7 +735,7 @@ fn pass_silent(
     }
     match name_of(command) {
         Some(name) => pass_unset(alloc, text, start, at, end, command, name, pass),
-        None => Ok(()),
+        None => pass_other(alloc, text, start, at, end, command, pass),
     }
 }
 

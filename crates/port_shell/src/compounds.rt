@@ -2,6 +2,7 @@
 
 use crate::cut::Cut;
 use crate::shell::{Sign, Word};
+use lint_text::from;
 use port_compounds::{CaseBranch, CaseCut, GuardCut, IfBranch, IfCut};
 use std::alloc::{AllocError, Global};
 
@@ -96,6 +97,15 @@ pub(crate) struct Compounds {
     found: Vec<Cut>,
 }
 
+/// Returns whether a word is a name and `+=` with something after it.
+fn is_appending(word: &[u8]) -> bool {
+    let length = word
+        .iter()
+        .take_while(|byte| byte.is_ascii_alphanumeric() || **byte == b'_')
+        .count();
+    length > 0 && from(word, length).starts_with(b"+=")
+}
+
 /// Returns a branch of an `if` that begins at an offset.
 fn branch_at(start: usize) -> IfBranch {
     IfBranch {
@@ -159,10 +169,11 @@ impl Compounds {
         }
     }
 
-    /// Notes an `echo`, an `exit` or an `unset` that is a statement of a list that calls may be put
-    /// in.
+    /// Notes an `echo`, an `exit`, an `unset` or an assignment by `+=` that is a statement of a list
+    /// that calls may be put in.
     fn read_line(&mut self, text: &[u8], word: Word, is_quoted: bool) -> Result<(), AllocError> {
-        let is_line = matches!(text, b"echo" | b"exit" | b"unset") && word.is_plain && !is_quoted;
+        let is_word = matches!(text, b"echo" | b"exit" | b"unset") && word.is_plain;
+        let is_line = (is_word || is_appending(text)) && !is_quoted;
         if is_line && self.begins_call() && !self.is_function {
             self.found.push(Cut::Line(word.start))?;
         }

@@ -1,8 +1,9 @@
-//! Conditions of `if` and of AS_IF that are written otherwise where they are.
+//! Conditions of `if`, of AS_IF and before `&&` and `||` that are written otherwise where they are.
 
 ghost use Rattle.std.specs.Prelude.{◌≡◌, ◌⊎◌, ◌≤◌, ◌<◌, ◌+◌, ◌++◌, ◌∷◌, true, Some, map, length, slice_get, slice_index, slice_range, codes, Contains, IfOk, IfSome, OnOk, IsTrue};
 ghost use Rattle.std.specs.List.{list_all};
 ghost use Rattle.ac_calls.specs.Calls.{calls_in, macro_call_of};
+ghost use Rattle.port_compounds.specs.Guards.{IsGuarded};
 ghost use Rattle.port_compounds.specs.Places.{is_space, AreBlank, IsWord};
 ghost use Rattle.port_idioms.specs.declared.idioms.Idioms.TheVariants.{All};
 ghost use Rattle.port_joints.specs.Joints.{Becomes};
@@ -14,7 +15,7 @@ use crate::lists::cuts_in;
 use crate::passing::{Pass, write_change};
 use ac_calls::{CallAt, Extent, calls_of};
 use lint_text::{line_start, part, without_end_blanks};
-use port_compounds::{are_blank, are_spaces, is_list_end, is_word};
+use port_compounds::{GuardCut, IfCut, are_blank, are_spaces, guard_parts, is_list_end, is_word};
 use port_idioms::Idioms;
 use port_joints::{joined_condition, respelled};
 use std::alloc::{AllocError, Global};
@@ -24,6 +25,17 @@ const COMMENT: &[u8] = b"dnl acrun: in place of ==, -eq or -ne: the words are co
 
 // ---- where a condition is
 
+/// What a condition is of.
+#[derive(Clone, Copy)]
+enum Whole {
+    /// An `if`, with the offset of its `then`.
+    If(usize),
+    /// The call of AS_IF with this index.
+    Call(usize),
+    /// A statement that it guards.
+    List(GuardCut),
+}
+
 /// Where a condition may be.
 #[derive(Clone, Copy)]
 struct Place {
@@ -32,10 +44,7 @@ struct Place {
     /// The offsets of the condition.
     from: usize,
     to: usize,
-    /// The offset of `then`, of an `if`.
-    at_then: usize,
-    /// The index of the call, of AS_IF.
-    call: Option<usize>,
+    whole: Whole,
 }
 
 /// Returns whether `if` or `elif` is between two offsets.
@@ -150,14 +159,92 @@ fn is_call_test(
     index < calls.len() && is_test_of_call(text, &calls[index], start, from, to)
 }
 
-/// Returns whether a condition is at a place.
-fn is_test_at(text: &[u8], calls: &[CallAt], place: Place) -> bool
-    requires { map macro_call_of calls.now ≡ calls_in text.now }
-    ensures { IsTrue result → specs.IsTestAt text.now place.start place.from place.to }
+/// Returns whether a part is what is between two offsets.
+fn is_range(text: &[u8], from: usize, to: usize, part: &[u8]) -> bool
+    ensures { IsTrue result → part.now ≡ slice_range text.now from to }
 {
-    match place.call {
-        Some(index) => is_call_test(text, calls, index, place.start, place.from, place.to),
-        None => is_if_test(text, place.start, place.from, place.to, place.at_then),
+    from <= to && to <= text.len() && part == &text[from..to]
+}
+
+/// Returns whether a statement is at an offset that its first part guards, and this part is between
+/// two others.
+#[tactic(auto, using(crate::proofs::Testing::list_test))]
+fn is_first_part(
+    text: &[u8],
+    cut: GuardCut,
+    first: &[u8],
+    rest: &[&[u8]],
+    start: usize,
+    from: usize,
+    to: usize,
+) -> bool
+    requires { IsGuarded text.now cut.start cut.end (first.now ∷ map (λ p. p.now) rest.now) }
+    ensures { IsTrue result → specs.IsListTest text.now start from to }
+{
+    let _ = rest;
+    cut.start == start && start == from && is_range(text, from, to, first)
+}
+
+/// Returns whether a statement with these parts is at an offset, and its condition is between two
+/// others.
+#[tactic(auto, using(crate::proofs::Testing::first_part))]
+fn is_test_of_parts(
+    text: &[u8],
+    cut: GuardCut,
+    parts: &[&[u8]],
+    start: usize,
+    from: usize,
+    to: usize,
+) -> bool
+    requires { IsGuarded text.now cut.start cut.end (map (λ p. p.now) parts.now) }
+    ensures { IsTrue result → specs.IsListTest text.now start from to }
+{
+    match parts.split_first() {
+        Some((first, rest)) => is_first_part(text, cut, first, rest, start, from, to),
+        None => false,
+    }
+}
+
+/// Returns whether a statement that a condition guards is at an offset, and its condition is between
+/// two others.
+fn is_list_test(
+    alloc: Global,
+    text: &[u8],
+    cut: GuardCut,
+    start: usize,
+    from: usize,
+    to: usize,
+) -> Result<bool, AllocError>
+    ensures { IfOk result (λ b. IsTrue b → specs.IsTestAt text.now start from to) }
+{
+    match guard_parts(alloc, text, cut)? {
+        Some(parts) => Ok(is_test_of_parts(text, cut, parts.as_slice(), start, from, to)),
+        None => Ok(false),
+    }
+}
+
+/// Returns whether a condition is at a place.
+fn is_test_at(
+    alloc: Global,
+    text: &[u8],
+    calls: &[CallAt],
+    place: Place,
+) -> Result<bool, AllocError>
+    requires { map macro_call_of calls.now ≡ calls_in text.now }
+    ensures { IfOk result (λ b.
+        IsTrue b → specs.IsTestAt text.now place.start place.from place.to) }
+{
+    match place.whole {
+        Whole::If(then) => Ok(is_if_test(text, place.start, place.from, place.to, then)),
+        Whole::Call(index) => Ok(is_call_test(
+            text,
+            calls,
+            index,
+            place.start,
+            place.from,
+            place.to,
+        )),
+        Whole::List(cut) => is_list_test(alloc, text, cut, place.start, place.from, place.to),
     }
 }
 
@@ -177,21 +264,41 @@ fn place_of_if(text: &[u8], start: usize, after: usize, at_then: usize) -> Place
         start,
         from: after.saturating_add(blanks),
         to: after.saturating_add(end.len()),
-        at_then,
-        call: None,
+        whole: Whole::If(at_then),
     }
 }
 
-/// Appends the places of the conditions of a statement, if it is an `if`.
-fn push_of_cut(text: &[u8], cut: &Cut, places: &mut Vec<Place>) -> Result<(), AllocError> {
-    if let Cut::If(cut) = cut {
-        let mut start = cut.start;
-        for branch in &cut.branches {
-            places.push(place_of_if(text, start, branch.start, branch.at_then))?;
-            start = branch.end;
-        }
+/// Appends the places of the conditions of an `if`.
+fn push_of_if(text: &[u8], cut: &IfCut, places: &mut Vec<Place>) -> Result<(), AllocError> {
+    let mut start = cut.start;
+    for branch in &cut.branches {
+        places.push(place_of_if(text, start, branch.start, branch.at_then))?;
+        start = branch.end;
     }
     Ok(())
+}
+
+/// Returns the place of the condition before a statement that it guards.
+fn place_of_guard(text: &[u8], cut: GuardCut) -> Place {
+    let written = without_end_blanks(part(text, cut.start, cut.at_joint));
+    Place {
+        start: cut.start,
+        from: cut.start,
+        to: cut.start.saturating_add(written.len()),
+        whole: Whole::List(cut),
+    }
+}
+
+/// Appends the places of the conditions of a statement.
+fn push_of_cut(text: &[u8], cut: &Cut, places: &mut Vec<Place>) -> Result<(), AllocError> {
+    match cut {
+        Cut::If(cut) => push_of_if(text, cut, places),
+        Cut::Guard(cut) => {
+            places.push(place_of_guard(text, *cut))?;
+            Ok(())
+        }
+        Cut::Case(_) | Cut::Line(_) => Ok(()),
+    }
 }
 
 /// Appends the place of the condition of a call, if it is one of AS_IF.
@@ -207,8 +314,7 @@ fn push_of_call(
             start: call.start,
             from: arg.start.saturating_add(1),
             to: arg.start.saturating_add(written.len()).saturating_sub(1),
-            at_then: 0,
-            call: Some(index),
+            whole: Whole::Call(index),
         })?;
     }
     Ok(())
@@ -394,7 +500,7 @@ fn pass_joined(
     requires begun { specs.IsPass idioms text.now pass.old.at pass.old.out.items }
     ensures { OnOk result (specs.IsPass idioms text.now pass.new.at pass.new.out.items) }
 {
-    if place.call.is_none() {
+    if !matches!(place.whole, Whole::Call(_)) {
         return Ok(());
     }
     match joined_condition(alloc, &text[place.from..place.to])? {
@@ -417,7 +523,10 @@ fn pass_place(
     ensures { OnOk result (specs.IsPass idioms text.now pass.new.at pass.new.out.items) }
 {
     let is_there = place.start <= place.from && place.from <= place.to && place.to <= text.len();
-    if !is_there || !is_test_at(text, calls, place) {
+    if !is_there {
+        return Ok(());
+    }
+    if !is_test_at(alloc, text, calls, place)? {
         return Ok(());
     }
     pass_joined(alloc, idioms, text, place, pass)?;

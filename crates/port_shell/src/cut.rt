@@ -8,7 +8,7 @@ pub(crate) enum Cut {
     If(IfCut),
     Case(CaseCut),
     Guard(GuardCut),
-    /// The offset of an `echo`, an `exit` or an `unset`.
+    /// The offset of an `echo`, an `exit`, an `unset` or an assignment by `+=`.
     Line(usize),
 }
 

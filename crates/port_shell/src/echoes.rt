@@ -1,4 +1,4 @@
-//! Lines with an `echo`, an `exit` or an `unset`, which become messages or assignments.
+//! Lines with an `echo`, an `exit`, an `unset` or `+=`, which become messages or assignments.
 
 ghost use Rattle.std.specs.Prelude.{◌≡◌, ◌≤◌, ◌∷◌, ◌++◌, [], length, slice_range, codes, IfOk, IfSome, OnOk};
 ghost use Rattle.port_echo.specs.Echo.{IsEcho};
@@ -125,15 +125,16 @@ fn copy_rest(text: &[u8], pass: &mut Pass) -> Result<(), AllocError>
 
 /// Returns the text with each `echo` that has a line of its own as a message, below a comment, if
 /// what it prints is known. Other than `echo`, a message is dropped by `-q`. So an `exit` with a
-/// status becomes an error, and an `unset` of a variable an assignment of nothing.
+/// status becomes an error, with the message of an `echo` before it on its line, an `unset` of a
+/// variable an assignment of nothing, and `+=` an assignment of the variable's value and the word.
 ///
 /// # Errors
 ///
 /// Fails only if memory runs out.
 pub fn told(alloc: Global, text: &[u8]) -> Result<Vec<u8>, AllocError>
     // A line with an `echo` may become a comment and the call of AC_MSG_RESULT with what it prints,
-    // one with an `exit` a comment and the call of AC_MSG_ERROR, and one with an `unset` a comment
-    // and an assignment. All else is copied.
+    // one with an `exit` a comment and the call of AC_MSG_ERROR, and one with an `unset` or with
+    // `+=` a comment and an assignment. All else is copied.
     ensures told { IfOk result (λ v. specs.IsTold text.now v.items) }
 {
     let calls = calls_of(alloc, text)?;

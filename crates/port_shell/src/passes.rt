@@ -28,7 +28,8 @@ fn passed_once(alloc: Global, idioms: Idioms, text: &[u8]) -> Result<Option<Vec<
 /// reads.
 ///
 /// In the condition of AS_IF `-a` and `-o` become `&&` and `||`. If all idioms are wanted, `==`,
-/// `-eq` and `-ne` in a condition of `if` or AS_IF become `=` and `!=`, below a comment.
+/// `-eq` and `-ne` in a condition of `if`, of AS_IF or before `&&` and `||` become `=` and `!=`,
+/// below a comment.
 ///
 /// Autoconf makes the checks that a macro requires before the first call that requires them. If
 /// that is in a statement, they are made within it, but before AS_IF or AS_CASE once it is one. So

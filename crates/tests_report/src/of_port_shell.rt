@@ -5,7 +5,18 @@ use port_shell::formed;
 use std::test::Fail;
 use test_rows::{Page, RowCall, try_rows};
 
-/// Writes what becomes of a text.
+/// Writes what becomes of a text that was rewritten, if it is another one.
+fn put_again(page: &mut Page, idioms: Idioms, given: &[u8]) {
+    let made = formed(page.alloc(), idioms, given);
+    if let Some(text) = page.given(made) {
+        if text.as_slice() != given {
+            page.put(b", and then ");
+            page.put(text.as_slice());
+        }
+    }
+}
+
+/// Writes what becomes of a text, and of that.
 fn put_formed(page: &mut Page, idioms: Idioms, given: &[u8]) {
     let made = formed(page.alloc(), idioms, given);
     if let Some(text) = page.given(made) {
@@ -13,6 +24,7 @@ fn put_formed(page: &mut Page, idioms: Idioms, given: &[u8]) {
             page.put(b"the same");
         } else {
             page.put(text.as_slice());
+            put_again(page, idioms, text.as_slice());
         }
     }
 }
@@ -246,7 +258,19 @@ if test -f a == b; then x=1; fi => the same
 if a == b; then x=1; fi => the same
 a=1; if test a == b; then x=1; fi => the same
 AC_ARG_WITH([a], [b],^JAS_IF([test c == d], [x=1])) => the same
-test a == b && x=1 => the same
+a=1; test a == b && x=1 => the same
+test a == b && x=1 && y=2 => the same
+test a == b && # c^Jx=1 => the same
+test "a == b" && x=1 => AS_IF([test "a == b"], [x=1])
+test -f a == b && x=1 => the same
+{ test a == b && x=1; } => the same
+// before `&&` and `||`
+test "$a" == b && x=1 => dnl acrun: in place of ==, -eq or -ne: the words are compared as texts^JAS_IF([test "$a" = b], [x=1])
+  test "$a" -eq 1 || x=1 =>   dnl acrun: in place of ==, -eq or -ne: the words are compared as texts^J  AS_IF([test "$a" = 1], [], [x=1])
+test "$a" == b -a "$c" -ne 2 &&^J  AC_DEFINE([X]) => dnl acrun: in place of ==, -eq or -ne: the words are compared as texts^JAS_IF([test "$a" = b && test "$c" != 2], [AC_DEFINE([X])])
+if :; then^J  test "$a" == b && x=1^Jfi => AS_IF([:], [^J  dnl acrun: in place of ==, -eq or -ne: the words are compared as texts^J  AS_IF([test "$a" = b], [x=1])^J])
+test "$a" == b && mkdir c => dnl acrun: in place of ==, -eq or -ne: the words are compared as texts^Jtest "$a" = b && mkdir c
+test "$a" == b && x=1^Jy=$? => dnl acrun: in place of ==, -eq or -ne: the words are compared as texts^Jtest "$a" = b && x=1^Jy=$?
 "##;
 
 #[test]

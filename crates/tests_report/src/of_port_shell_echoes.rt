@@ -33,6 +33,44 @@ echo '' => dnl acrun: in place of echo: -q drops the line^JAC_MSG_RESULT([])
 // other commands
 echo a^J  exit 1 => dnl acrun: in place of echo: -q drops the line^JAC_MSG_RESULT([a])^J  dnl acrun: in place of exit: an error is printed^J  AC_MSG_ERROR([exit 1], [1])
 unset a_b => dnl acrun: in place of unset: the variable is empty^Ja_b=
+// a message before an error
+echo "no $a"; exit 1 => dnl acrun: in place of echo and exit: the message is an error^JAC_MSG_ERROR([no $a], [1])
+  echo no a ;  exit 2 =>   dnl acrun: in place of echo and exit: the message is an error^J  AC_MSG_ERROR([no a], [2])
+echo 'a; exit 1';exit 3 => dnl acrun: in place of echo and exit: the message is an error^JAC_MSG_ERROR([a; exit 1], [3])
+AS_IF([a], [^J  echo b; exit 1^J]) => AS_IF([a], [^J  dnl acrun: in place of echo and exit: the message is an error^J  AC_MSG_ERROR([b], [1])^J])
+echo a; exit 0 => the same
+echo a; exit => the same
+echo a; exit 1; b => the same
+echo; exit 1 => the same
+echo -n a; exit 1 => the same
+echo a >&2; exit 1 => the same
+echo a; b; exit 1 => the same
+echo a & exit 1 => the same
+echo a; exit 1 # b => the same
+b; echo a; exit 1 => the same
+// `+=`
+CFLAGS+=" -Wall" => dnl acrun: in place of +=: some shells take it for a command^JCFLAGS="$CFLAGS"" -Wall"
+  a_1+=b$c =>   dnl acrun: in place of +=: some shells take it for a command^J  a_1="$a_1"b$c
+a+='b  c' => dnl acrun: in place of +=: some shells take it for a command^Ja="$a"'b  c'
+AS_IF([a], [^Jb+=c^J]) => AS_IF([a], [^Jdnl acrun: in place of +=: some shells take it for a command^Jb="$b"c^J])
+a+="${b} c;d" => dnl acrun: in place of +=: some shells take it for a command^Ja="$a""${b} c;d"
+a+="${b=c}" => the same
+a+="$(b)" => the same
+a+=$1 => the same
+1a+=b => the same
+a+=b c=d => the same
+a+=b; c=d => the same
+a+=(b c) => the same
+a+=`b` => the same
+a+="b\c" => the same
+a+=~/b => the same
+a+= => the same
+a+=b # c => the same
+a+b=c => the same
+echo a+=b c+=d => dnl acrun: in place of echo: -q drops the line^JAC_MSG_RESULT([a+=b c+=d])
+for a in b; do^Ja+=c^Jdone => the same
+a && b+=c => the same
+// which stay
 exit 0 => the same
 exit 10 => the same
 exit $a => the same
