@@ -15,7 +15,7 @@ use crate::gnu::compiler_in;
 use crate::names::defined_in;
 use crate::noted::noted_change;
 use crate::package::{TitleSpot, title_in};
-use crate::readers::without_meaning;
+use crate::readers::{next_line, without_meaning};
 use crate::rows::{count_of, name_of};
 use crate::spots::Spot;
 use ac_calls::{CallAt, Extent};
@@ -228,15 +228,14 @@ fn is_last(rest: &[u8]) -> bool {
 fn without_call(alloc: Global, text: &[u8], spot: Spot, call: &CallAt) -> Result<Change, AllocError>
     ensures { IfOk result (λ change. specs.DoesNothing change.put.items) }
 {
-    let blanks = space_len(from(text, call.end));
-    let after = call.end.saturating_add(blanks);
-    if text.get(after) == Some(&b'\n') {
+    if let Some(end) = next_line(text, call) {
         return Ok(Change {
             start: spot.line,
-            end: after.saturating_add(1),
+            end,
             put: Vec::new(alloc),
         });
     }
+    let after = call.end.saturating_add(space_len(from(text, call.end)));
     if is_last(from(text, after)) {
         to_text(alloc, call, b"")
     } else {

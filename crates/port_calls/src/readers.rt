@@ -5,7 +5,7 @@ ghost use Rattle.std.specs.List.{list_all};
 ghost use Rattle.ac_calls.specs.Calls.{macro_call_of};
 ghost use Rattle.port_calls.specs.Put as specs;
 
-use crate::around::{ends_in_word, line_indent, space_len, without_end_blanks};
+use crate::around::{ends_in_word, last_line, line_indent, space_len, without_end_blanks};
 use crate::changes::{
     Change, Known, can_be_left_out, can_be_noted, change_to, joins_next_line, leaves_compiler,
     left_out,
@@ -16,13 +16,34 @@ use ac_calls::CallAt;
 use lint_text::{before, from, part};
 use std::alloc::{AllocError, Global};
 
-/// Returns the offset of the next line, if nothing follows a call on its line.
+/// Returns whether the last line of a text has a `dnl`.
+fn has_comment(text: &[u8]) -> bool {
+    for at in last_line(text)..text.len() {
+        if from(text, at).starts_with(b"dnl") {
+            return true;
+        }
+    }
+    false
+}
+
+/// Returns whether the line before that of a call may end in a comment of m4, which takes its
+/// newline along.
+fn follows_comment(text: &[u8], call: &CallAt) -> bool {
+    let line = last_line(before(text, call.start));
+    has_comment(before(text, line.saturating_sub(1)))
+}
+
+/// Returns the offset up to which a line goes with a call, if nothing follows the call on it: that
+/// of the next line, or, if a comment of m4 ends the line before, that of the newline. So what is
+/// before that comment isn't joined to the next line.
 pub(crate) fn next_line(text: &[u8], call: &CallAt) -> Option<usize> {
     let after = call.end.saturating_add(space_len(from(text, call.end)));
-    if text.get(after) == Some(&b'\n') {
-        Some(after.saturating_add(1))
-    } else {
+    if text.get(after) != Some(&b'\n') {
         None
+    } else if follows_comment(text, call) {
+        Some(after)
+    } else {
+        Some(after.saturating_add(1))
     }
 }
 
