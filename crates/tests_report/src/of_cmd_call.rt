@@ -231,8 +231,6 @@ tell||fails 1|ab =>
 shown|||a^[b;c => yesyesyeso[a]o[\\x1b]o[b]o[c]o[flush]
 shown|part 3||abcd^[ => yesyeso[abc]o[d]o[\\x1]o[b]o[flush]
 shown|interrupted 2||a^[b => yesyeso[a]o[\\x1b]o[b]o[flush]
-// A write that is interrupted within a character is one of that character when it is tried again.
-shown|interrupted 2||a\xe2;\x9c\x93b => yesyeso[a\xe2]o[\x9c\x93b]o[flush]
 shown|fails 2||a^[b;c => noyesyeso[a]o[c]o[flush]
 shown once|||ab^[c;^[c => 21yeso[ab]o[\\x1b]o[flush]
 shown once|part 1||ab;^[ => 11yeso[a]o[\\]o[x]o[1]o[b]o[flush]
