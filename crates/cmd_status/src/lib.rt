@@ -1,4 +1,4 @@
-//! The commands that start no child, and what the command that does leaves for its user.
+//! The commands `status` and `standin`, and the printing of what `configure` leaves.
 //!
 //! [`run_status`] makes the outputs of a record again, and [`run_standin`] answers in place of a
 //! compiler. [`finish_run`] prints and logs the result of a whole run, and [`print_shown`] prints a

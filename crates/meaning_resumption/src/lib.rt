@@ -36,7 +36,7 @@ pub fn whole_runs_resume()
     ensures law { WholeRunsResume }
 {}
 
-/// If the cache text that is written at the end of a run is poured over the same opening, a run of
+/// If the cache text that is written at the end of a run is read over the same opening, a run of
 /// a source that can be resumed begins with the saved values, as `whole_runs_resume` wants it. The
 /// first run may have had a cache of its own.
 pub fn cache_pours()

@@ -4,7 +4,7 @@
 //! directories, then the arguments from the left. After that, final slashes of directories are
 //! dropped, and precious variables get their marks, all by these values. [`read_args`] does all of
 //! this for a source, or returns the first error. If the run has a cache, [`check_precious`]
-//! compares the precious variables with those of the run that made it, before it is poured over the
+//! compares the precious variables with those of the run that made it, before it is read over the
 //! variables. [`srcdir_of`] returns the directory of the source before a source is read, and
 //! [`help_text`] returns what `--help` prints. [`read_args_of`], [`check_precious_of`] and
 //! [`help_text_of`] are the same over the lists of a source.
