@@ -5,9 +5,9 @@ or what a crate below it hands to the crates above. It serves a toolchain whose 
   prove_kept.py [--lanes N] [--tests] [--leave] [--base TOP] [CRATE..]   at the top of the repository; no CRATE: all
 
 With --tests, their tests are proved too. With --leave, each library is also left in crates/*/out/rlib, as a whole `rt ci` leaves it, and
-`check_over.py` finds it there. With --base, what is the same in the clone TOP is not proved here: a crate with the same sources, over
-libraries that hand the same to the crates above. Its library is taken from crates/*/out/rlib of TOP, where a whole `make check` has
-passed, and passed means that it passed there.
+`check_over.py` finds it there. With --base, a library is not proved here that the clone TOP has in crates/*/out/rlib,
+of the same sources, over libraries that hand the same to it: `rt ci` leaves a library only if it proved it. Programs and tests
+leave none, and are proved here.
 
 What is kept is in the folder that ACRUN_KEPT names, or else in out/kept. Several clones may share one folder, also at the same
 time. There is a line for each crate that is proved now, with all that the check says if it fails. The last line is
@@ -90,9 +90,8 @@ def proved(crates, name, kind, slots):
     crate = crates[name]
     if any(crates[it].digest is None for it in crate.below):
         return False
-    if crate.is_same(crates) and (kind == "tests" or crate.is_program or crate.given_digest):
-        if kind == "crate":
-            crate.library, crate.digest = crate.given, crate.given_digest or ""
+    if kind == "crate" and crate.given_digest and crate.is_same(crates):
+        crate.library, crate.digest = crate.given, crate.given_digest
         return True
     parts = [crate.folder / part for part in PARTS]
     made_of = [kind, (KIT / "KIT-ID").read_text(), crate.sources(), *sorted(ROWS[name]), *(crates[it].digest for it in crate.below)]
