@@ -26,7 +26,7 @@ done < "$here/sources.txt"
     done
     "$acrun" lint --json macros-unknown.ac columns.ac - < macro-misspelt.ac || echo "status $?"
     # Each of 300 words is read, and each of 60 errors within one call is found.
-    "$acrun" lint $(yes without-findings.ac | head -n 299) messages-many.ac | grep -c '^messages-many.ac:'
+    "$acrun" lint $(yes without-findings.ac | head -n 299) messages-many.ac | grep -c '^messages-many.ac:' || true
 } > printed
 if [ "$2" = --write ]; then
     cp printed "$here/expected.txt"
