@@ -406,6 +406,9 @@ OF_ECHO_EXIT = ("commands", "`echo MESSAGE; exit STATUS` becomes AC_MSG_ERROR, w
 OF_APPENDED = ("commands", "Some shells, such as dash, have no `+=`, and take it for a command")
 OF_STATEMENTS = re.compile(r"standard error: (\+ configure: error: .*|- (test|\[): .*(unexpected operator|Illegal number: .*))$")
 
+# What docs/differences.md states of variables that only the fourth argument of AC_RUN_IFELSE makes output variables.
+OF_CROSS = ("differences", "If only that argument makes a name an output variable, `@NAME@` stays in a template")
+
 # What docs/how-it-runs.md states of a source without AC_PROG_CC, so that acrun is given none.
 OF_COMPILER = ("how-it-runs", "linked and CC has no word, the run prints `configure: error: no acceptable C compiler found in $PATH`")
 
@@ -431,7 +434,7 @@ def said(document, sentence):
 
 def unsaid():
     """Yields a line for each sentence that is looked for here, and that its document doesn't have."""
-    stated_once = (OF_IDIOMS, OF_INIT, OF_JOINTS, OF_WORDS, OF_TESTS, OF_EXIT, OF_UNSET, OF_EQUALS, OF_COMPILER, OF_DNL, OF_GIVEN)
+    stated_once = (OF_IDIOMS, OF_INIT, OF_JOINTS, OF_WORDS, OF_TESTS, OF_EXIT, OF_UNSET, OF_EQUALS, OF_COMPILER, OF_DNL, OF_GIVEN, OF_CROSS)
     for document, sentence in (*stated_once, *(("differences", sentence) for sentence, _ in OF_LANGUAGE)):
         if not is_said(document, sentence):
             yield f"docs/{document}.md does not say what tools/fuzz_exact.py looks for: {sentence}"
@@ -493,6 +496,29 @@ def joins_dnl(text):
     return False
 
 
+def without_cross(text):
+    """Returns a text without the fourth argument of each AC_RUN_IFELSE."""
+    kept, at = "", 0
+    for call in re.finditer(r"\bAC_RUN_IFELSE\(", text):
+        parens, brackets, commas, start, end = 1, 0, 0, None, call.end()
+        while parens and end < len(text):
+            brackets += {"[": 1, "]": -1}.get(text[end], 0)
+            parens += {"(": 1, ")": -1}.get(text[end], 0) if not brackets else 0
+            commas += text[end] == "," and parens == 1 and not brackets
+            start = end if commas == 3 and start is None else start
+            end += 1
+        if start is not None and call.start() >= at:
+            kept, at = kept + text[at:start], end - 1
+    return kept + text[at:]
+
+
+def is_of_cross(name, after, ported):
+    """Returns whether docs/differences.md states that a variable of a template stays so, as only the argument for cross compiling names it."""
+    said(*OF_CROSS)
+    plain = name.removeprefix("src/").removeprefix("values ")
+    return after == f"@{plain}@" and not re.search(rf"{plain}\b", without_cross(ported))
+
+
 def is_for_acrun(setting):
     """Returns whether acrun takes this setting as a script does: it knows no `--host`, and adds no flags if CFLAGS is not given."""
     return any(it.startswith("CFLAGS=") for it in setting.arguments) and not any(it.startswith("--host") for it in setting.arguments)
@@ -533,6 +559,7 @@ def compared(room, text, ported, settings, switches, program=""):
         said(*OF_TESTS)
         if by_acrun and not any(TEST_ERROR.search(it) for it in runs[1]["standard error"]):
             differs = beside_acrun(room, program, ported, setting, names, defined, runs[1])
+            differs = {name: it for name, it in differs.items() if not is_of_cross(name, it[1], ported)}
             if differs:
                 found.append((dataclasses.replace(setting, by="acrun"), differs))
     return found

@@ -156,6 +156,32 @@ pub(crate) fn end_line(out: &mut Vec<u8>, indent: &[u8]) -> Result<(), AllocErro
     out.extend_from_slice(indent)
 }
 
+/// Macros in whose place Autoconf puts a command without a newline after it. A `dnl` after such a
+/// call makes the next line a part of that command.
+const OPEN_ENDED: [&[u8]; 14] = [
+    b"AC_CHECKING",
+    b"AC_COMPILE_CHECK",
+    b"AC_ERROR",
+    b"AC_FUNC_STRFTIME",
+    b"AC_MSG_FAILURE",
+    b"AC_MSG_RESULT",
+    b"AC_TRY_COMPILE",
+    b"AC_TRY_CPP",
+    b"AC_TRY_LINK",
+    b"AC_TRY_LINK_FUNC",
+    b"AC_VERBOSE",
+    b"AC_WARN",
+    b"AS_MESSAGE",
+    b"AS_VAR_COPY",
+];
+
+/// Returns whether Autoconf makes the line after a call a part of the command that it puts in its
+/// place.
+fn takes_next_line(text: &[u8], call: &CallAt) -> bool {
+    let name = part(text, call.start, call.name_end);
+    joins_next_line(text, call) && OPEN_ENDED.iter().any(|other| *other == name)
+}
+
 /// Returns what is put in the place of a call, with a newline after it if it would be joined to the
 /// next line.
 fn put_apart(text: &[u8], indent: &[u8], call: &CallAt, put: Vec<u8>) -> Result<Vec<u8>, AllocError>
@@ -189,7 +215,8 @@ fn idiom_text(
     filled(alloc, idiom, args.as_slice(), false, indent)
 }
 
-/// Returns the change of a call to an idiom, unless an argument can't be put into it.
+/// Returns the change of a call to an idiom, unless an argument can't be put into it, or Autoconf
+/// makes the line after the call a part of its command.
 fn to_idiom(
     alloc: Global,
     text: &[u8],
@@ -201,6 +228,9 @@ fn to_idiom(
     ensures { IfOk result (λ o.
         IfSome o (λ change. specs.IsPut text.now (macro_call_of call.now) change.put.items)) }
 {
+    if takes_next_line(text, call) {
+        return Ok(None);
+    }
     match idiom_text(alloc, text, spot, call, idiom)? {
         Some(text_put) => {
             let put = put_apart(text, line_indent(text, spot), call, text_put)?;
