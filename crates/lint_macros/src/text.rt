@@ -38,7 +38,8 @@ each compiler of this century has it, the types in stdint.h; if the sources test
 AC_DEFINE([_GNU_SOURCE], [1], [Enable GNU extensions.])
 AC_DEFINE([__EXTENSIONS__], [1], [Enable extensions of Solaris.])~idiom AC_CONFIG_HEADER AM_CONFIG_HEADER
 AC_CONFIG_HEADERS([$1{HEADER}])~idiom AC_HELP_STRING
-AS_HELP_STRING([$1{OPTION}], [$2{TEXT}])~idiom AC_MSG_FAILURE AC_ERROR AS_ERROR m4_fatal AC_FATAL
+AS_HELP_STRING([$1{OPTION}], [$2{TEXT}])~idiom AC_MSG_FAILURE
+AC_MSG_ERROR([$1+{MESSAGE}], [1])~idiom AC_ERROR AS_ERROR m4_fatal AC_FATAL
 AC_MSG_ERROR([$1+{MESSAGE}])~idiom AC_CHECKING
 AC_MSG_NOTICE([checking $1+{MESSAGE}...])~idiom AC_VERBOSE
 AC_MSG_RESULT([$1+{MESSAGE}])~idiom AS_MESSAGE
