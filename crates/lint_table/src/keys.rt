@@ -230,9 +230,9 @@ pub const NO_FILES: Key = Key(b"no-files", b"\x02: \x01 is not a list of files",
 #[rattlefmt::skip]
 pub const NO_MADE_HEADERS: Key = Key(b"no-made-headers", b"\x02: \x01 is not a list of headers", b"separate files by blanks; a name has no `..`, `$` or leading `/`");
 
-/// MACRO names FILE a second time; the first is on line NUMBER
+/// MACRO names FILE a second time
 #[rattlefmt::skip]
-pub const NAMED_TWICE: Key = Key(b"named-twice", b"\x02 names \x01 a second time; the first is on line \x03", b"leave one of them out");
+pub const NAMED_TWICE: Key = Key(b"named-twice", b"\x02 names \x01 a second time", b"leave one of them out");
 
 /// MACRO: FILE is not in the directory of the run
 #[rattlefmt::skip]
