@@ -2,7 +2,7 @@
 
 use deftable::Bytes;
 use lint_findings::Finding;
-use lint_table::{Page, WordPart, keys};
+use lint_table::{Key, Page, WordPart, keys};
 use lint_text::{after_blanks, before, first_line, first_name, from, without_end_blanks};
 use port_shell::{Reason, Staying, kept_statements};
 use std::alloc::{AllocError, Global};
@@ -12,16 +12,123 @@ fn is_of_text(error: &Finding) -> bool {
     error.code.as_slice() == b"parse-3".as_slice()
 }
 
-/// Returns what is said of the reason.
-fn words_of(alloc: Global, reason: &Reason) -> Result<Bytes, AllocError> {
-    let mut page = Page::new(alloc);
+/// Writes what a statement has in it, if the reason is that.
+fn put_inside(page: &mut Page, reason: &Reason) -> bool {
     match reason {
-        Reason::Refused(what) => {
-            page.put(keys::CALL_IS_REFUSED, &[WordPart::AsItIs(what.as_slice())]);
-        }
-        Reason::Draws => page.put(keys::CALL_DRAWS, &[]),
+        Reason::Loop(word) => page.put(keys::SHELL_FOR, &[WordPart::AsItIs(word.as_slice())]),
+        Reason::Call(name) => page.put(keys::NO_MACRO, &[WordPart::Quoted(name.as_slice())]),
+        Reason::Braces => page.put(keys::SHELL_GROUP, &[WordPart::AsItIs(b"{")]),
+        Reason::Subshell => page.put(keys::SHELL_SUBSHELL, &[WordPart::AsItIs(b"(")]),
+        Reason::Function => page.put(keys::SHELL_FUNCTION, &[WordPart::AsItIs(b"")]),
+        _ => return false,
     }
+    true
+}
+
+/// Returns whether the reason is something in the statement.
+fn is_inside(reason: &Reason) -> bool {
+    matches!(
+        reason,
+        Reason::Loop(_) | Reason::Call(_) | Reason::Braces | Reason::Subshell | Reason::Function
+    )
+}
+
+/// Returns what is said of what is around a statement or at its words, if the reason is that.
+fn key_of(reason: &Reason) -> Option<Key> {
+    Some(match reason {
+        Reason::InBraces => keys::IN_BRACES,
+        Reason::InParentheses => keys::IN_PARENTHESES,
+        Reason::InCondition => keys::IN_CONDITION,
+        Reason::Joined => keys::JOINED_TO_COMMAND,
+        Reason::AfterCall => keys::AFTER_CALL,
+        Reason::Body => keys::FUNCTION_BODY,
+        Reason::InBrackets => keys::WORD_IN_BRACKETS,
+        Reason::Followed => keys::FOLLOWED_ON_LINE,
+        Reason::HasComment => keys::COMMENT_IN_CONDITION,
+        _ => return None,
+    })
+}
+
+/// Writes the reason that a statement stays, which begins with this word.
+fn put_reason(page: &mut Page, word: &[u8], reason: &Reason) {
+    if put_inside(page, reason) {
+        return;
+    }
+    let word = WordPart::AsItIs(word);
+    if let Reason::InLoop(around) = reason {
+        let around = WordPart::AsItIs(around.as_slice());
+        page.put(keys::IN_LOOP, &[word, around]);
+    } else if let Some(key) = key_of(reason) {
+        page.put(key, &[word]);
+    }
+}
+
+/// Returns the reason that a statement stays, which begins with this word.
+fn reason_text(alloc: Global, word: &[u8], reason: &Reason) -> Result<Bytes, AllocError> {
+    if let Reason::Refused(what) = reason {
+        return Bytes::from_slice(alloc, what.as_slice());
+    }
+    let mut page = Page::new(alloc);
+    put_reason(&mut page, word, reason);
     page.message()
+}
+
+/// Returns what is said of a statement that stays for this reason, which is about the statement or
+/// about something in it.
+fn words_of(
+    alloc: Global,
+    text: &[u8],
+    cause: &Staying,
+    is_inner: bool,
+) -> Result<Bytes, AllocError> {
+    let mut page = Page::new(alloc);
+    if let Reason::Draws = cause.reason {
+        page.put(keys::CALL_DRAWS, &[]);
+        return page.message();
+    }
+    let word = first_name(from(text, cause.start));
+    let what = reason_text(alloc, word, &cause.reason)?;
+    let key = if is_inner {
+        keys::IN_IT_REFUSED
+    } else {
+        keys::CALL_IS_REFUSED
+    };
+    page.put(key, &[WordPart::AsItIs(what.as_slice())]);
+    page.message()
+}
+
+/// Returns the first statement from an index on that has a reason of its own and begins before an
+/// offset.
+fn cause_from(statements: &[Staying], index: usize, end: usize) -> Option<&Staying> {
+    for statement in statements.iter().skip(index) {
+        if end <= statement.start {
+            return None;
+        }
+        if !matches!(statement.reason, Reason::Inner) {
+            return Some(statement);
+        }
+    }
+    None
+}
+
+/// Returns what is said of the statement of this index, if it is known why it stays.
+fn words_of_index(
+    alloc: Global,
+    text: &[u8],
+    statements: &[Staying],
+    index: usize,
+) -> Result<Option<Bytes>, AllocError> {
+    let Some(statement) = statements.get(index) else {
+        return Ok(None);
+    };
+    match cause_from(statements, index, statement.end) {
+        Some(cause) => {
+            let is_inner = statement.start < cause.start || is_inside(&cause.reason);
+            let words = words_of(alloc, text, cause, is_inner)?;
+            Ok(Some(words))
+        }
+        None => Ok(None),
+    }
 }
 
 /// Where errors of text begin, in order.
@@ -67,10 +174,20 @@ fn goes_on(line: &[u8]) -> bool {
     line.ends_with(b"&&") || line.ends_with(b"||") || line.ends_with(b"\\")
 }
 
+/// Returns whether a line begins with an `if` whose test is in brackets.
+fn has_test_in_brackets(line: &[u8]) -> bool {
+    first_name(line) == b"if".as_slice() && after_blanks(from(line, 2)).starts_with(b"[")
+}
+
+/// Returns whether an `if` at an offset has its test in brackets.
+fn is_test_in_brackets(text: &[u8], at: usize) -> bool {
+    has_test_in_brackets(first_line(from(text, at)))
+}
+
 /// Writes what may keep a call from being put in the place of an `if`, as far as its first line
 /// tells it, or the name that is called above it.
 fn put_of_if(page: &mut Page, line: &[u8], name: &[u8]) {
-    if after_blanks(from(line, 2)).starts_with(b"[") {
+    if has_test_in_brackets(line) {
         page.put(keys::TEST_IN_BRACKETS, &[]);
     } else if goes_on(line) {
         page.put(keys::TEST_ON_LINES, &[]);
@@ -104,9 +221,14 @@ fn words_at(
     starts: &[usize],
     start: usize,
 ) -> Result<Bytes, AllocError> {
-    match statements.binary_search_by(|statement| statement.start.cmp(&start)) {
-        Ok(at) => words_of(alloc, &statements[at].reason),
-        Err(_) => words_of_other(alloc, text, starts, start),
+    let found = match statements.binary_search_by(|statement| statement.start.cmp(&start)) {
+        Ok(index) => words_of_index(alloc, text, statements, index)?,
+        Err(_) => None,
+    };
+    let other = words_of_other(alloc, text, starts, start)?;
+    match found {
+        Some(words) if !is_test_in_brackets(text, start) => Ok(words),
+        _ => Ok(other),
     }
 }
 

@@ -22,6 +22,9 @@ const BEGINNING: [&[u8]; 6] = [b"if", b"elif", b"while", b"until", b"for", b"cas
 /// The mark that a file of another system may begin with.
 const MARK: &[u8] = b"\xEF\xBB\xBF";
 
+/// The code of an error of a statement after AC_OUTPUT.
+const AFTER_OUTPUT: &[u8] = b"parse-10";
+
 /// Returns whether an error is of text that is no statement.
 fn is_of_text(error: &Finding) -> bool {
     error.code.as_slice() == b"parse-3".as_slice()
@@ -39,7 +42,10 @@ fn is_pattern(part: &[u8]) -> bool {
 /// Returns whether a line begins with a list of patterns of a `case`, and the parenthesis after it.
 fn has_patterns(line: &[u8]) -> bool {
     match line.iter().position(|byte| *byte == b')') {
-        Some(at) => before(line, at).split(|byte| *byte == b'|').all(is_pattern),
+        Some(at) => {
+            let patterns = before(line, at);
+            !closes_more(patterns) && patterns.split(|byte| *byte == b'|').all(is_pattern)
+        }
         None => false,
     }
 }
@@ -50,19 +56,53 @@ fn leads(part: &[u8]) -> bool {
     name == b"then".as_slice() || name == b"do".as_slice()
 }
 
-/// Returns whether a line ends the condition of a construct that began on a line before.
-fn ends_condition(line: &[u8]) -> bool {
-    let name = first_name(line);
-    !BEGINNING.iter().any(|other| *other == name)
-        && line.split(|byte| *byte == b';').skip(1).any(leads)
+/// Returns whether a word begins a construct of the shell.
+fn is_beginning(word: &[u8]) -> bool {
+    BEGINNING.iter().any(|other| *other == word)
 }
 
-/// Returns whether text goes on with a construct of the shell or ends it, begins with the patterns
-/// of a `case`, or is the value of a variable whose name is read as that of a macro.
+/// Returns whether a line has a word that begins a construct.
+fn has_beginning(line: &[u8]) -> bool {
+    line.split(|byte| matches!(*byte, b' ' | b'\t' | b';' | b'('))
+        .any(is_beginning)
+}
+
+/// Returns whether a line ends the condition of a construct that began on a line before.
+fn ends_condition(line: &[u8]) -> bool {
+    !has_beginning(line) && line.split(|byte| *byte == b';').skip(1).any(leads)
+}
+
+/// Returns whether a text closes more brackets than it opens.
+fn closes_more(text: &[u8]) -> bool {
+    let mut depth: usize = 0;
+    for byte in text {
+        if *byte == b']' && depth == 0 {
+            return true;
+        }
+        depth = depth.saturating_add(usize::from(*byte == b'['));
+        depth = depth.saturating_sub(usize::from(*byte == b']'));
+    }
+    false
+}
+
+/// Returns whether what is at an offset is in an argument of a call without more of its line: a
+/// comma is before it.
+fn is_after_comma(text: &[u8], at: usize) -> bool {
+    without_end_blanks(before(text, at)).ends_with(b",")
+}
+
+/// Returns whether text begins with the patterns of a `case`. An argument that ends in a parenthesis
+/// looks the same, but for a comma before it or a bracket that it closes.
+fn begins_with_patterns(text: &[u8], at: usize) -> bool {
+    let line = first_line(from(text, at));
+    has_patterns(line) && !is_after_comma(text, at)
+}
+
+/// Returns whether text goes on with a construct of the shell or ends it, or is the value of a
+/// variable whose name is read as that of a macro.
 fn continues(rest: &[u8]) -> bool {
     let name = first_name(rest);
     rest.starts_with(b"=")
-        || has_patterns(first_line(rest))
         || ends_condition(first_line(rest))
         || CONTINUING.iter().any(|other| *other == name)
 }
@@ -109,7 +149,10 @@ fn is_of_word(error: &Finding) -> bool {
 /// begins with a mark.
 fn is_of_other(text: &[u8], error: &Finding) -> bool {
     let rest = from(text, error.start);
-    rest.starts_with(MARK) || continues(rest) || is_surplus_close(text, error.start)
+    rest.starts_with(MARK)
+        || continues(rest)
+        || begins_with_patterns(text, error.start)
+        || is_surplus_close(text, error.start)
 }
 
 /// Returns whether another error is about the text of an error too. That of a variable whose name is
@@ -143,6 +186,18 @@ fn is_new(
     Ok(is_new)
 }
 
+/// Returns the offset of the first statement after AC_OUTPUT, if it has an error. If none has,
+/// returns one after all offsets.
+fn first_after_output(errors: &[Finding], least: usize) -> usize {
+    let mut first = least;
+    for error in errors {
+        if error.code.as_slice() == AFTER_OUTPUT {
+            first = first.min(error.start);
+        }
+    }
+    first
+}
+
 /// Returns what errors say.
 fn seen_in(alloc: Global, text: &[u8], errors: &[Finding]) -> Result<Seen, AllocError> {
     let mut seen = BTreeSet::new(alloc);
@@ -152,11 +207,56 @@ fn seen_in(alloc: Global, text: &[u8], errors: &[Finding]) -> Result<Seen, Alloc
     Ok(seen)
 }
 
+/// Returns whether the error of a macro that isn't known is at an offset.
+fn is_unknown_at(alloc: Global, at: usize, seen: &Seen) -> Result<bool, AllocError> {
+    let mut key = Vec::from_slice(alloc, &at.to_le_bytes())?;
+    key.extend_from_slice(b"parse-2")?;
+    Ok(seen.contains(key.as_slice()))
+}
+
+/// Returns whether an error is of a word with a variable whose name is read as that of a macro that
+/// isn't known: a `${` is before it.
+fn has_unknown(
+    alloc: Global,
+    text: &[u8],
+    error: &Finding,
+    seen: &Seen,
+) -> Result<bool, AllocError> {
+    if !is_of_word(error) {
+        return Ok(false);
+    }
+    let line = first_line(from(text, error.start));
+    for i in 0..line.len() {
+        let name = error.start.saturating_add(i).saturating_add(2);
+        if from(line, i).starts_with(b"${") && is_unknown_at(alloc, name, seen)? {
+            return Ok(true);
+        }
+    }
+    Ok(false)
+}
+
+/// Returns whether an error is one more about what another one says.
+fn is_echo(
+    alloc: Global,
+    text: &[u8],
+    first: usize,
+    error: &Finding,
+    seen: &Seen,
+) -> Result<bool, AllocError> {
+    let is_later = error.code.as_slice() == AFTER_OUTPUT && first < error.start;
+    if is_later || is_continuing(text, error) {
+        return Ok(true);
+    }
+    has_unknown(alloc, text, error, seen)
+}
+
 /// Appends an error, if its place and code are new, and if it isn't of text that goes on with a
-/// construct of the shell.
+/// construct of the shell, nor of a statement after AC_OUTPUT that isn't the first, which begins at
+/// an offset.
 fn push_new(
     alloc: Global,
     text: &[u8],
+    first: usize,
     error: Finding,
     seen: &mut Seen,
     out: &mut Vec<Finding>,
@@ -165,14 +265,15 @@ fn push_new(
     ensures among { OnOk result (specs.KeepsAmong out.old.items out.new.items) }
     ensures errors { OnOk result (specs.KeepsErrors (length text.now) out.old.items out.new.items) }
 {
-    if !is_continuing(text, &error) && is_new(alloc, text, &error, seen)? {
+    if !is_echo(alloc, text, first, &error, seen)? && is_new(alloc, text, &error, seen)? {
         out.push(error)?;
     }
     Ok(())
 }
 
 /// Returns errors with others after them, but for those whose place and code an earlier one has,
-/// and those of text that goes on with a construct of the shell.
+/// those of text that goes on with a construct of the shell, and those of statements after
+/// AC_OUTPUT that aren't the first.
 pub(crate) fn joined(
     alloc: Global,
     text: &[u8],
@@ -185,13 +286,15 @@ pub(crate) fn joined(
     ensures errors { IfOk result (λ v. All (specs.IsErrorOf (length text.now)) v.items) }
 {
     let mut seen = seen_in(alloc, text, errors.as_slice())?;
+    let first = first_after_output(errors.as_slice(), usize::MAX);
+    let first = first_after_output(others.as_slice(), first);
     let mut out = errors;
     let mut rest = others;
     for _ in 0..rest.len() {
         let Some(error) = rest.pop() else {
             return Ok(out);
         };
-        push_new(alloc, text, error, &mut seen, &mut out)?;
+        push_new(alloc, text, first, error, &mut seen, &mut out)?;
     }
     Ok(out)
 }

@@ -12,12 +12,13 @@
 //! all_errors(alloc, b"AC_INIT([a],[1])\nx y\nAC_SUBST\nAC_OUTPUT\n")?   // `x y` at 17, and AC_SUBST at 21
 //! ```
 //!
-//! Read `scan` (what is open at a place), `pieces` (where a piece begins), `masking` (what becomes
+//! Read `scan` (what is open at a place), `calling` (what looks like a call), `pieces` (where a piece begins), `masking` (what becomes
 //! blanks), `rounds` (the errors of one piece, or of the whole), `joining` (each error once), and
 //! then `runs` (all pieces) and `whole`. `specs/Found` has the definitions. A call fails only if
 //! memory runs out. "own" marks a rule that no manual gives.
 #![tactic(auto)]
 
+mod calling;
 mod joining;
 mod masking;
 mod pieces;

@@ -1,5 +1,6 @@
 //! Blanks in place of a statement, so that the errors after it are found.
 
+use crate::calling::called_len;
 use crate::scan::Scan;
 use ac_calls::{CallAt, Extent};
 use lint_text::{after_blanks, from, part};
@@ -182,6 +183,7 @@ fn blank_statement(before: Scan, text: &mut [u8], start: usize, end: usize) -> b
 pub(crate) fn blank_bare(text: &mut [u8], calls: &[CallAt], place: usize) -> bool {
     let end = bare_end(text, calls, place);
     let before = scan_after(part(text, bare_start(text, calls, place), place));
-    let len = statement_len(before, part(text, place, end));
+    let statement = part(text, place, end);
+    let len = statement_len(before, statement).max(called_len(statement));
     blank_statement(before, text, place, place.saturating_add(len.max(1)))
 }

@@ -8,7 +8,7 @@ use deftable::Bytes;
 use lint_findings::Finding;
 use lint_macros::{Index, MacroEntry, MacroKind, entry_name, fill, takes_list};
 use lint_table::{Key, Page, WordPart, keys};
-use lint_text::{before, first_line, first_name, from, part};
+use lint_text::{before, first_line, first_name, from, part, without_end_blanks};
 use std::alloc::{AllocError, Global};
 
 /// Returns the texts of the arguments.
@@ -208,17 +208,33 @@ fn in_brackets(alloc: Global, text: &[u8], call: &CallAt) -> Result<Bytes, Alloc
     page.help()
 }
 
-/// Returns whether a macro is defined as AC_USE_SYSTEM_EXTENSIONS in Autoconf 2.71.
-fn is_of_extensions(name: &[u8]) -> bool {
-    name == b"AC_AIX".as_slice() || name == b"AC_MINIX".as_slice()
+/// Returns the first argument of a call without blanks at its end and the brackets around it. If it
+/// has none, it is empty.
+fn first_argument<'a>(text: &'a [u8], call: &CallAt) -> &'a [u8] {
+    match call.args.first() {
+        Some(arg) => first_of(&[without_end_blanks(part(text, arg.start, arg.end))]),
+        None => b"",
+    }
 }
 
-/// Returns the name of the macro that a macro is defined as, or its own.
-fn newer_name(name: &[u8]) -> &[u8] {
-    if is_of_extensions(name) {
-        b"AC_USE_SYSTEM_EXTENSIONS"
+/// Returns whether a text is the name of a type, as far as its form tells it.
+fn names_type(text: &[u8]) -> bool {
+    text.ends_with(b"_t") || text.starts_with(b"struct ")
+}
+
+/// Returns the name that the table has for a call: of some macros the first argument decides which
+/// entry is about the call.
+fn table_name<'a>(text: &'a [u8], call: &CallAt) -> &'a [u8] {
+    let name = part(text, call.start, call.name_end);
+    let first = first_argument(text, call);
+    if name == b"AC_TRY_LINK_FUNC".as_slice() && first == b"main".as_slice() {
+        b"AC_TRY_LINK_FUNC(main)"
+    } else if name == b"AC_EGREP_HEADER".as_slice() && names_type(first) {
+        b"AC_EGREP_HEADER(type)"
+    } else if name == b"m4_ifdef".as_slice() && first.starts_with(b"AM_") {
+        b"m4_ifdef(AM)"
     } else {
-        name
+        entry_name(name, call.args.len())
     }
 }
 
@@ -232,8 +248,7 @@ fn help_of(
     if is_variable(text, call) {
         return in_brackets(alloc, text, call).map(|help| Some(help));
     }
-    let name = newer_name(part(text, call.start, call.name_end));
-    match index.entry_of(alloc, entry_name(name, call.args.len()))? {
+    match index.entry_of(alloc, table_name(text, call))? {
         None => Ok(None),
         Some(entry) => said(alloc, text, &call.args, entry).map(|help| Some(help)),
     }

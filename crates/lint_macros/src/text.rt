@@ -25,7 +25,7 @@ AS_IF([$2{TEST}],
 AC_SUBST([$1!{NAME}_TRUE])
 AC_SUBST([$1!{NAME}_FALSE])~idiom AM_COND_IF
 AS_IF([test -z \"$$1!{NAME}_TRUE\"], [$2{ACTION}], [$3{}])~drop AC_C_CONST AC_C_INLINE AC_C_VOLATILE AC_C_RESTRICT AC_C_PROTOTYPES AC_C_STRINGIZE AC_C_TYPEOF AC_C_BACKSLASH_A AC_C_CHAR_UNSIGNED AC_CONST AC_INLINE AC_PROG_CC_STDC AC_PROG_CC_C89 AC_PROG_CC_C99 AC_PROG_GCC_TRADITIONAL AM_PROG_CC_STDC AM_C_PROTOTYPES gl_PROG_CC_C99 AC_CHAR_UNSIGNED
-each compiler of this century has it, and AC_PROG_CC looks for the compiler; a flag such as -std=gnu99 is given in CFLAGS or CC~drop AC_AIX AC_MINIX AC_ZOS_USS AC_EMXOS2 AC_HEADER_STAT AC_FUNC_STAT AC_FUNC_LSTAT AC_FUNC_MEMCMP AC_FUNC_CLOSEDIR_VOID AC_FUNC_SETVBUF_REVERSED AC_FUNC_MKTIME AC_FUNC_STRTOD AC_SETVBUF_REVERSED
+each compiler of this century has it; acrun port leaves the call out if AC_PROG_CC is there, which looks for the compiler; a flag such as -std=gnu99 is given in CFLAGS or CC~drop AC_ZOS_USS AC_EMXOS2 AC_HEADER_STAT AC_FUNC_STAT AC_FUNC_LSTAT AC_FUNC_MEMCMP AC_FUNC_CLOSEDIR_VOID AC_FUNC_SETVBUF_REVERSED AC_FUNC_MKTIME AC_FUNC_STRTOD AC_SETVBUF_REVERSED
 it looks for a fault of systems that are long gone~idiom AC_ISC_POSIX
 AC_SEARCH_LIBS([strerror], [cposix])~idiom AC_STRUCT_TM
 AC_CACHE_CHECK([whether struct tm is in sys/time.h or time.h], [ac_cv_struct_tm],
@@ -34,7 +34,7 @@ AC_CACHE_CHECK([whether struct tm is in sys/time.h or time.h], [ac_cv_struct_tm]
     [ac_cv_struct_tm=time.h], [ac_cv_struct_tm=sys/time.h])])
 AS_IF([test \"$ac_cv_struct_tm\" = sys/time.h],
   [AC_DEFINE([TM_IN_SYS_TIME], [1], [Define to 1 if your <sys/time.h> declares struct tm.])])~drop AC_TYPE_INT8_T AC_TYPE_INT16_T AC_TYPE_INT32_T AC_TYPE_INT64_T AC_TYPE_UINT8_T AC_TYPE_UINT16_T AC_TYPE_UINT32_T AC_TYPE_UINT64_T AC_TYPE_INTMAX_T AC_TYPE_UINTMAX_T AC_TYPE_INTPTR_T AC_TYPE_UINTPTR_T AC_TYPE_LONG_LONG_INT AC_TYPE_UNSIGNED_LONG_LONG_INT AC_TYPE_LONG_DOUBLE AC_C_LONG_DOUBLE AC_TYPE_MBSTATE_T AC_C_FLEXIBLE_ARRAY_MEMBER AC_C_VARARRAYS gl_C_BOOL gl_AC_TYPE_LONG_LONG
-each compiler of this century has it, the types in stdint.h; if the sources test a name such as HAVE_INTMAX_T, define it by AC_DEFINE~idiom AC_USE_SYSTEM_EXTENSIONS AC_GNU_SOURCE gl_USE_SYSTEM_EXTENSIONS AC_POSIX_SOURCE
+each compiler of this century has it, the types in stdint.h; if the sources test a name such as HAVE_INTMAX_T, define it by AC_DEFINE~idiom AC_USE_SYSTEM_EXTENSIONS AC_GNU_SOURCE gl_USE_SYSTEM_EXTENSIONS AC_POSIX_SOURCE AC_AIX AC_MINIX
 AC_DEFINE([_GNU_SOURCE], [1], [Enable GNU extensions.])
 AC_DEFINE([__EXTENSIONS__], [1], [Enable extensions of Solaris.])~idiom AC_CONFIG_HEADER AM_CONFIG_HEADER
 AC_CONFIG_HEADERS([$1{HEADER}])~idiom AC_HELP_STRING
@@ -288,7 +288,8 @@ AC_PREPROC_IFELSE([AC_LANG_SOURCE([[#include <stdio.h>
 AC_PREPROC_IFELSE([AC_LANG_SOURCE([[$1{PROGRAM}]])],
   [$2{FOUND}], [$3{NOT-FOUND}])~idiom AC_EGREP_HEADER
 dnl of a type: AC_CHECK_TYPE with the same arguments
-AC_CHECK_DECL([$1!{SYMBOL}], [$3{FOUND}], [$4{NOT-FOUND}], [#include <$2!{HEADER}>])~idiom AC_CHECK_MEMBERS
+AC_CHECK_DECL([$1!{SYMBOL}], [$3{FOUND}], [$4{NOT-FOUND}], [#include <$2!{HEADER}>])~idiom AC_EGREP_HEADER(type)
+AC_CHECK_TYPE([$1!{TYPE}], [$3{FOUND}], [$4{NOT-FOUND}], [#include <$2!{HEADER}>])~idiom AC_CHECK_MEMBERS
 AC_CACHE_CHECK([for $1{TYPE.MEMBER}], [ac_cv_member_$1_{TYPE_MEMBER}],
   [AC_COMPILE_IFELSE([AC_LANG_PROGRAM([AC_INCLUDES_DEFAULT
 #include <inttypes.h>

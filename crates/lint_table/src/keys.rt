@@ -102,10 +102,6 @@ pub const PROGRAM_ARGUMENT: Key = Key(b"program-argument", b"", b"write AC_LANG_
 #[rattlefmt::skip]
 pub const BARE_ARGUMENT: Key = Key(b"bare-argument", b"", b"an action has assignments and calls; blanks separate a list");
 
-/// make each check only if the one before it says no, as in
-#[rattlefmt::skip]
-pub const BREAK_ACTION: Key = Key(b"break-action", b"", b"make each check only if the one before it says no, as in\nAC_CHECK_FUNCS([f], [], [AC_CHECK_FUNCS([g])])");
-
 /// the second argument is an action, and not a default; write instead
 #[rattlefmt::skip]
 pub const DEFAULT_OF_TYPE: Key = Key(b"default-of-type", b"", b"the second argument is an action, and not a default; write instead\nAC_CHECK_TYPE([\x01], [],\n  [AC_DEFINE([\x01], [\x02], [Define if there is no \x01.])])");
@@ -230,9 +226,9 @@ pub const NO_FILES: Key = Key(b"no-files", b"\x02: \x01 is not a list of files",
 #[rattlefmt::skip]
 pub const NO_MADE_HEADERS: Key = Key(b"no-made-headers", b"\x02: \x01 is not a list of headers", b"separate files by blanks; a name has no `..`, `$` or leading `/`");
 
-/// MACRO names FILE a second time; the first is on line NUMBER
+/// MACRO names FILE a second time
 #[rattlefmt::skip]
-pub const NAMED_TWICE: Key = Key(b"named-twice", b"\x02 names \x01 a second time; the first is on line \x03", b"leave one of them out");
+pub const NAMED_TWICE: Key = Key(b"named-twice", b"\x02 names \x01 a second time", b"leave one of them out");
 
 /// MACRO: FILE is not in the directory of the run
 #[rattlefmt::skip]
@@ -306,6 +302,10 @@ pub const NO_WORD: Key = Key(b"no-word", b"\x01 is not a shell word that acrun s
 #[rattlefmt::skip]
 pub const NO_VALUE: Key = Key(b"no-value", b"acrun doesn't support the value of this assignment", b"a value is a shell word: text, quotes, $name and ${name}");
 
+/// acrun takes the name NAME in this value for that of a macro
+#[rattlefmt::skip]
+pub const MACRO_IN_VALUE: Key = Key(b"macro-in-value", b"acrun takes the name \x01 in this value for that of a macro", b"write it in brackets, as in ${[\x01]}");
+
 /// TEXT is not a test that acrun supports
 #[rattlefmt::skip]
 pub const NO_TEST: Key = Key(b"no-test", b"\x01 is not a test that acrun supports", b"write test -n, test -z, test A = B or test A != B, with &&, || and !");
@@ -349,6 +349,10 @@ pub const SHELL_EXIT: Key = Key(b"shell-exit", b"the shell's `\x01` is not suppo
 /// the shell's `WORD` is not supported
 #[rattlefmt::skip]
 pub const SHELL_EXPORT: Key = Key(b"shell-export", b"the shell's `\x01` is not supported", b"leave it out: checks have CC and the flags, templates use AC_SUBST");
+
+/// the shell's `WORD` is not supported
+#[rattlefmt::skip]
+pub const SHELL_BREAK: Key = Key(b"shell-break", b"the shell's `\x01` is not supported", b"make each check only if the one before it says no, as in\nAC_CHECK_FUNCS([f], [], [AC_CHECK_FUNCS([g])])");
 
 /// the shell's `WORD` is not supported
 #[rattlefmt::skip]
@@ -446,6 +450,10 @@ pub const VARIABLE_WITH_OPERATOR: Key = Key(b"variable-with-operator", b"`${NAME
 #[rattlefmt::skip]
 pub const VARIABLE_WITH_CUT: Key = Key(b"variable-with-cut", b"`${NAME#WORD}` and its like are not supported", b"write the parts out, or let the user give them\nAC_ARG_VAR([NAME], [what it is])");
 
+/// `${NAME+WORD}` is not supported
+#[rattlefmt::skip]
+pub const VARIABLE_WITH_TEST: Key = Key(b"variable-with-test", b"`${NAME+WORD}` is not supported", b"write test -n \"$NAME\"; it is false, too, if the variable is empty");
+
 /// a backquote in a message is not supported
 #[rattlefmt::skip]
 pub const MESSAGE_BACKQUOTE: Key = Key(b"message-backquote", b"a backquote in a message is not supported", b"write an apostrophe in its place");
@@ -490,6 +498,50 @@ pub const INIT_NOT_FIRST: Key = Key(b"init-not-first", b"this is before AC_INIT:
 #[rattlefmt::skip]
 pub const CALL_IS_REFUSED: Key = Key(b"call-is-refused", b", and acrun port leaves it: \x01", b"");
 
+/// , and acrun port leaves it: in it, WHAT
+#[rattlefmt::skip]
+pub const IN_IT_REFUSED: Key = Key(b"in-it-refused", b", and acrun port leaves it: in it, \x01", b"");
+
+/// the `STATEMENT` is within `LOOP`
+#[rattlefmt::skip]
+pub const IN_LOOP: Key = Key(b"in-loop", b"the `\x01` is within `\x02`", b"");
+
+/// the `STATEMENT` is within braces
+#[rattlefmt::skip]
+pub const IN_BRACES: Key = Key(b"in-braces", b"the `\x01` is within braces", b"");
+
+/// the `STATEMENT` is within parentheses
+#[rattlefmt::skip]
+pub const IN_PARENTHESES: Key = Key(b"in-parentheses", b"the `\x01` is within parentheses", b"");
+
+/// the `STATEMENT` is in a condition
+#[rattlefmt::skip]
+pub const IN_CONDITION: Key = Key(b"in-condition", b"the `\x01` is in a condition", b"");
+
+/// the `STATEMENT` is joined to another command
+#[rattlefmt::skip]
+pub const JOINED_TO_COMMAND: Key = Key(b"joined-to-command", b"the `\x01` is joined to another command", b"");
+
+/// a call is before the `STATEMENT` on its line
+#[rattlefmt::skip]
+pub const AFTER_CALL: Key = Key(b"after-call", b"a call is before the `\x01` on its line", b"");
+
+/// the `STATEMENT` is the body of a function
+#[rattlefmt::skip]
+pub const FUNCTION_BODY: Key = Key(b"function-body", b"the `\x01` is the body of a function", b"");
+
+/// a word of the `STATEMENT` is in brackets, which are quotes here
+#[rattlefmt::skip]
+pub const WORD_IN_BRACKETS: Key = Key(b"word-in-brackets", b"a word of the `\x01` is in brackets, which are quotes here", b"");
+
+/// something is after the `STATEMENT` on its line
+#[rattlefmt::skip]
+pub const FOLLOWED_ON_LINE: Key = Key(b"followed-on-line", b"something is after the `\x01` on its line", b"");
+
+/// a comment is in the condition of the `STATEMENT`
+#[rattlefmt::skip]
+pub const COMMENT_IN_CONDITION: Key = Key(b"comment-in-condition", b"a comment is in the condition of the `\x01`", b"");
+
 /// , and acrun port leaves it without --idioms, since Autoconf makes the checks that a macro in a call needs in any case
 #[rattlefmt::skip]
 pub const CALL_DRAWS: Key = Key(b"call-draws", b", and acrun port leaves it without --idioms, since Autoconf makes the checks that a macro in a call needs in any case", b"");
@@ -512,7 +564,7 @@ pub const NO_INIT: Key = Key(b"no-init", b"there is no AC_INIT", b"begin with AC
 
 /// TEXT is after AC_OUTPUT
 #[rattlefmt::skip]
-pub const TEXT_AFTER_OUTPUT: Key = Key(b"text-after-output", b"\x01 is after AC_OUTPUT", b"move it before AC_OUTPUT: only comments may be after it");
+pub const TEXT_AFTER_OUTPUT: Key = Key(b"text-after-output", b"\x01 is after AC_OUTPUT", b"move it and what is after it before AC_OUTPUT, but for comments");
 
 /// there is no AC_OUTPUT
 #[rattlefmt::skip]

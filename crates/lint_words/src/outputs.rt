@@ -2,7 +2,7 @@
 
 use ac_calls::{CallAt, Extent};
 use lint_table::{Key, Page, WordPart, keys};
-use lint_text::{before, part, position_of};
+use lint_text::{before, part};
 use std::alloc::{AllocError, Global};
 use std::collections::BTreeSet;
 
@@ -50,22 +50,6 @@ fn list_in(text: &[u8], call: &CallAt) -> Option<Extent> {
     } else {
         None
     }
-}
-
-/// Returns the line on which an output is named first.
-fn first_line_of(text: &[u8], calls: &[CallAt], name: &[u8]) -> usize {
-    for call in calls {
-        if let Some(list) = list_in(text, call) {
-            let mut at = list.start;
-            for entry in part(text, list.start, list.end).split(|byte| is_border(*byte)) {
-                if name_of(entry) == name {
-                    return position_of(text, at).line;
-                }
-                at = at.saturating_add(entry.len()).saturating_add(1);
-            }
-        }
-    }
-    0
 }
 
 /// Adds the names of a list. Returns the first one that was there before, if one was.
@@ -135,14 +119,9 @@ pub(crate) fn put_bad_outputs<'a>(
     let Some(file) = named_before(alloc, text, calls, at)? else {
         return Ok(false);
     };
-    let line = first_line_of(text, calls, file);
     page.put(
         keys::NAMED_TWICE,
-        &[
-            WordPart::Quoted(file),
-            WordPart::AsItIs(name),
-            WordPart::Number(line),
-        ],
+        &[WordPart::Quoted(file), WordPart::AsItIs(name)],
     );
     Ok(true)
 }

@@ -7,7 +7,7 @@ use crate::arguments::put_bad_argument;
 use crate::calls::{arguments_at, before_close, call_around, last_name, unquoted};
 use crate::forms::form_of;
 use crate::outputs::put_bad_outputs;
-use crate::shell::argument_help;
+use crate::shell::{argument_help, within_argument};
 use crate::{near_name, shell_help, test_help};
 use ac_calls::{CallAt, Extent};
 use ac_macros::Row;
@@ -203,22 +203,6 @@ fn has_blank_after_equals(text: &[u8]) -> bool {
     text.starts_with(b"= ") || text.starts_with(b"=\t")
 }
 
-/// Returns what a word begins with before a bracket that closes none of the word, which ends the
-/// argument that the word is in.
-fn within_argument(word: &[u8]) -> &[u8] {
-    let (mut depth, mut len) = (0_usize, 0_usize);
-    for byte in word {
-        match *byte {
-            b']' | b')' if depth == 0 => return before(word, len),
-            b'[' | b'(' => depth = depth.saturating_add(1),
-            b']' | b')' => depth = depth.saturating_sub(1),
-            _ => {}
-        }
-        len = len.saturating_add(1);
-    }
-    word
-}
-
 /// Returns the word by which a statement is named that this text begins with.
 fn statement_word(text: &[u8]) -> &[u8] {
     let word = first_word(text);
@@ -284,8 +268,6 @@ fn put_no_statements(page: &mut Page, around: Around<'_>) {
     );
     if around.is_program() {
         page.put(keys::PROGRAM_ARGUMENT, &[]);
-    } else if around.argument() == b"break".as_slice() {
-        page.put(keys::BREAK_ACTION, &[]);
     } else if around.is_default() {
         put_default(page, around);
     } else if !around.written().contains(&b'[') {
@@ -431,9 +413,28 @@ fn put_argument_word(page: &mut Page, call: &[u8], argument: &[u8]) {
     }
 }
 
+/// Returns the name in the first line of a text that is after a `${`, and that a call begins with.
+fn macro_in_value<'a>(around: Around<'a>) -> Option<&'a [u8]> {
+    let len = first_line(around.rest()).len();
+    let end = around.at.saturating_add(len);
+    let call = around
+        .calls
+        .iter()
+        .find(|call| around.at <= call.start && call.start < end)?;
+    if before(around.text, call.start).ends_with(b"${") {
+        Some(part(around.text, call.start, call.name_end))
+    } else {
+        None
+    }
+}
+
 /// Writes what is wrong with a value that is assigned.
-fn put_value(page: &mut Page, rest: &[u8]) {
-    match shell_help(rest) {
+fn put_value(page: &mut Page, around: Around<'_>) {
+    if let Some(name) = macro_in_value(around) {
+        page.put(keys::MACRO_IN_VALUE, &[WordPart::AsItIs(name)]);
+        return;
+    }
+    match shell_help(around.rest()) {
         Some(found) => found.put(page),
         None => page.put(keys::NO_VALUE, &[]),
     }
@@ -444,7 +445,7 @@ fn put_word(page: &mut Page, around: Around<'_>) {
     if around.is_argument() {
         put_argument_word(page, around.call(), around.argument());
     } else {
-        put_value(page, around.rest());
+        put_value(page, around);
     }
 }
 

@@ -1,7 +1,7 @@
 //! What is said of shell text that is not read.
 
 use crate::table::{Construct, Fit, Kind, Nameless, row_of, said_of};
-use lint_text::{after_blanks, first_line, first_name, first_word, from};
+use lint_text::{after_blanks, before, first_line, first_name, first_word, from};
 
 /// Returns what is said of the first word of the text that a test may not have.
 fn row_of_words(text: &[u8]) -> Option<Construct> {
@@ -38,6 +38,7 @@ fn said_of_operator(text: &[u8]) -> Construct {
     let inside = from(text, 1);
     match from(inside, first_name(inside).len()) {
         [b'-' | b'=', ..] | [b':', b'-' | b'=', ..] => said_of(Nameless::Operator),
+        [b'+', ..] | [b':', b'+', ..] => said_of(Nameless::Test),
         _ => said_of(Nameless::Cut),
     }
 }
@@ -132,12 +133,29 @@ pub(crate) fn argument_help(argument: &[u8]) -> Option<Construct> {
     row_of(Kind::Piece, Fit::IsIn(argument))
 }
 
+/// Returns what a word begins with before a bracket that closes none of the word, which ends the
+/// argument that the word is in.
+pub(crate) fn within_argument(word: &[u8]) -> &[u8] {
+    let (mut depth, mut len) = (0_usize, 0_usize);
+    for byte in word {
+        match *byte {
+            b']' | b')' if depth == 0 => return before(word, len),
+            b'[' | b'(' => depth = depth.saturating_add(1),
+            b']' | b')' => depth = depth.saturating_sub(1),
+            _ => {}
+        }
+        len = len.saturating_add(1);
+    }
+    word
+}
+
 /// Returns what is said of a statement by what it begins with.
 fn front_help(text: &[u8]) -> Option<Construct> {
     if first_line(text).ends_with(b"\r") {
         return Some(said_of(Nameless::CarriageReturn));
     }
-    if let Some(found) = row_of(Kind::Word, Fit::Is(first_word(text))) {
+    let word = within_argument(first_word(text));
+    if let Some(found) = row_of(Kind::Word, Fit::Is(word)) {
         return Some(found);
     }
     if has_blank_before_equals(text) {

@@ -39,7 +39,7 @@ type Row = (Kind, &'static [u8], Key);
 
 /// What is said of the words that are not read.
 #[rattlefmt::skip]
-const ROWS: [Row; 31] = [
+const ROWS: [Row; 32] = [
     (Kind::Word, b"if then else elif fi", keys::SHELL_IF),
     (Kind::Word, b"case esac", keys::SHELL_CASE),
     (Kind::Word, b"for do done while until", keys::SHELL_FOR),
@@ -47,6 +47,7 @@ const ROWS: [Row; 31] = [
     (Kind::Word, b"[", keys::TEST_BRACKET),
     (Kind::Word, b"echo printf", keys::SHELL_ECHO),
     (Kind::Word, b"exit return", keys::SHELL_EXIT),
+    (Kind::Word, b"break continue", keys::SHELL_BREAK),
     (Kind::Word, b"export", keys::SHELL_EXPORT),
     (Kind::Word, b"unset", keys::SHELL_UNSET),
     (Kind::Word, b"set local . source", keys::SHELL_COMMAND),
@@ -128,6 +129,7 @@ pub(crate) enum Nameless {
     CarriageReturn,
     BlankBesideEquals,
     Operator,
+    Test,
     Cut,
     Special,
     DoubleQuote,
@@ -141,6 +143,7 @@ fn key_of(found: Nameless) -> Key {
         Nameless::CarriageReturn => keys::CARRIAGE_RETURN,
         Nameless::BlankBesideEquals => keys::BLANK_BESIDE_EQUALS,
         Nameless::Operator => keys::VARIABLE_WITH_OPERATOR,
+        Nameless::Test => keys::VARIABLE_WITH_TEST,
         Nameless::Cut => keys::VARIABLE_WITH_CUT,
         Nameless::Special => keys::SPECIAL_VARIABLE,
         Nameless::DoubleQuote => keys::OPEN_DOUBLE_QUOTE,

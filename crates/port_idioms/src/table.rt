@@ -89,6 +89,7 @@ pub(crate) fn exact() -> &'static [u8]
 #[rattlefmt::skip]
 pub const DIFFERING: &[u8] = b"\
 ACX_PTHREAD 0 0 the library is added to LIBS, and PTHREAD_CFLAGS is -pthread without a check
+AC_AIX 0 0 only _GNU_SOURCE and __EXTENSIONS__ are defined, and config.h.in needs a line for each
 AC_ALLOCA 0 0 the function is taken to be there, and ALLOCA is empty
 AC_ARG_PROGRAM 0 0 no option changes the names of programs
 AC_CACHE_VAL 2 2 a message with the name of the variable and its value are printed
@@ -107,7 +108,7 @@ AC_CHECK_MEMBER(includes) 4 4 if the fourth argument is empty, no header is incl
 AC_CHECK_MEMBERS 1 1 the headers that Autoconf includes are taken to be there
 AC_CHECK_MEMBERS(actions) 2 3 the headers that Autoconf includes are taken to be there
 AC_CHECK_MEMBERS(includes) 4 4 if the fourth argument is empty, no header is included
-AC_CHECK_SIZEOF 1 2 the headers that Autoconf includes are taken to be there, and a size other than 1, 2, 4, 8, 12 and 16 is an error
+AC_CHECK_SIZEOF 1 2 the headers that Autoconf includes are taken to be there, a blank after the type is dropped, and a size other than 1, 2, 4, 8, 12 and 16 is an error
 AC_CHECK_TARGET_TOOL 2 3 no program whose name begins with that of the target is looked for, and no system is detected
 AC_CHECK_TARGET_TOOLS 2 3 no program whose name begins with that of the target is looked for, and no system is detected
 AC_CHECK_TOOL 2 3 no program whose name begins with that of the host is looked for
@@ -179,6 +180,7 @@ AC_LIBTOOL_DLOPEN 0 1 there is no libtool, so a rule of the Makefile links the l
 AC_LIBTOOL_WIN32_DLL 0 1 there is no libtool, so a rule of the Makefile links the library
 AC_LONG_FILE_NAMES 0 0 HAVE_LONG_FILE_NAMES is defined without a check
 AC_MINGW32 0 0 a program is compiled, and the name of the host is not looked at
+AC_MINIX 0 0 only _GNU_SOURCE and __EXTENSIONS__ are defined, and config.h.in needs a line for each
 AC_MMAP 0 0 no program is run, so a function that is there counts as one that works
 AC_PATH_TOOL 2 2 no program whose name begins with that of the host is looked for
 AC_PATH_X 0 0 nothing is looked for, so the user gives X_CFLAGS and X_LIBS
@@ -195,7 +197,7 @@ AC_PROG_MAKE_SET 0 0 make is taken to set MAKE, so SET_MAKE is empty
 AC_PROG_RANLIB 0 0 no program whose name begins with that of the host is looked for
 AC_REPLACE_FUNCS 1 1 the object is in EXTRA_OBJS and not in LIBOBJS
 AC_SET_MAKE 0 0 make is taken to set MAKE, so SET_MAKE is empty
-AC_SIZEOF_TYPE 1 1 the headers that Autoconf includes are taken to be there, and a size other than 1, 2, 4, 8, 12 and 16 is an error
+AC_SIZEOF_TYPE 1 1 the headers that Autoconf includes are taken to be there, a blank after the type is dropped, and a size other than 1, 2, 4, 8, 12 and 16 is an error
 AC_STDC_HEADERS 0 0 STDC_HEADERS is defined without a check
 AC_STRCOLL 0 0 no program is run, so a function that is there counts as one that works
 AC_STRUCT_ST_BLKSIZE 0 0 the headers that Autoconf includes are taken to be there

@@ -1,6 +1,6 @@
 //! The compound statements that are open in a list of statements.
 
-use crate::cut::Cut;
+use crate::cut::{Around, Cut, Kept};
 use crate::shell::{Sign, Word};
 use lint_text::from;
 use port_compounds::{CaseBranch, CaseCut, GuardCut, IfBranch, IfCut};
@@ -43,6 +43,12 @@ struct Compound {
     is_in_list: bool,
     /// Whether it may be rewritten.
     is_allowed: bool,
+    /// What is around it that keeps a statement from being rewritten.
+    outer: Option<Around>,
+    /// The same, or what is at its words.
+    around: Option<Around>,
+    /// The offset of the first loop, brace or parenthesis in it.
+    at_other: Option<usize>,
     /// The offset of its first byte.
     start: usize,
     /// The branches of an `if` so far, and the one that was begun.
@@ -65,6 +71,32 @@ impl Compound {
     fn is_list(&self) -> bool {
         let is_done = self.stage == Stage::Body || self.stage == Stage::Default;
         self.is_in_list && is_done && matches!(self.kind, Kind::If | Kind::Case)
+    }
+
+    /// Returns what a statement has around it that is in this one, if that keeps it from being
+    /// rewritten.
+    fn around_inner(&self) -> Option<Around> {
+        match self.kind {
+            Kind::If | Kind::Case if self.stage == Stage::Head => Some(Around::Condition),
+            Kind::If | Kind::Case => self.outer,
+            Kind::Loop | Kind::Group | Kind::Paren => Some(Around::Other(self.start)),
+        }
+    }
+
+    /// Notes that a statement of this kind begins in it.
+    fn take_in(&mut self, kind: Kind, start: usize) {
+        self.is_allowed = false;
+        if !matches!(kind, Kind::If | Kind::Case) && self.at_other.is_none() {
+            self.at_other = Some(start);
+        }
+    }
+
+    /// Notes whether a word of it is in brackets.
+    fn read_quotes(&mut self, is_quoted: bool) {
+        self.is_allowed &= !is_quoted;
+        if is_quoted && self.around.is_none() {
+            self.around = Some(Around::Brackets);
+        }
     }
 }
 
@@ -95,6 +127,8 @@ pub(crate) struct Compounds {
     /// The statement that begins with a test, up to the last word that was read.
     guard: Option<GuardCut>,
     found: Vec<Cut>,
+    /// The statements that aren't rewritten, whatever their parts are.
+    kept: Vec<Kept>,
 }
 
 /// Returns whether a word is a name and `+=` with something after it.
@@ -126,14 +160,40 @@ impl Compounds {
             semicolon: None,
             guard: None,
             found: Vec::new(alloc),
+            kept: Vec::new(alloc),
         }
     }
 
-    /// Ends the list, and returns the statements that may be rewritten.
-    pub(crate) fn into_found(mut self) -> Result<Vec<Cut>, AllocError> {
+    /// Ends the list, and returns the statements that may be rewritten, and those that aren't,
+    /// whatever their parts are.
+    pub(crate) fn into_found(mut self) -> Result<(Vec<Cut>, Vec<Kept>), AllocError> {
         self.end_guard()?;
-        let Compounds { found, .. } = self;
-        Ok(found)
+        let Compounds { found, kept, .. } = self;
+        Ok((found, kept))
+    }
+
+    /// Returns what is around a statement that begins here, if that keeps it from being rewritten.
+    fn outer(&self) -> Option<Around> {
+        match self.open.last() {
+            Some(last) => last.around_inner(),
+            None => None,
+        }
+    }
+
+    /// Returns what is before a statement that begins here, or at its first word, if that keeps it
+    /// from being rewritten.
+    fn at_words(&self, is_quoted: bool) -> Option<Around> {
+        if is_quoted {
+            return Some(Around::Brackets);
+        }
+        if self.is_function {
+            return Some(Around::Function);
+        }
+        match self.front {
+            Front::Statement => None,
+            Front::AfterCall => Some(Around::Call),
+            Front::Joined | Front::Further => Some(Around::Command),
+        }
     }
 
     /// Ends a statement that begins with a test, if one was begun. If something is joined to the
@@ -221,8 +281,14 @@ impl Compounds {
             && self.front == Front::Statement
             && !self.is_function
             && !is_quoted;
+        let outer = self.outer();
+        let around = if outer.is_some() {
+            outer
+        } else {
+            self.at_words(is_quoted)
+        };
         if let Some(last) = self.open.last_mut() {
-            last.is_allowed = false;
+            last.take_in(kind, word.start);
         }
         self.is_function = false;
         self.open.push(Compound {
@@ -230,6 +296,9 @@ impl Compounds {
             stage: Stage::Head,
             is_in_list,
             is_allowed,
+            outer,
+            around,
+            at_other: None,
             start: word.start,
             branches: Vec::new(alloc),
             branch: branch_at(word.end),
@@ -255,7 +324,7 @@ impl Compounds {
             Some(last) if last.kind == Kind::If && last.stage == Stage::Head => {
                 last.stage = Stage::Body;
                 last.branch.at_then = word.start;
-                last.is_allowed &= !is_quoted;
+                last.read_quotes(is_quoted);
                 self.front = Front::Statement;
             }
             _ => self.lose(),
@@ -270,7 +339,7 @@ impl Compounds {
                 last.branches.push(last.branch)?;
                 last.branch = branch_at(word.end);
                 last.stage = Stage::Head;
-                last.is_allowed &= !is_quoted;
+                last.read_quotes(is_quoted);
                 self.front = Front::Joined;
             }
             _ => self.lose(),
@@ -286,7 +355,7 @@ impl Compounds {
                 last.branches.push(last.branch)?;
                 last.at_else = Some(word.start);
                 last.stage = Stage::Default;
-                last.is_allowed &= !is_quoted;
+                last.read_quotes(is_quoted);
                 self.front = Front::Statement;
             }
             _ => self.lose(),
@@ -297,13 +366,16 @@ impl Compounds {
     /// Closes an `if` that was taken out.
     fn close_if(
         &mut self,
-        compound: Compound,
+        mut compound: Compound,
         word: Word,
         is_quoted: bool,
     ) -> Result<(), AllocError> {
+        compound.read_quotes(is_quoted);
         let Compound {
             stage,
             is_allowed,
+            around,
+            at_other,
             start,
             mut branches,
             mut branch,
@@ -314,14 +386,32 @@ impl Compounds {
             branch.end = word.start;
             branches.push(branch)?;
         }
-        if is_allowed && !is_quoted {
-            self.found.push(Cut::If(IfCut {
-                start,
-                branches,
-                at_else,
-                at_fi: word.start,
-                end: word.end,
-            }))?;
+        let cut = Cut::If(IfCut {
+            start,
+            branches,
+            at_else,
+            at_fi: word.start,
+            end: word.end,
+        });
+        self.push_cut(cut, is_allowed, around, at_other)
+    }
+
+    /// Appends a statement to those that may be rewritten, or to those that aren't.
+    fn push_cut(
+        &mut self,
+        cut: Cut,
+        is_allowed: bool,
+        around: Option<Around>,
+        at_other: Option<usize>,
+    ) -> Result<(), AllocError> {
+        if is_allowed {
+            self.found.push(cut)?;
+        } else {
+            self.kept.push(Kept {
+                cut,
+                around,
+                at_other,
+            })?;
         }
         Ok(())
     }
@@ -329,13 +419,16 @@ impl Compounds {
     /// Closes a `case` that was taken out.
     fn close_case(
         &mut self,
-        compound: Compound,
+        mut compound: Compound,
         word: Word,
         is_quoted: bool,
     ) -> Result<(), AllocError> {
+        compound.read_quotes(is_quoted);
         let Compound {
             stage,
             is_allowed,
+            around,
+            at_other,
             start,
             at_in,
             mut cases,
@@ -348,16 +441,14 @@ impl Compounds {
                 end: word.start,
             })?;
         }
-        if is_allowed && !is_quoted {
-            self.found.push(Cut::Case(CaseCut {
-                start,
-                at_in,
-                branches: cases,
-                at_esac: word.start,
-                end: word.end,
-            }))?;
-        }
-        Ok(())
+        let cut = Cut::Case(CaseCut {
+            start,
+            at_in,
+            branches: cases,
+            at_esac: word.start,
+            end: word.end,
+        });
+        self.push_cut(cut, is_allowed, around, at_other)
     }
 
     /// Takes out the last compound statement if it is of this kind, and otherwise gives up.
@@ -477,7 +568,7 @@ impl Compounds {
             if text == b"in".as_slice() && last.has_subject {
                 last.stage = Stage::Patterns;
                 last.at_in = word.start;
-                last.is_allowed &= !is_quoted;
+                last.read_quotes(is_quoted);
             }
             last.has_subject = true;
             return Ok(true);

@@ -33,3 +33,29 @@ impl Cut {
         }
     }
 }
+
+/// What is around a statement, or at its words, that keeps it from being rewritten.
+#[derive(Clone, Copy)]
+pub(crate) enum Around {
+    /// A loop, braces or parentheses that begin at this offset.
+    Other(usize),
+    /// The condition of an `if`, or the word of a `case`.
+    Condition,
+    /// Another command, to which it is joined.
+    Command,
+    /// A call before it on its line.
+    Call,
+    /// The head of a function, whose body it is.
+    Function,
+    /// Brackets around one of its words.
+    Brackets,
+}
+
+/// An `if` or a `case` that isn't rewritten, whatever its parts are.
+#[derive(Drop)]
+pub(crate) struct Kept {
+    pub(crate) cut: Cut,
+    pub(crate) around: Option<Around>,
+    /// The offset of the first loop, brace or parenthesis in it.
+    pub(crate) at_other: Option<usize>,
+}

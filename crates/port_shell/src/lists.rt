@@ -1,7 +1,7 @@
 //! The lists of statements of a source, and the compound statements in them.
 
 use crate::compounds::Compounds;
-use crate::cut::Cut;
+use crate::cut::{Cut, Kept};
 use crate::shell::Shell;
 use ac_calls::{CallAt, Extent};
 use ac_macros::table::row_named;
@@ -232,16 +232,14 @@ impl Reader {
     }
 }
 
-/// Appends the statements of a list that may be rewritten, and the lists in the arguments of its
-/// calls.
+/// Reads a list, and appends the lists in the arguments of its calls.
 fn read_list(
     alloc: Global,
     text: &[u8],
     calls: &[CallAt],
     list: Extent,
     lists: &mut Vec<Extent>,
-    found: &mut Vec<Cut>,
-) -> Result<(), AllocError> {
+) -> Result<Compounds, AllocError> {
     let mut reader = Reader {
         shell: Shell::new(alloc),
         compounds: Compounds::new(alloc),
@@ -258,31 +256,70 @@ fn read_list(
     }
     reader.end_word(alloc, text, calls, lists)?;
     let Reader { compounds, .. } = reader;
-    for cut in compounds.into_found()? {
-        found.push(cut)?;
+    Ok(compounds)
+}
+
+/// The statements of a source that calls may be put in the place of, and those that stay.
+#[derive(Drop)]
+pub(crate) struct Statements {
+    /// Those that may be rewritten, in order of their offsets. Each is one in which no compound
+    /// statement of a shell is.
+    pub(crate) cuts: Vec<Cut>,
+    /// Each `if` and each `case` that isn't rewritten, whatever its parts are.
+    pub(crate) kept: Vec<Kept>,
+}
+
+/// Appends the statements of a list, and the lists in the arguments of its calls.
+fn push_list(
+    alloc: Global,
+    text: &[u8],
+    calls: &[CallAt],
+    list: Extent,
+    lists: &mut Vec<Extent>,
+    found: &mut Statements,
+) -> Result<(), AllocError> {
+    let (cuts, kept) = read_list(alloc, text, calls, list, lists)?.into_found()?;
+    for cut in cuts {
+        found.cuts.push(cut)?;
+    }
+    for one in kept {
+        found.kept.push(one)?;
     }
     Ok(())
 }
 
-/// Returns the statements of a source with these calls that may be rewritten, in order of their offsets. Each is one
-/// in which no compound statement of a shell is.
-pub(crate) fn cuts_in(
+/// Returns the statements of a source with these calls.
+pub(crate) fn statements_in(
     alloc: Global,
     text: &[u8],
     calls: &[CallAt],
-) -> Result<Vec<Cut>, AllocError> {
+) -> Result<Statements, AllocError> {
     let mut lists = Vec::new(alloc);
     lists.push(Extent {
         start: 0,
         end: text.len(),
     })?;
-    let mut found = Vec::new(alloc);
+    let mut found = Statements {
+        cuts: Vec::new(alloc),
+        kept: Vec::new(alloc),
+    };
     for i in 0..text.len() {
         let Some(list) = lists.get(i).copied() else {
             break;
         };
-        read_list(alloc, text, calls, list, &mut lists, &mut found)?;
+        push_list(alloc, text, calls, list, &mut lists, &mut found)?;
     }
-    found.sort_by_key(|cut| cut.start())?;
+    found.cuts.sort_by_key(|cut| cut.start())?;
     Ok(found)
+}
+
+/// Returns the statements of a source with these calls that may be rewritten, in order of their
+/// offsets. Each is one in which no compound statement of a shell is.
+pub(crate) fn cuts_in(
+    alloc: Global,
+    text: &[u8],
+    calls: &[CallAt],
+) -> Result<Vec<Cut>, AllocError> {
+    let Statements { cuts, .. } = statements_in(alloc, text, calls)?;
+    Ok(cuts)
 }
