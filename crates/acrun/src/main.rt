@@ -10,7 +10,7 @@
 
 use crew::ReadyCrew;
 use crew_progress::Watched;
-use runner::{FilterFault, LOG, command, environment, showing_of, tell, words};
+use runner::{FilterFault, Heard, LOG, command, environment, showing_of, tell, words};
 use std::alloc::AllocError;
 use std::io::IsTerminal;
 use std::process::ExitCode;
@@ -31,7 +31,7 @@ fn run(rt: HostRuntime) -> Result<u8, AllocError> {
 fn main(rt: HostRuntime) -> ExitCode {
     let status = match run(rt) {
         Ok(status) => status,
-        Err(_) => tell(&mut rt.stderr(), &FilterFault::OutOfMemory),
+        Err(_) => tell(&mut Heard::new(rt.stderr()), &FilterFault::OutOfMemory),
     };
     ExitCode::from(status)
 }

@@ -39,7 +39,7 @@ front_kept old mid new bytes first second = appends_more old mid new bytes [] by
 pub told_nothing : (o : Option (List ℕ)) → AreTold o o []
 told_nothing o = record { bytes = []; fronts = none; appended = nothing_appended o }
 
-told_joined : (old mid new : Option (List ℕ)) (xs ys : List (List ℕ)) → AreTold old mid xs → AreTold mid new ys → AreTold old new (xs ++ ys)
+pub told_joined : (old mid new : Option (List ℕ)) (xs ys : List (List ℕ)) → AreTold old mid xs → AreTold mid new ys → AreTold old new (xs ++ ys)
 told_joined old mid new xs ys first second = record {
   bytes = first.bytes ++ second.bytes;
   fronts = fronts_joined xs ys first.bytes second.bytes first.fronts second.fronts;
@@ -58,15 +58,18 @@ told_one old new n text appended = record {
 pub told_front : (old new : Option (List ℕ)) (text : List ℕ) → (n : ℕ) × Appends old new (take n text) → AreTold old new (text ∷ [])
 told_front old new text front = told_one old new front.0 text front.1
 
+pub errors_more : (notes : List Note) (i : ℕ) (note : Note) → i < length notes → note ≡ get_or notes i note
+    → errors_of (take (i + 1) notes) ≡ errors_of (take i notes) ++ error_of note
+errors_more notes i note lt at =
+    ap errors_of (take_more notes i note lt ∙ ap (λ n. take i notes ++ n ∷ []) (sym at))
+    ∙ flat_map-append error_of (take i notes) (note ∷ [])
+    ∙ ap (λ t. errors_of (take i notes) ++ t) (append-nil (error_of note))
+
 -- One message more was printed.
 pub told_more : (old mid new : Option (List ℕ)) (notes : List Note) (i : ℕ) (note : Note) → i < length notes → note ≡ get_or notes i note
     → AreTold old mid (errors_of (take i notes)) → AreTold mid new (error_of note) → AreTold old new (errors_of (take (i + 1) notes))
 told_more old mid new notes i note lt at first second =
-    let same : errors_of (take (i + 1) notes) ≡ errors_of (take i notes) ++ error_of note =
-    ap errors_of (take_more notes i note lt ∙ ap (λ n. take i notes ++ n ∷ []) (sym at))
-    ∙ flat_map-append error_of (take i notes) (note ∷ [])
-    ∙ ap (λ t. errors_of (take i notes) ++ t) (append-nil (error_of note)) in
-    subst (AreTold old new) (sym same) (told_joined old mid new _ _ first second)
+    subst (AreTold old new) (sym (errors_more notes i note lt at)) (told_joined old mid new _ _ first second)
 
 -- An empty text is written by no write.
 pub told_blank : (o : Option (List ℕ)) (text : List ℕ) → text ≡ [] → AreTold o o (text ∷ [])

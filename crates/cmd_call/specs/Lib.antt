@@ -2,6 +2,8 @@ pub mod Calls
 pub mod Errors
 pub mod Guarded
 pub mod Lent
+pub mod Lines
+pub mod Precious
 pub mod Logged
 pub mod Progress
 pub mod Supplies

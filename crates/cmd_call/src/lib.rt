@@ -15,26 +15,34 @@
 //! "own" marks a rule that no manual gives.
 //!
 //! In `specs`, read `Calls` (what the program is asked to do), `Errors` (what a run prints on
-//! standard error), `Supplies` (what a run is given, as it is in files), `Logged` and `Progress`;
-//! `Lent` is small. In `src`, read `call`, `supplies`, `printing` and `error_lines`; `process` reads
-//! what the process is given, and `progress` says what the program shows of its children.
+//! standard error), `Lines` (the line of an error, and what a stream took of it), `Precious`,
+//! `Supplies` (what a run is given, as it is in files), `Logged` and `Progress`; `Lent` is small. In
+//! `src`, read `call`, `supplies`, `hearing` (standard error), `printing` and `error_lines`;
+//! `process` reads what the process is given, and `progress` says what the program shows of its
+//! children.
 #![tactic(auto)]
 
 mod call;
 mod error_lines;
+mod hearing;
 mod printing;
 mod process;
 mod progress;
+mod spot;
 mod supplies;
 mod terminal;
 mod writes;
 
 pub use call::{ProgramCall, call_of};
 pub use error_lines::{
-    FAULT, tell_file, tell_memory, tell_named, tell_precious, tell_put, tell_usage,
+    FAULT, tell_file, tell_memory, tell_named, tell_numbered, tell_precious, tell_put, tell_spot,
+    tell_usage,
 };
+pub use hearing::{Heard, Hears};
 pub use printing::{LOG, print_all, print_lines, write_errors, write_log};
 pub use process::{environment, words};
 pub use progress::{Showing, showing_of};
+pub use spot::{Spot, record_spot};
 pub use supplies::{Supplies, keep_inputs, read_supplies, read_templates, record_templates};
 pub use terminal::Terminal;
+pub use writes::Stopped;

@@ -1,14 +1,15 @@
 //! What the program prints and writes of a run: its messages, the lines of its outputs, and its
 //! log.
 
-ghost use Rattle.std.specs.Prelude.{◌≡◌, ℕ, true, [], ◌∷◌, ◌++◌, take, Ok, OnOk, OnErr, IfOk, IsTrue, if◌then◌else◌};
+ghost use Rattle.std.specs.Prelude.{◌≡◌, true, false, [], ◌∷◌, ◌++◌, Ok, OnOk, OnErr, IfOk, IsTrue, if◌then◌else◌};
+ghost use Rattle.std.specs.List.{concat};
 ghost use Rattle.std.specs.Io.KnownBytes.{Appends};
 ghost use Rattle.cfglog.specs.Texts.{is_shown, log_of, messages_of, note_text};
 ghost use Rattle.deftable.specs.declared.note.Stream.TheVariants as streams;
 ghost use Rattle.cmd_call.specs.Errors.{AreTold, error_of, errors_of};
 ghost use Rattle.cmd_call.specs.Logged.{HasLogged, HasNoLog};
 
-use crate::writes::{Stopped, Writes};
+use crate::hearing::Hears;
 use cfglog::{log_text, messages_text};
 use crew_trait::Entry;
 use deftable::{Note, Stream};
@@ -19,21 +20,6 @@ use std::io::{self, ErrorKind, Write};
 
 /// The name of the log.
 pub const LOG: &str = "config.log";
-
-/// Writes a text, as far as the stream takes it: all of it, unless no more of it can be written.
-#[tactic(auto, using(crate::proofs::Fronts::front_more, crate::proofs::Fronts::front_kept, crate::proofs::Fronts::front_none))]
-fn write_front<E: Write>(text: &[u8], errors: &mut E) -> Result<(), Stopped>
-    ensures whole { OnOk result (Appends (E.contents errors.old) (E.contents errors.new) text.now) }
-    ensures front { (n : ℕ)
-        × Appends (E.contents errors.old) (E.contents errors.new) (take n text.now) }
-{
-    let mut taken = 0;
-    let mut writes = Writes::new();
-    'writes: while taken < text.len() {
-        taken += writes.write(&text[taken..], errors)?;
-    }
-    Ok(())
-}
 
 /// Writes a text, unless it is empty.
 fn write_some<W: Write>(text: &[u8], output: &mut W) -> io::Result<()>
@@ -137,17 +123,23 @@ fn is_error(note: &Note) -> bool
 }
 
 /// Writes a text, as far as the stream takes it.
-#[tactic(auto, using(crate::proofs::Fronts::told_front))]
-pub fn write_errors<E: Write>(text: &[u8], errors: &mut E)
-    ensures { AreTold (E.contents errors.old) (E.contents errors.new) (text.now ∷ []) }
+#[tactic(auto, using(crate::proofs::Fronts::told_front, crate::proofs::Lines::taken_whole))]
+pub fn write_errors<E: Hears>(text: &[u8], errors: &mut E)
+    ensures told { AreTold (E.contents errors.old) (E.contents errors.new) (text.now ∷ []) }
+    ensures whole { E.has_failed errors.new ≡ false
+        → Appends (E.contents errors.old) (E.contents errors.new) text.now }
+    ensures kept { E.has_failed errors.new ≡ false → E.has_failed errors.old ≡ false }
 {
-    let _ = write_front(text, errors);
+    let _ = errors.say(text);
 }
 
 /// Prints a piece for standard error, as far as it takes it.
-#[tactic(auto, using(crate::proofs::Fronts::told_nothing))]
-fn print_error<E: Write>(note: &Note, errors: &mut E)
-    ensures { AreTold (E.contents errors.old) (E.contents errors.new) (error_of note.now) }
+#[tactic(auto, using(crate::proofs::Fronts::told_nothing, crate::proofs::Lines::one_whole, crate::proofs::Fronts::nothing_appended))]
+fn print_error<E: Hears>(note: &Note, errors: &mut E)
+    ensures told { AreTold (E.contents errors.old) (E.contents errors.new) (error_of note.now) }
+    ensures whole { E.has_failed errors.new ≡ false
+        → Appends (E.contents errors.old) (E.contents errors.new) (concat (error_of note.now)) }
+    ensures kept { E.has_failed errors.new ≡ false → E.has_failed errors.old ≡ false }
 {
     match note.stream {
         Stream::Err => write_errors(note.text.as_slice(), errors),
@@ -164,7 +156,7 @@ fn print_error<E: Write>(note: &Note, errors: &mut E)
 /// Fails if standard output doesn't take all of it. If a write fails there, what follows it there
 /// is dropped, and the pieces for standard error are printed all the same. That standard error
 /// can't be written is not reported.
-pub fn print_all<W: Write, E: Write>(
+pub fn print_all<W: Write, E: Hears>(
     alloc: Global,
     notes: &[Note],
     lines: &[u8],
@@ -176,6 +168,11 @@ pub fn print_all<W: Write, E: Write>(
         Appends (W.contents output.old) (W.contents output.new)
         (messages_of streams.Out quiet notes.now ++ (if quiet then [] else lines.now))) }
     ensures told { AreTold (E.contents errors.old) (E.contents errors.new) (errors_of notes.now) }
+    // Standard error has all of its messages, unless it has failed.
+    ensures whole { E.has_failed errors.new ≡ false
+        → Appends (E.contents errors.old) (E.contents errors.new)
+        (concat (errors_of notes.now)) }
+    ensures kept { E.has_failed errors.new ≡ false → E.has_failed errors.old ≡ false }
 {
     let mut done = Ok(());
     let mut start = 0;

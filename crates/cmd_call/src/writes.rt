@@ -1,6 +1,6 @@
 //! The writes of one text, which a stream takes as far as it can.
 
-ghost use Rattle.std.specs.Prelude.{◌≡◌, ◌<◌, ◌≤◌, [], length, take, IfErr, IfOk, OnErr, OnOk};
+ghost use Rattle.std.specs.Prelude.{◌≡◌, ◌<◌, ◌≤◌, ℕ, [], length, take, IfErr, IfOk, OnErr, OnOk};
 ghost use Rattle.std.specs.Io.KnownBytes.{Appends};
 
 use std::io::{ErrorKind, Write};
@@ -10,9 +10,9 @@ use std::marker::Model;
 const MOST_WRITES: u64 = 1 << 32;
 
 /// Says that a text isn't written further: a write failed or took nothing, or there were too many
-/// of them. Only [`Writes::write`] makes one.
+/// of them. Only this module makes one.
 #[derive(Drop)]
-pub(crate) struct Stopped {
+pub struct Stopped {
     _private: (),
 }
 
@@ -58,4 +58,19 @@ impl Writes {
             Err(_) => Err(Stopped { _private: () }),
         }
     }
+}
+
+/// Writes a text, as far as the stream takes it: all of it, unless no more of it can be written.
+#[tactic(auto, using(crate::proofs::Fronts::front_more, crate::proofs::Fronts::front_kept, crate::proofs::Fronts::front_none))]
+pub(crate) fn write_front<E: Write>(text: &[u8], errors: &mut E) -> Result<(), Stopped>
+    ensures whole { OnOk result (Appends (E.contents errors.old) (E.contents errors.new) text.now) }
+    ensures front { (n : ℕ)
+        × Appends (E.contents errors.old) (E.contents errors.new) (take n text.now) }
+{
+    let mut taken = 0;
+    let mut writes = Writes::new();
+    'writes: while taken < text.len() {
+        taken += writes.write(&text[taken..], errors)?;
+    }
+    Ok(())
 }

@@ -1,5 +1,5 @@
 -- What follows from a whole run for the program.
-use Rattle.std.proofs.Common.{◌≡◌, ℕ, ◌+◌, true, false, List, [], ◌++◌, Option, Some, None, Result, Ok, Err, refl, sym, subst, ap, ◌∙◌}
+use Rattle.std.proofs.Common.{◌≡◌, ℕ, ◌+◌, Bool, true, false, List, [], ◌++◌, Option, Some, None, Result, Ok, Err, refl, sym, subst, ap, ◌∙◌}
 use Rattle.std.specs.Prelude.{IfOk, IfSome, codes, option_map}
 use Rattle.std.proofs.lemmas.List.{append-nil}
 use Rattle.acparse.specs.Profile.{source_of}
@@ -39,6 +39,7 @@ use Rattle.ac_tree.specs.Script.{Script}
 use Rattle.cmd_status.specs.Printed.{printed}
 use Rattle.cmd_configure.specs.Configures.{IsAsked, IsConfigured, IsRun, ReadsSource, shown, ran}
 use Rattle.cmd_call.specs.Errors.{errors_of}
+use Rattle.cmd_call.specs.Lines.{AreSaid}
 use Rattle.cmd_call.specs.Guarded.{AreGuarded, inputs_of}
 use Rattle.cmd_call.specs.Supplies.{AreGiven}
 
@@ -52,6 +53,20 @@ shown_silent : (script : Script) (settings : Settings) → errors_of (shown_repo
 unfolding shown_report
 shown_silent script settings = refl
 
+-- A report that shows a text has no messages for standard error.
+shows_silent : (a : List (List ℕ)) (e : List (List ℕ × List ℕ)) (script : Script) (found : Found) (report : Report)
+    → judgement a e script ≡ Ok (judged_of found) → found ≡ founds.Shows report → errors_of report.messages ≡ []
+shows_silent a e script found report is kind =
+    let s = shows_as a e script found report is kind in
+    ap (λ (r : Report). errors_of r.messages) s.is ∙ shown_silent script s.settings
+
+-- So only what standard output didn't take is said.
+pub shown_said : {E : Type 0} (contents : E → Option (List ℕ)) (has_failed : E → Bool) (old new : E) (a : List (List ℕ)) (e : List (List ℕ × List ℕ)) (script : Script) (found : Found) (report : Report) (lines : List (List ℕ))
+    → judgement a e script ≡ Ok (judged_of found) → found ≡ founds.Shows report
+    → AreSaid contents has_failed old new (errors_of report.messages ++ lines) → AreSaid contents has_failed old new lines
+shown_said contents has_failed old new a e script found report lines is kind said =
+    subst (λ ms. AreSaid contents has_failed old new (ms ++ lines)) (shows_silent a e script found report is kind) said
+
 -- What was shown, by what was judged.
 pub is_shown : (window : ℕ) (a : List (List ℕ)) (e : List (List ℕ × List ℕ)) (now : Account) (old new : Option Known) (source : List ℕ) (script : Script) (found : Found) (report : Report) (status : ℕ)
     → ReadsSource old a source → source_of source ≡ Ok script → judgement a e script ≡ Ok (judged_of found) → found ≡ founds.Shows report → new ≡ old → status ≡ 0
@@ -59,7 +74,7 @@ pub is_shown : (window : ℕ) (a : List (List ℕ)) (e : List (List ℕ × List 
 is_shown window a e now old new source script found report status reads read is kind same zero =
     let s = shows_as a e script found report is kind in
     let out : printed false report.messages [] ≡ shown_text script s.settings = ap (λ (r : Report). printed false r.messages []) s.is ∙ shown_out script s.settings in
-    let said : errors_of report.messages ≡ [] = ap (λ (r : Report). errors_of r.messages) s.is ∙ shown_silent script s.settings in
+    let said : errors_of report.messages ≡ [] = shows_silent a e script found report is kind in
     subst (λ n. IsConfigured window a e now now old new (printed false report.messages []) (errors_of report.messages) n) (sym zero)
     (shown source script s.settings reads (record { read = read; settles = s.asks }) s.shows_it refl same out said)
 

@@ -1,5 +1,5 @@
 -- What follows from a run for the program, however it ended.
-use Rattle.std.proofs.Common.{◌≡◌, ℕ, ◌+◌, ◌<◌, Bool, true, false, List, [], ◌++◌, Option, Some, None, Result, Ok, Err, refl, sym, subst, ap, ◌∙◌, length, take}
+use Rattle.std.proofs.Common.{arith, ◌≡◌, ℕ, ◌+◌, ◌<◌, Bool, true, false, List, [], ◌∷◌, ◌++◌, Option, Some, None, Result, Ok, Err, refl, sym, subst, ap, ◌∙◌, length, take}
 use Rattle.std.specs.Prelude.{IfOk, IfSome, codes, option_map, if◌then◌else◌}
 use Rattle.crew_trait.specs.Events.{Account}
 use Rattle.cfglog.specs.Texts.{log_of}
@@ -12,6 +12,7 @@ use Rattle.options.specs.declared.settings.Settings.{Settings}
 use Rattle.cmd_status.proofs.Remakes.{guarded_before}
 use Rattle.cmd_status.specs.Happened.{after_fault}
 use Rattle.cmd_status.specs.Left.{AreSameFiles, IsFinished, IsReported}
+use Rattle.cmd_status.specs.Reasons.{lines_after, memory_line, run_line}
 use Rattle.cmd_status.specs.declared.happened.Happened.{Happened}
 use Rattle.cmd_status.specs.declared.happened.Happened.TheVariants.{OutOfMemory, Ran, Refused}
 use Rattle.cmd_status.specs.declared.happened.RunLeft.{RunLeft}
@@ -69,6 +70,11 @@ took_first before_puts mid all number report new is =
       counted = ap (λ (r : Receipt). r.failures) cut.receipt ∙ ap (λ (r : Receipt). r.failures + 1) empty;
     }
 
+-- If it isn't closed, it refused as many puts as it counts.
+all_counted : (failures refusals : ℕ) (closed : Bool) → closed ≡ false → failures + closings closed ≡ refusals → failures ≡ refusals
+all_counted failures refusals false opened h = omega (arith, h)
+all_counted failures refusals true opened h = absurd (cc)
+
 -- ---- what is left in files
 
 abbrev Writes : List ℕ → Known → List Deed → Type 0
@@ -99,12 +105,12 @@ same_left old mid fin log true kept wrote began = same_by old mid fin (Writes lo
 same_left old mid fin log false kept wrote began = same_by old mid fin Begins kept (began refl)
 
 -- What is left of a run that has this report.
-run_left : {D : Type 0} (known : D → Option Known) (d : D) (before_puts mid fin : Held D) (window : ℕ) (a : List (List ℕ)) (script : Script) (settings : Settings) (c : Option (List ℕ)) (t : List (List ℕ × List ℕ)) (start : Start) (before now : Account) (report : Report) (number : Option ℕ) (left : RunLeft)
-    → before_puts.disk ≡ d → AreGuarded (known before_puts.disk) before_puts.guards (inputs_of settings.srcdir t) → mid.guards ≡ before_puts.guards → option_map (λ k. k.files) (known mid.disk) ≡ option_map (λ k. k.files) (known before_puts.disk)
+run_left : {D : Type 0} (known : D → Option Known) (d : D) (before_puts mid fin : Held D) (window : ℕ) (a : List (List ℕ)) (script : Script) (settings : Settings) (c : Option (List ℕ)) (t : List (List ℕ × List ℕ)) (start : Start) (before now : Account) (report : Report) (number : Option ℕ) (left : RunLeft) (said : List (List ℕ))
+    → before_puts.disk ≡ d → mid.closed ≡ false → AreGuarded (known before_puts.disk) before_puts.guards (inputs_of settings.srcdir t) → mid.guards ≡ before_puts.guards → option_map (λ k. k.files) (known mid.disk) ≡ option_map (λ k. k.files) (known before_puts.disk)
     → AreGiven (known d) script settings.cache_name settings.srcdir settings.no_create c t → started a c t script settings ≡ Ok start
-    → IsMeant window script start before now report → Took (artifacts script start t report) mid number → IfCompleted report.outcome (Remakes script start t report) → IsReported known mid fin report number left
-    → IsRunLeft window a script settings before now (known d) (known fin.disk) left
-run_left known d before_puts mid fin window a script settings c t start before now report number left disk guarded same_guards same_files given is meant took again told =
+    → IsMeant window script start before now report → Took (artifacts script start t report) mid number → IfCompleted report.outcome (Remakes script start t report) → IsReported known mid fin report number left → said ≡ lines_after report left
+    → IsRunLeft window a script settings before now (known d) (known fin.disk) left said
+run_left known d before_puts mid fin window a script settings c t start before now report number left said disk opened guarded same_guards same_files given is meant took again told says =
     record {
       cache = c;
       templates = t;
@@ -115,6 +121,7 @@ run_left known d before_puts mid fin window a script settings c t start before n
       meant = meant;
       remakes = again;
       exits = told.exits;
+      says = says;
       taken = mid.handed;
       are_taken = subst (λ (o : Option ℕ). AreTaken (artifacts script start t report) mid.handed o) (sym told.refuses) took.are_taken;
       lines = mid.lines;
@@ -123,11 +130,11 @@ run_left known d before_puts mid fin window a script settings c t start before n
       guarded = guarded_before known d before_puts.disk before_puts.guards (inputs_of settings.srcdir t) disk guarded;
       unguarded = subst (λ (gs : List Guard). AreUnguarded gs mid.handed) same_guards told.held.unguarded;
       same = same_left (known d) (known mid.disk) (known fin.disk) (log_of report.log) left.is_logged (same_files ∙ ap (λ x. option_map (λ k. k.files) (known x)) disk) told.logged told.unlogged;
-      refusals = mid.failures;
-      closed = mid.closed;
-      counted = subst (λ (o : Option ℕ). mid.failures + closings mid.closed ≡ refusals_of o) (sym told.refuses) took.counted;
-      done = λ opened. left_so (known mid.disk) (known fin.disk) before_puts.guards mid.handed mid.failures mid.lines (log_of report.log) mid.places left.is_logged
-          (subst (λ (gs : List Guard). IfSome (known mid.disk) (λ k. IsDoneApart k gs mid.handed mid.failures mid.lines mid.places)) same_guards (told.held.done opened)) told.logged told.unlogged;
+      done =
+          subst (λ n. IfSome (known fin.disk) (λ k. IsLeftSo k before_puts.guards mid.handed n mid.lines (log_of report.log) left.is_logged))
+          (all_counted mid.failures (refusals_of left.refused) mid.closed opened (subst (λ (o : Option ℕ). mid.failures + closings mid.closed ≡ refusals_of o) (sym told.refuses) took.counted))
+          (left_so (known mid.disk) (known fin.disk) before_puts.guards mid.handed mid.failures mid.lines (log_of report.log) mid.places left.is_logged
+          (subst (λ (gs : List Guard). IfSome (known mid.disk) (λ k. IsDoneApart k gs mid.handed mid.failures mid.lines mid.places)) same_guards (told.held.done opened)) told.logged told.unlogged);
     }
 
 -- ---- what is given has no fault of a put
@@ -192,6 +199,7 @@ pub record IsGone {D : Type 0} (known : D → Option Known) (d : D) (before_puts
   pub disk : before_puts.disk ≡ d
   pub guarded : AreGuarded (known before_puts.disk) before_puts.guards (inputs_of settings.srcdir t)
   pub same_guards : mid.guards ≡ before_puts.guards
+  pub same_closed : mid.closed ≡ before_puts.closed
   pub same_files : option_map (λ k. k.files) (known mid.disk) ≡ option_map (λ k. k.files) (known before_puts.disk)
   pub given : AreGiven (known d) script settings.cache_name settings.srcdir settings.no_create c t
   pub is : started a c t script settings ≡ r
@@ -214,27 +222,33 @@ IsFault r f = r ≡ Err f
 same_fault : (a b : Fault) → IsFault (Err a) b → a ≡ b
 same_fault a b e = cc
 
-pub run_ended : {D : Type 0} (known : D → Option Known) (d : D) (before_puts mid fin : Held D) (r : Result Start Fault) (window : ℕ) (a : List (List ℕ)) (script : Script) (settings : Settings) (c : Option (List ℕ)) (t : List (List ℕ × List ℕ)) (before now : Account) (answer : Result Report Fault) (happened : Happened)
-    → IsGone known d before_puts mid fin r window a script settings c t before now answer → IsFinished known mid fin answer happened
-    → IsRunEnd window a script settings before now (known d) (known fin.disk) happened
-run_ended known d before_puts mid fin (Ok start) window a script settings c t before now (Ok report) happened g f =
-    subst (IsRunEnd window a script settings before now (known d) (known fin.disk)) (sym f.1)
-    (ran (run_left known d before_puts mid fin window a script settings c t start before now report None f.0 g.disk g.guarded g.same_guards g.same_files g.given g.is
-    g.meaning (took_all before_puts mid (artifacts script start t report) g.new g.handed) g.remakes f.2))
-run_ended known d before_puts mid fin (Ok start) window a script settings c t before now (Err (faults.PutRefused number report)) happened g f =
-    subst (IsRunEnd window a script settings before now (known d) (known fin.disk)) (sym f.1)
-    (ran (run_left known d before_puts mid fin window a script settings c t start before now report (Some number) f.0 g.disk g.guarded g.same_guards g.same_files g.given g.is
-    g.meaning (took_first before_puts mid (artifacts script start t report) number report g.new g.cut) g.remakes f.2))
-run_ended known d before_puts mid fin (Ok start) window a script settings c t before now (Err faults.OutOfMemory) happened g f =
-    subst (IsRunEnd window a script settings before now (known d) (known fin.disk)) (sym f.0)
+-- The same end, by what is equal.
+ends_as : (window : ℕ) (a : List (List ℕ)) (script : Script) (settings : Settings) (before now : Account) (old new : Option Known) (happened other : Happened) (said lines : List (List ℕ))
+    → happened ≡ other → said ≡ lines → IsRunEnd window a script settings before now old new other lines → IsRunEnd window a script settings before now old new happened said
+ends_as window a script settings before now old new happened other said lines is says h =
+    subst (λ x. IsRunEnd window a script settings before now old new x said) (sym is) (subst (λ ls. IsRunEnd window a script settings before now old new other ls) (sym says) h)
+
+pub run_ended : {D : Type 0} (known : D → Option Known) (d : D) (before_puts mid fin : Held D) (r : Result Start Fault) (window : ℕ) (a : List (List ℕ)) (script : Script) (settings : Settings) (c : Option (List ℕ)) (t : List (List ℕ × List ℕ)) (before now : Account) (precious : List (List ℕ)) (answer : Result Report Fault) (happened : Happened) (said : List (List ℕ))
+    → IsGone known d before_puts mid fin r window a script settings c t before now answer → precious ≡ (lists_of script).precious → IsFinished known mid fin precious answer happened said
+    → IsRunEnd window a script settings before now (known d) (known fin.disk) happened said
+run_ended known d before_puts mid fin (Ok start) window a script settings c t before now precious (Ok report) happened said g names f =
+    subst (λ h. IsRunEnd window a script settings before now (known d) (known fin.disk) h said) (sym f.1)
+    (ran (run_left known d before_puts mid fin window a script settings c t start before now report None f.0 said g.disk (g.same_closed ∙ g.new.opened) g.guarded g.same_guards g.same_files g.given g.is
+    g.meaning (took_all before_puts mid (artifacts script start t report) g.new g.handed) g.remakes f.2 f.3))
+run_ended known d before_puts mid fin (Ok start) window a script settings c t before now precious (Err (faults.PutRefused number report)) happened said g names f =
+    subst (λ h. IsRunEnd window a script settings before now (known d) (known fin.disk) h said) (sym f.1)
+    (ran (run_left known d before_puts mid fin window a script settings c t start before now report (Some number) f.0 said g.disk (g.same_closed ∙ g.new.opened) g.guarded g.same_guards g.same_files g.given g.is
+    g.meaning (took_first before_puts mid (artifacts script start t report) number report g.new g.cut) g.remakes f.2 f.3))
+run_ended known d before_puts mid fin (Ok start) window a script settings c t before now precious (Err faults.OutOfMemory) happened said g names f =
+    ends_as window a script settings before now (known d) (known fin.disk) happened OutOfMemory said (memory_line ∷ []) f.0 f.2
     (cut_off c t start g.given g.is (g.begun refl) (nothing_done known d before_puts mid fin g.disk (g.memory refl) f.1))
-run_ended known d before_puts mid fin (Ok start) window a script settings c t before now (Err other) happened g f = absurd g.accepted
-run_ended known d before_puts mid fin (Err first) window a script settings c t before now (Ok report) happened g f = let e : Ok report ≡ Err first = g.accepted in absurd (cc)
-run_ended known d before_puts mid fin (Err first) window a script settings c t before now (Err faults.OutOfMemory) happened g f =
-    subst (IsRunEnd window a script settings before now (known d) (known fin.disk)) (sym f.0)
+run_ended known d before_puts mid fin (Ok start) window a script settings c t before now precious (Err other) happened said g names f = absurd g.accepted
+run_ended known d before_puts mid fin (Err first) window a script settings c t before now precious (Ok report) happened said g names f = let e : Ok report ≡ Err first = g.accepted in absurd (cc)
+run_ended known d before_puts mid fin (Err first) window a script settings c t before now precious (Err faults.OutOfMemory) happened said g names f =
+    ends_as window a script settings before now (known d) (known fin.disk) happened OutOfMemory said (memory_line ∷ []) f.0 f.2
     (unstarted (g.untouched tt).0 (nothing_done known d before_puts mid fin g.disk (g.untouched tt).1 f.1))
-run_ended known d before_puts mid fin (Err first) window a script settings c t before now (Err (faults.PutRefused number report)) happened g f =
+run_ended known d before_puts mid fin (Err first) window a script settings c t before now precious (Err (faults.PutRefused number report)) happened said g names f =
     absurd (no_put_of (faults.PutRefused number report) (subst HasNoPut (g.is ∙ ap Err (sym (same_fault _ _ g.accepted))) (started_no_put a c t script settings)))
-run_ended known d before_puts mid fin (Err first) window a script settings c t before now (Err other) happened g f =
-    subst (IsRunEnd window a script settings before now (known d) (known fin.disk)) (sym f.0)
+run_ended known d before_puts mid fin (Err first) window a script settings c t before now precious (Err other) happened said g names f =
+    ends_as window a script settings before now (known d) (known fin.disk) happened _ said _ f.0 (f.2 ∙ ap (λ p. run_line (Some p) other ∷ []) names)
     (refused c t g.given (g.is ∙ ap Err (sym (same_fault _ _ g.accepted))) (g.untouched tt).0 (nothing_done known d before_puts mid fin g.disk (g.untouched tt).1 f.1))

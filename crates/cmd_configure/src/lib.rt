@@ -15,8 +15,8 @@
 //! run and its log are written, and nothing else. They also say what is so if anything is wrong.
 //! "own" marks a rule that no manual gives.
 //!
-//! Read `specs/Configures` (what is so if all is in its place) and `specs/Ended` (what happened, case
-//! by case), then `running` and `rechecking`.
+//! Read `specs/Configures` (what is so if all is in its place) and `specs/Ended` (what happened, and
+//! what is said of it, case by case), then `running` and `rechecking`.
 #![tactic(auto)]
 
 mod rechecking;

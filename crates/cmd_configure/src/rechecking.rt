@@ -1,16 +1,17 @@
 //! The command that runs a configure.ac again with the arguments of its record.
 
-ghost use Rattle.std.specs.Prelude.{◌≡◌, true, Some, codes};
+ghost use Rattle.std.specs.Prelude.{◌≡◌, true, false, Some, codes};
 ghost use Rattle.cmd_configure.specs.Configures.{IsRechecked};
 ghost use Rattle.cmd_configure.specs.Ended.{HasHappenedAgain, Prints};
 ghost use Rattle.cmd_status.specs.Happened.{is_all_done, status_after};
+ghost use Rattle.cmd_status.specs.Reasons.{SaysOf};
 ghost use Rattle.crew_trait.specs.Events.{IsIdle};
 ghost use Rattle.file_texts.specs.Held.{fresh};
 ghost use Rattle.cmd_call.specs.Supplies.{ReadsWhole};
 ghost use Rattle.proberun.specs.Ran.{MayRun};
 
 use crate::running::run_configure;
-use cmd_call::Terminal;
+use cmd_call::{Hears, Terminal};
 use cmd_explain::Why;
 use cmd_status::{Happened, RECORD, no_memory, no_record, tell_unread};
 use crew_refusals::Causes;
@@ -21,7 +22,9 @@ use file_texts::read_text;
 use std::io::{Read, Write};
 
 /// Returns what the faults of a record with this text are explained by.
-fn why_of(is_asked: bool, text: &[u8]) -> Why<'_> {
+fn why_of(is_asked: bool, text: &[u8]) -> Why<'_>
+    ensures { result.is_asked ≡ is_asked }
+{
     Why {
         is_asked,
         srcdir: b"",
@@ -33,7 +36,7 @@ fn why_of(is_asked: bool, text: &[u8]) -> Why<'_> {
 
 /// Runs a configure.ac again with the arguments of the record that has this text, and returns
 /// what happened.
-fn run_again<D: Disk, C: Crew + Causes, R: Read, W: Write, E: Write>(
+fn run_again<D: Disk, C: Crew + Causes, R: Read, W: Write, E: Hears>(
     terminal: &mut Terminal<'_, D, R, W, E>,
     text: &[u8],
     crew: &mut C,
@@ -50,9 +53,10 @@ fn run_again<D: Disk, C: Crew + Causes, R: Read, W: Write, E: Write>(
         IsRechecked terminal.old.env.now (C.account crew.old) (C.account crew.new)
         (D.known terminal.old.outputs.disk) (D.known terminal.new.outputs.disk) out said
         (status_after result)) }
-    ensures ended { HasHappenedAgain terminal.old.env.now (C.account crew.old)
-        (C.account crew.new) (D.known terminal.old.outputs.disk)
-        (D.known terminal.new.outputs.disk) result }
+    ensures ended { SaysOf E.contents E.has_failed terminal.old.errors terminal.new.errors
+        (terminal.old.is_asked ≡ false) (
+        HasHappenedAgain terminal.old.env.now (C.account crew.old) (C.account crew.new)
+        (D.known terminal.old.outputs.disk) (D.known terminal.new.outputs.disk) result) }
     ensures input { terminal.new.input ≡ terminal.old.input }
 {
     match recheck_args(terminal.alloc, text) {
@@ -75,7 +79,7 @@ fn run_again<D: Disk, C: Crew + Causes, R: Read, W: Write, E: Write>(
 /// The environment is that of now, and at most one child runs at once. The record and the log are
 /// written again, and the cache if one is named, but no file and no header. If anything is wrong,
 /// standard error has a line for it (own). If it is asked, further lines may say why.
-pub fn run_recheck<D: Disk, C: Crew + Causes, R: Read, W: Write, E: Write>(
+pub fn run_recheck<D: Disk, C: Crew + Causes, R: Read, W: Write, E: Hears>(
     terminal: &mut Terminal<'_, D, R, W, E>,
     crew: &mut C,
 ) -> Happened
@@ -89,9 +93,10 @@ pub fn run_recheck<D: Disk, C: Crew + Causes, R: Read, W: Write, E: Write>(
         IsRechecked terminal.old.env.now (C.account crew.old) (C.account crew.new)
         (D.known terminal.old.outputs.disk) (D.known terminal.new.outputs.disk) out said
         (status_after result)) }
-    ensures ended { HasHappenedAgain terminal.old.env.now (C.account crew.old)
-        (C.account crew.new) (D.known terminal.old.outputs.disk)
-        (D.known terminal.new.outputs.disk) result }
+    ensures ended { SaysOf E.contents E.has_failed terminal.old.errors terminal.new.errors
+        (terminal.old.is_asked ≡ false) (
+        HasHappenedAgain terminal.old.env.now (C.account crew.old) (C.account crew.new)
+        (D.known terminal.old.outputs.disk) (D.known terminal.new.outputs.disk) result) }
     ensures input { terminal.new.input ≡ terminal.old.input }
 {
     match read_text(terminal.alloc, terminal.outputs.disk(), RECORD) {

@@ -1,10 +1,11 @@
 //! The command that runs a configure.ac.
 
-ghost use Rattle.std.specs.Prelude.{◌≡◌, true, Ok, option_copied};
+ghost use Rattle.std.specs.Prelude.{◌≡◌, true, false, Ok, option_copied};
 ghost use Rattle.acparse.specs.Profile.{source_of};
 ghost use Rattle.cmd_configure.specs.Configures.{IsConfigured, IsRun, ReadsSource};
 ghost use Rattle.cmd_configure.specs.Ended.{HasHappened, IsRunEnd, Prints};
 ghost use Rattle.cmd_status.specs.Happened.{is_all_done, status_after};
+ghost use Rattle.cmd_status.specs.Reasons.{SaysOf};
 ghost use Rattle.crew_trait.specs.Events.{IsIdle};
 ghost use Rattle.file_texts.specs.Held.{fresh};
 ghost use Rattle.engine.specs.Judged.{IsRead};
@@ -17,7 +18,7 @@ ghost use Rattle.ac_tree.specs.Script.{script_of};
 
 use ac_tree::Source;
 use acparse::parse;
-use cmd_call::{Supplies, Terminal, keep_inputs, read_supplies};
+use cmd_call::{Hears, Supplies, Terminal, keep_inputs, read_supplies};
 use cmd_explain::{Given, Why};
 use cmd_status::{Happened, finish_run, no_memory, print_shown, tell_run, tell_unread};
 use crew_refusals::Causes;
@@ -41,7 +42,8 @@ fn cache_of(supplies: &Supplies) -> Option<&[u8]>
 
 /// Returns what a run is given, as its faults are explained by it.
 fn given_of<'a>(needs: &'a Needs<'_>, cache: Option<&'a [u8]>) -> Given<'a>
-    ensures { result.settings.now ≡ needs.now.settings }
+    ensures source { result.source.now ≡ needs.now.statements }
+    ensures settings { result.settings.now ≡ needs.now.settings }
 {
     Given {
         source: needs.source(),
@@ -52,7 +54,7 @@ fn given_of<'a>(needs: &'a Needs<'_>, cache: Option<&'a [u8]>) -> Given<'a>
 
 /// Runs a source that was judged, with what was read for it, and returns what happened.
 #[tactic(auto, using(file_texts::proofs::Unused::fresh_unused))]
-fn run_supplied<D: Disk, C: Crew + Causes, R: Read, W: Write, E: Write>(
+fn run_supplied<D: Disk, C: Crew + Causes, R: Read, W: Write, E: Hears>(
     terminal: &mut Terminal<'_, D, R, W, E>,
     window: usize,
     why: &Why<'_>,
@@ -75,9 +77,11 @@ fn run_supplied<D: Disk, C: Crew + Causes, R: Read, W: Write, E: Write>(
         IsRun window needs.now.arguments (script_in needs.now) needs.now.settings
         (C.account crew.old) (C.account crew.new) (D.known terminal.old.outputs.disk)
         (D.known terminal.new.outputs.disk) out said (status_after result)) }
-    ensures ended { IsRunEnd window needs.now.arguments (script_in needs.now) needs.now.settings
+    ensures ended { SaysOf E.contents E.has_failed terminal.old.errors terminal.new.errors
+        ((why.now.is_asked ≡ false) × (terminal.old.is_asked ≡ false)) (
+        IsRunEnd window needs.now.arguments (script_in needs.now) needs.now.settings
         (C.account crew.old) (C.account crew.new) (D.known terminal.old.outputs.disk)
-        (D.known terminal.new.outputs.disk) result }
+        (D.known terminal.new.outputs.disk) result) }
     ensures input { terminal.new.input ≡ terminal.old.input }
 {
     let alloc = terminal.alloc;
@@ -94,7 +98,7 @@ fn run_supplied<D: Disk, C: Crew + Causes, R: Read, W: Write, E: Write>(
 }
 
 /// Reads what a source that was judged needs, runs it, and returns what happened.
-fn run_needs<D: Disk, C: Crew + Causes, R: Read, W: Write, E: Write>(
+fn run_needs<D: Disk, C: Crew + Causes, R: Read, W: Write, E: Hears>(
     terminal: &mut Terminal<'_, D, R, W, E>,
     window: usize,
     why: &Why<'_>,
@@ -113,9 +117,11 @@ fn run_needs<D: Disk, C: Crew + Causes, R: Read, W: Write, E: Write>(
         IsRun window needs.now.arguments (script_in needs.now) needs.now.settings
         (C.account crew.old) (C.account crew.new) (D.known terminal.old.outputs.disk)
         (D.known terminal.new.outputs.disk) out said (status_after result)) }
-    ensures ended { IsRunEnd window needs.now.arguments (script_in needs.now) needs.now.settings
+    ensures ended { SaysOf E.contents E.has_failed terminal.old.errors terminal.new.errors
+        ((why.now.is_asked ≡ false) × (terminal.old.is_asked ≡ false)) (
+        IsRunEnd window needs.now.arguments (script_in needs.now) needs.now.settings
         (C.account crew.old) (C.account crew.new) (D.known terminal.old.outputs.disk)
-        (D.known terminal.new.outputs.disk) result }
+        (D.known terminal.new.outputs.disk) result) }
     ensures input { terminal.new.input ≡ terminal.old.input }
 {
     let disk = terminal.outputs.disk();
@@ -126,7 +132,7 @@ fn run_needs<D: Disk, C: Crew + Causes, R: Read, W: Write, E: Write>(
 }
 
 /// Judges a source, runs it or shows a text, and returns what happened.
-fn run_source<D: Disk, C: Crew + Causes, R: Read, W: Write, E: Write>(
+fn run_source<D: Disk, C: Crew + Causes, R: Read, W: Write, E: Hears>(
     terminal: &mut Terminal<'_, D, R, W, E>,
     window: usize,
     why: &Why<'_>,
@@ -149,9 +155,11 @@ fn run_source<D: Disk, C: Crew + Causes, R: Read, W: Write, E: Write>(
         IsConfigured window why.now.args.now terminal.old.env.now (C.account crew.old)
         (C.account crew.new) (D.known terminal.old.outputs.disk)
         (D.known terminal.new.outputs.disk) out said (status_after result)) }
-    ensures ended { HasHappened window why.now.args.now terminal.old.env.now (C.account crew.old)
+    ensures ended { SaysOf E.contents E.has_failed terminal.old.errors terminal.new.errors
+        ((why.now.is_asked ≡ false) × (terminal.old.is_asked ≡ false)) (
+        HasHappened window why.now.args.now terminal.old.env.now (C.account crew.old)
         (C.account crew.new) (D.known terminal.old.outputs.disk)
-        (D.known terminal.new.outputs.disk) result }
+        (D.known terminal.new.outputs.disk) result) }
     ensures input { terminal.new.input ≡ terminal.old.input }
 {
     match judge(terminal.alloc, source, why.args, terminal.env) {
@@ -169,7 +177,7 @@ fn run_source<D: Disk, C: Crew + Causes, R: Read, W: Write, E: Write>(
 }
 
 /// Reads a source, runs it, and returns what happened.
-fn run_text<D: Disk, C: Crew + Causes, R: Read, W: Write, E: Write>(
+fn run_text<D: Disk, C: Crew + Causes, R: Read, W: Write, E: Hears>(
     terminal: &mut Terminal<'_, D, R, W, E>,
     window: usize,
     why: &Why<'_>,
@@ -188,9 +196,11 @@ fn run_text<D: Disk, C: Crew + Causes, R: Read, W: Write, E: Write>(
         IsConfigured window why.now.args.now terminal.old.env.now (C.account crew.old)
         (C.account crew.new) (D.known terminal.old.outputs.disk)
         (D.known terminal.new.outputs.disk) out said (status_after result)) }
-    ensures ended { HasHappened window why.now.args.now terminal.old.env.now (C.account crew.old)
+    ensures ended { SaysOf E.contents E.has_failed terminal.old.errors terminal.new.errors
+        ((why.now.is_asked ≡ false) × (terminal.old.is_asked ≡ false)) (
+        HasHappened window why.now.args.now terminal.old.env.now (C.account crew.old)
         (C.account crew.new) (D.known terminal.old.outputs.disk)
-        (D.known terminal.new.outputs.disk) result }
+        (D.known terminal.new.outputs.disk) result) }
     ensures input { terminal.new.input ≡ terminal.old.input }
 {
     match parse(terminal.alloc, why.text) {
@@ -206,6 +216,7 @@ fn run_text<D: Disk, C: Crew + Causes, R: Read, W: Write, E: Write>(
 
 /// Returns what the faults of a run with these arguments are explained by.
 fn why_of<'a>(is_asked: bool, path: &'a [u8], text: &'a [u8], args: &'a [Bytes]) -> Why<'a>
+    ensures asked { result.is_asked ≡ is_asked }
     ensures text { result.text.now ≡ text.now }
     ensures args { result.args.now ≡ args.now }
 {
@@ -226,7 +237,7 @@ fn why_of<'a>(is_asked: bool, path: &'a [u8], text: &'a [u8], args: &'a [Bytes])
 /// shown, nothing is written. If anything is wrong, standard error has a line for it (own). If it
 /// is found before the run, nothing is started or written; if a put is refused, or the log can't be
 /// written, outputs may have been written before that. If it is asked, further lines may say why.
-pub fn run_configure<D: Disk, C: Crew + Causes, R: Read, W: Write, E: Write>(
+pub fn run_configure<D: Disk, C: Crew + Causes, R: Read, W: Write, E: Hears>(
     terminal: &mut Terminal<'_, D, R, W, E>,
     window: usize,
     args: &[Bytes],
@@ -243,9 +254,14 @@ pub fn run_configure<D: Disk, C: Crew + Causes, R: Read, W: Write, E: Write>(
         IsConfigured window args.now terminal.old.env.now (C.account crew.old)
         (C.account crew.new) (D.known terminal.old.outputs.disk)
         (D.known terminal.new.outputs.disk) out said (status_after result)) }
-    ensures ended { HasHappened window args.now terminal.old.env.now (C.account crew.old)
+    // If it isn't asked why, standard error has the messages of the run and the lines of what could
+    // not be written, or the line that says why there was no run, and nothing more, unless it has
+    // failed.
+    ensures ended { SaysOf E.contents E.has_failed terminal.old.errors terminal.new.errors
+        (terminal.old.is_asked ≡ false) (
+        HasHappened window args.now terminal.old.env.now (C.account crew.old)
         (C.account crew.new) (D.known terminal.old.outputs.disk)
-        (D.known terminal.new.outputs.disk) result }
+        (D.known terminal.new.outputs.disk) result) }
     ensures input { terminal.new.input ≡ terminal.old.input }
 {
     let alloc = terminal.alloc;

@@ -1,9 +1,10 @@
 //! Prints the texts.
 
-ghost use Rattle.std.specs.Prelude.{◌≡◌, ◌⊎◌, ◌<◌, length, Ok};
+ghost use Rattle.std.specs.Prelude.{◌≡◌, ◌⊎◌, ◌<◌, [], length, Ok, codes};
+ghost use Rattle.cmd_call.specs.Lines.{IsTold, error_line};
 
 use crate::texts::{VERSION, general, text_of};
-use cmd_call::{tell_file, tell_usage};
+use cmd_call::{Hears, tell_file, tell_usage};
 use deftable::Bytes;
 use std::io::{self, Write};
 
@@ -21,10 +22,13 @@ fn put_general<W: Write>(output: &mut W) -> io::Result<()> {
 }
 
 /// Returns the exit status, and reports a text that could not be written.
-fn status_of<E: Write>(errors: &mut E, written: io::Result<()>) -> u8
+fn status_of<E: Hears>(errors: &mut E, written: io::Result<()>) -> u8
     ensures status { (result ≡ 0) ⊎ (result ≡ 2) }
     ensures written { written ≡ Ok tt → result ≡ 0 }
     ensures silent { result ≡ 0 → errors.new ≡ errors.old }
+    ensures refused { result ≡ 2
+        → IsTold E.contents E.has_failed errors.old errors.new (
+        error_line (codes "file") (codes "standard output")) }
 {
     match written {
         Ok(_) => 0,
@@ -33,9 +37,13 @@ fn status_of<E: Write>(errors: &mut E, written: io::Result<()>) -> u8
 }
 
 /// Prints how a command is called.
-fn run_named<W: Write, E: Write>(name: &[u8], output: &mut W, errors: &mut E) -> u8
+fn run_named<W: Write, E: Hears>(name: &[u8], output: &mut W, errors: &mut E) -> u8
     ensures status { (result ≡ 0) ⊎ (result ≡ 2) }
     ensures silent { result ≡ 0 → errors.new ≡ errors.old }
+    ensures refused { result ≡ 2
+        → IsTold E.contents E.has_failed errors.old errors.new (error_line (codes "usage") [])
+        ⊎ IsTold E.contents E.has_failed errors.old errors.new (
+        error_line (codes "file") (codes "standard output")) }
 {
     match text_of(name) {
         Some(text) => {
@@ -49,10 +57,17 @@ fn run_named<W: Write, E: Write>(name: &[u8], output: &mut W, errors: &mut E) ->
 /// Prints the commands or, if there is one word, how the command of this name is called. Returns
 /// the exit status: 0, or 2 if there is no such command, if there are further words, or if the text
 /// can't be written (own).
-pub fn run_help<W: Write, E: Write>(words: &[Bytes], output: &mut W, errors: &mut E) -> u8
+pub fn run_help<W: Write, E: Hears>(words: &[Bytes], output: &mut W, errors: &mut E) -> u8
     ensures status { (result ≡ 0) ⊎ (result ≡ 2) }
     ensures further { 1 < length words.now → result ≡ 2 }
     ensures silent { result ≡ 0 → errors.new ≡ errors.old }
+    // Otherwise standard error has the line that says which.
+    ensures refused { result ≡ 2
+        → IsTold E.contents E.has_failed errors.old errors.new (error_line (codes "usage") [])
+        ⊎ IsTold E.contents E.has_failed errors.old errors.new (
+        error_line (codes "file") (codes "standard output")) }
+    ensures wrong { 1 < length words.now
+        → IsTold E.contents E.has_failed errors.old errors.new (error_line (codes "usage") []) }
 {
     match words.first() {
         None => {
@@ -70,9 +85,12 @@ pub fn run_help<W: Write, E: Write>(words: &[Bytes], output: &mut W, errors: &mu
 
 /// Prints the name and the version of the program. Returns the exit status: 0, or 2 if it can't be
 /// written (own).
-pub fn run_version<W: Write, E: Write>(output: &mut W, errors: &mut E) -> u8
+pub fn run_version<W: Write, E: Hears>(output: &mut W, errors: &mut E) -> u8
     ensures status { (result ≡ 0) ⊎ (result ≡ 2) }
     ensures silent { result ≡ 0 → errors.new ≡ errors.old }
+    ensures refused { result ≡ 2
+        → IsTold E.contents E.has_failed errors.old errors.new (
+        error_line (codes "file") (codes "standard output")) }
 {
     let written = put_version(output);
     status_of(errors, written)

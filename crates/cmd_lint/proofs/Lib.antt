@@ -1,4 +1,5 @@
 pub mod Lost
 pub mod Paths
 pub mod Printed
+pub mod Saying
 pub mod Statuses

@@ -105,7 +105,7 @@ pub here : (files : Option Known) (status : ℕ) → (status ≢ 2 → (has : Bo
 here files status gives ne = let h = gives ne in (h.0, specs.AreLinted.next (codes "configure.ac") h.0 specs.AreLinted.none h.1, h.2)
 
 -- The names among words, or none
-some_named : (words : List (List ℕ)) → list_any is_name words ≡ true → filter is_name words ≡ named_by words
+pub some_named : (words : List (List ℕ)) → list_any is_name words ≡ true → filter is_name words ≡ named_by words
 some_named words any = not_empty (filter is_name words) (kept words any)
   where
     kept : (words : List (List ℕ)) → list_any is_name words ≡ true → filter is_name words ≡ [] → ⊥
@@ -120,7 +120,7 @@ some_named words any = not_empty (filter is_name words) (kept words any)
     not_empty [] some = absurd (some refl)
     not_empty (name ∷ more) some = refl
 
-none_named : (words : List (List ℕ)) → list_any is_name words ≡ false → codes "configure.ac" ∷ [] ≡ named_by words
+pub none_named : (words : List (List ℕ)) → list_any is_name words ≡ false → codes "configure.ac" ∷ [] ≡ named_by words
 none_named words no_one = ap or_here (sym (dropped words no_one))
   where
     dropped : (words : List (List ℕ)) → list_any is_name words ≡ false → filter is_name words ≡ []

@@ -1,15 +1,17 @@
 //! The command.
 
-ghost use Rattle.std.specs.Prelude.{◌≡◌, ◌≢◌, ◌≤◌, ◌&&◌, ◌||◌, Bool, true, false, [], ◌∷◌, IfOk, IfSome, codes};
+ghost use Rattle.std.specs.Prelude.{◌≡◌, ◌≢◌, ◌⊎◌, ◌≤◌, ◌&&◌, ◌||◌, ℕ, List, Bool, true, false, [], ◌∷◌, IfOk, IfSome, codes};
 ghost use Rattle.std.specs.List.{list_any, filter};
 ghost use Rattle.cmd_call.specs.Calls as calls;
+ghost use Rattle.cmd_call.specs.Lines.{AreSaid, IsTold, error_line};
+ghost use Rattle.cmd_lint.specs.Refusals.{AreSaidOf, IsSaidOf};
 ghost use Rattle.cmd_lint.specs.Status as specs;
 
 use crate::findings::found_in;
 use crate::reading::{Linted, SOURCE, read_named};
 use crate::showing::{Form, page_of};
 use crate::words::{asks_json, has_input, has_name, has_unknown, is_name};
-use cmd_call::{tell_file, tell_memory, tell_usage};
+use cmd_call::{Hears, tell_file, tell_memory, tell_usage};
 use deftable::Bytes;
 use file_disk::Disk;
 use std::alloc::{AllocError, Global};
@@ -43,11 +45,15 @@ fn lint_text<D: Disk>(
 
 /// Writes a page, and returns the exit status: that which is given, unless the page can't be
 /// written.
-fn put_page<W: Write, E: Write>(page: &[u8], status: u8, output: &mut W, errors: &mut E) -> u8
+#[tactic(auto, using(crate::proofs::Saying::nothing_said, crate::proofs::Saying::output_said))]
+fn put_page<W: Write, E: Hears>(page: &[u8], status: u8, output: &mut W, errors: &mut E) -> u8
     requires { status ≤ 1 }
     ensures bound { result ≤ 2 }
     ensures status { result ≢ 2 → result ≡ status }
     ensures silent { result ≢ 2 → errors.new ≡ errors.old }
+    ensures said { (name : List ℕ)
+        → (lines : List (List ℕ)) × IsSaidOf name result lines
+        × AreSaid E.contents E.has_failed errors.old errors.new lines }
 {
     match output.write_all(page) {
         Ok(()) => status,
@@ -77,7 +83,8 @@ fn page_for<D: Disk, R: Read>(
 }
 
 /// Lints the source of a name, and returns the exit status.
-fn lint_name<D: Disk, R: Read, W: Write, E: Write>(
+#[tactic(auto, using(crate::proofs::Saying::file_said))]
+fn lint_name<D: Disk, R: Read, W: Write, E: Hears>(
     alloc: Global,
     disk: &D,
     form: Form,
@@ -94,6 +101,8 @@ fn lint_name<D: Disk, R: Read, W: Write, E: Write>(
         → (has : Bool)
         × specs.IsLinted (D.known disk.now) (reads && calls.is_input name.now) name.now has
         × (result ≡ specs.status_of has) }
+    ensures said { (lines : List (List ℕ)) × IsSaidOf name.now result lines
+        × AreSaid E.contents E.has_failed errors.old errors.new lines }
 {
     match page_for(alloc, disk, form, name, reads, input) {
         Ok(Some((page, has_error))) => {
@@ -112,6 +121,7 @@ fn worse(status: u8, next: u8) -> u8
     ensures bound { result ≤ 2 }
     ensures first { result ≢ 2 → status ≢ 2 }
     ensures second { result ≢ 2 → next ≢ 2 }
+    ensures either { result ≡ 2 → (status ≡ 2) ⊎ (next ≡ 2) }
     ensures both { (has also : Bool) → status ≡ specs.status_of has → next ≡ specs.status_of also
         → result ≡ specs.status_of (has || also) }
 {
@@ -119,7 +129,7 @@ fn worse(status: u8, next: u8) -> u8
 }
 
 /// Lints each source that words name, and returns the exit status, which is the largest of theirs.
-fn lint_names<D: Disk, R: Read, W: Write, E: Write>(
+fn lint_names<D: Disk, R: Read, W: Write, E: Hears>(
     alloc: Global,
     disk: &D,
     form: Form,
@@ -136,6 +146,9 @@ fn lint_names<D: Disk, R: Read, W: Write, E: Write>(
     ensures linted { result ≢ 2
         → (has : Bool) × specs.AreLinted (D.known disk.now) (filter specs.is_name words.now) has
         × (result ≡ specs.status_of has) }
+    ensures said { (lines : List (List ℕ)) × AreSaidOf (filter specs.is_name words.now) lines
+        × (result ≡ 2 → lines ≢ [])
+        × AreSaid E.contents E.has_failed errors.old errors.new lines }
 {
     let mut status: u8 = 0;
     'words: for word in words {
@@ -149,8 +162,8 @@ fn lint_names<D: Disk, R: Read, W: Write, E: Write>(
 }
 
 /// Lints the source in the current directory, and returns the exit status.
-#[tactic(auto, using(crate::proofs::Statuses::here))]
-fn lint_here<D: Disk, R: Read, W: Write, E: Write>(
+#[tactic(auto, using(crate::proofs::Statuses::here, crate::proofs::Saying::said_here))]
+fn lint_here<D: Disk, R: Read, W: Write, E: Hears>(
     alloc: Global,
     disk: &D,
     form: Form,
@@ -164,6 +177,9 @@ fn lint_here<D: Disk, R: Read, W: Write, E: Write>(
     ensures linted { result ≢ 2
         → (has : Bool) × specs.AreLinted (D.known disk.now) (codes "configure.ac" ∷ []) has
         × (result ≡ specs.status_of has) }
+    ensures said { (lines : List (List ℕ)) × AreSaidOf (codes "configure.ac" ∷ []) lines
+        × (result ≡ 2 → lines ≢ [])
+        × AreSaid E.contents E.has_failed errors.old errors.new lines }
 {
     lint_name(alloc, disk, form, SOURCE, false, input, output, errors)
 }
@@ -171,7 +187,7 @@ fn lint_here<D: Disk, R: Read, W: Write, E: Write>(
 /// Lints each source that words name, or the one in the current directory, and returns the exit
 /// status.
 #[tactic(auto, using(crate::proofs::Statuses::by_names, crate::proofs::Statuses::by_none))]
-fn lint_all<D: Disk, R: Read, W: Write, E: Write>(
+fn lint_all<D: Disk, R: Read, W: Write, E: Hears>(
     alloc: Global,
     disk: &D,
     form: Form,
@@ -184,6 +200,9 @@ fn lint_all<D: Disk, R: Read, W: Write, E: Write>(
     ensures bound { result ≤ 2 }
     ensures silent { result ≢ 2 → errors.new ≡ errors.old }
     ensures linted { result ≢ 2 → specs.IsStatus (D.known disk.now) words.now result }
+    ensures said { (lines : List (List ℕ)) × AreSaidOf (specs.named_by words.now) lines
+        × (result ≡ 2 → lines ≢ [])
+        × AreSaid E.contents E.has_failed errors.old errors.new lines }
 {
     let reads = has_input(words);
     if has_name(words) {
@@ -203,7 +222,7 @@ fn lint_all<D: Disk, R: Read, W: Write, E: Write>(
 /// The status is 0 if nothing is found, or warnings alone; 1 if there are errors; and 2 if a source
 /// can't be read, if the text can't be written, or if an option isn't known, and then standard
 /// error has a line for it (own).
-pub fn run_lint<D: Disk, R: Read, W: Write, E: Write>(
+pub fn run_lint<D: Disk, R: Read, W: Write, E: Hears>(
     alloc: Global,
     disk: &D,
     words: &[Bytes],
@@ -220,6 +239,14 @@ pub fn run_lint<D: Disk, R: Read, W: Write, E: Write>(
     ensures silent { result ≢ 2 → errors.new ≡ errors.old }
     // It is 2 if an option isn't known.
     ensures unknown { list_any specs.is_unknown words.now ≡ true → result ≡ 2 }
+    // Then standard error has the line for that.
+    ensures refused { list_any specs.is_unknown words.now ≡ true
+        → IsTold E.contents E.has_failed errors.old errors.new (error_line (codes "usage") []) }
+    // Otherwise it has a line for each source that isn't linted, and there is one if the status is 2.
+    ensures said { list_any specs.is_unknown words.now ≡ false
+        → (lines : List (List ℕ)) × AreSaidOf (specs.named_by words.now) lines
+        × (result ≡ 2 → lines ≢ [])
+        × AreSaid E.contents E.has_failed errors.old errors.new lines }
     // Unless it is 2, the sources that the words name were read, and it is 1 exactly if one of them
     // has an error.
     ensures linted { result ≢ 2 → specs.IsStatus (D.known disk.now) words.now result }

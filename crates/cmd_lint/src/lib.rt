@@ -10,10 +10,11 @@
 //!
 //! "own" marks a rule that no manual gives.
 //!
-//! Read `command`, then `reading`, which reads a source, `findings`, which finds, and `showing`.
-//! `words` reads the words of the command, `templates` the templates of a source, and `reasons` says
-//! of a statement of a shell why no call can be put in its place, and `differing` has the warnings
-//! of what means another thing to Autoconf.
+//! In `specs`, read `Status`, and `Refusals` (what is said if the status is 2). Read `command`,
+//! then `reading`, which reads a source, `findings`, which finds, and `showing`. `words` reads the
+//! words of the command, `templates` the templates of a source, and `reasons` says of a statement
+//! of a shell why no call can be put in its place, and `differing` has the warnings of what means
+//! another thing to Autoconf.
 #![tactic(auto)]
 
 mod command;

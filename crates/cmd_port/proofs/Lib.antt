@@ -1,3 +1,4 @@
 pub mod Left
+pub mod Saying
 pub mod Steps
 pub mod Written

@@ -69,13 +69,13 @@ among_two : (first second source : List ℕ) → (source ≡ second) ⊎ (source
 among_two first second source (inr same) input = ap (λ b. b || list_any is_input (second ∷ [])) (ap is_input (sym same) ∙ input)
 among_two first second source (inl same) input = ap (λ b. is_input first || b) (among_one second source same input) ∙ or_true (is_input first)
 
-named_among : (words : List (List ℕ)) (request : Request) → request_of words ≡ Some request → is_input request.source ≡ true → list_any is_input words ≡ true
+pub named_among : (words : List (List ℕ)) (request : Request) → request_of words ≡ Some request → is_input request.source ≡ true → list_any is_input words ≡ true
 named_among [] request is input = absurd (from_here Exact request is input)
 named_among (word ∷ []) request is input = among_one word request.source (from_one word request (is_switch word) is input) input
 named_among (first ∷ second ∷ []) request is input = among_two first second request.source (from_two first second request (is_switch first) is) input
 named_among (first ∷ second ∷ third ∷ more) request is input = absurd cc
 
-stream_is : (reads : Bool) (source : List ℕ) (b : Bool) → is_input source ≡ b → (is_input source ≡ true → reads ≡ true) → (reads && is_input source) ≡ is_input source
+pub stream_is : (reads : Bool) (source : List ℕ) (b : Bool) → is_input source ≡ b → (is_input source ≡ true → reads ≡ true) → (reads && is_input source) ≡ is_input source
 stream_is true source b is all = refl
 stream_is false source false is all = sym is
 stream_is false source true is all = absurd (true≢false (sym (all is)))

@@ -1,3 +1,4 @@
 pub mod Ported
 pub mod Asked
 pub mod Printed
+pub mod Refusals

@@ -1,16 +1,19 @@
 //! The command.
 
-ghost use Rattle.std.specs.Prelude.{◌≡◌, ◌≢◌, ◌⊎◌, ◌≤◌, ◌&&◌, false, ℕ, List, option_map, None};
+ghost use Rattle.std.specs.Prelude.{◌≡◌, ◌≢◌, ◌⊎◌, ◌≤◌, ◌&&◌, true, false, ℕ, List, [], codes, option_map, None};
 ghost use Rattle.std.specs.List.{list_any};
 ghost use Rattle.std.specs.Io.KnownBytes.{Appends};
 ghost use Rattle.cmd_call.specs.Calls as calls;
+ghost use Rattle.cmd_call.specs.Lines.{IsTold, error_line};
 ghost use Rattle.cmd_lint.specs.Status.{IsNamed};
 ghost use Rattle.cmd_port.specs.Asked as wanted;
 ghost use Rattle.cmd_port.specs.Printed as specs;
+ghost use Rattle.cmd_port.specs.Refusals.{IsLost, IsSaid, IsSaidFor, IsSaidOf, Says};
+ghost use Rattle.lint_errors.specs.Errors.{IsAccepted};
 
 use crate::asking::request_of;
 use crate::{Ported, port};
-use cmd_call::{FAULT, tell_file, tell_memory, tell_usage};
+use cmd_call::{FAULT, Hears, tell_file, tell_memory, tell_usage, write_errors};
 use cmd_lint::{Linted, differences_of, has_input, read_named};
 use deftable::Bytes;
 use file_disk::Disk;
@@ -31,15 +34,25 @@ fn page_of(alloc: Global, linted: &Linted) -> Result<Vec<u8>, AllocError> {
     Ok(page)
 }
 
+/// Writes what is said of the errors of a source, and returns the exit status.
+#[tactic(auto, using(crate::proofs::Saying::page_told))]
+fn tell_page<E: Hears>(page: &[u8], errors: &mut E) -> u8
+    ensures status { result ≡ 2 }
+    ensures told { IsTold E.contents E.has_failed errors.old errors.new page.now }
+{
+    write_errors(page, errors);
+    FAULT
+}
+
 /// Reports that the quotes of a source have an error, and returns the exit status.
-fn tell_quotes<E: Write>(alloc: Global, linted: &Linted, errors: &mut E) -> u8
-    ensures { result ≡ 2 }
+#[tactic(auto, using(crate::proofs::Saying::wrong_said, crate::proofs::Saying::memory_said))]
+fn tell_quotes<E: Hears>(alloc: Global, linted: &Linted, errors: &mut E) -> u8
+    ensures status { result ≡ 2 }
+    ensures said { (IsAccepted linted.now.text → ⊥)
+        → Says E.contents E.has_failed errors.old errors.new (IsSaidOf linted.now.text) }
 {
     match page_of(alloc, linted) {
-        Ok(page) => {
-            let _ = errors.write_all(page.as_slice());
-            FAULT
-        }
+        Ok(page) => tell_page(page.as_slice(), errors),
         Err(_) => tell_memory(errors),
     }
 }
@@ -72,18 +85,19 @@ fn warnings_of<D: Disk>(
 }
 
 /// Writes warnings, and returns the exit status: that which is given, unless they can't be written.
-fn put_warnings<E: Write>(warnings: &[u8], answer: u8, errors: &mut E) -> u8
+fn put_warnings<E: Hears>(warnings: &[u8], answer: u8, errors: &mut E) -> u8
     requires { answer ≤ 1 }
     ensures bound { result ≤ 2 }
     ensures status { result ≢ 2 → result ≡ answer }
     ensures warned { result ≢ 2
         → (errors.new ≡ errors.old)
         ⊎ ((page : List ℕ) × Appends (E.contents errors.old) (E.contents errors.new) page) }
+    ensures failed { result ≡ 2 → E.has_failed errors.new ≡ true }
 {
     if warnings.is_empty() {
         return answer;
     }
-    match errors.write_all(warnings) {
+    match errors.say(warnings) {
         Ok(()) => answer,
         Err(_) => FAULT,
     }
@@ -91,12 +105,15 @@ fn put_warnings<E: Write>(warnings: &[u8], answer: u8, errors: &mut E) -> u8
 
 /// Writes a text, and returns the exit status: that which is given, unless the text can't be
 /// written.
-fn put_text<W: Write, E: Write>(text: &[u8], status: u8, output: &mut W, errors: &mut E) -> u8
+fn put_text<W: Write, E: Hears>(text: &[u8], status: u8, output: &mut W, errors: &mut E) -> u8
     requires { status ≤ 1 }
     ensures bound { result ≤ 2 }
     ensures status { result ≢ 2 → result ≡ status }
     ensures silent { result ≢ 2 → errors.new ≡ errors.old }
     ensures put { result ≢ 2 → Appends (W.contents output.old) (W.contents output.new) text.now }
+    ensures refused { result ≡ 2
+        → IsTold E.contents E.has_failed errors.old errors.new (
+        error_line (codes "file") (codes "standard output")) }
 {
     match output.write_all(text) {
         Ok(()) => status,
@@ -106,20 +123,23 @@ fn put_text<W: Write, E: Write>(text: &[u8], status: u8, output: &mut W, errors:
 
 /// Writes a source that was rewritten, and returns the exit status.
 #[tactic(auto, using(crate::proofs::Written::put_lent, crate::proofs::Written::status_lent))]
-fn put_ported<W: Write, E: Write>(ported: &Ported, output: &mut W, errors: &mut E) -> u8
+fn put_ported<W: Write, E: Hears>(ported: &Ported, output: &mut W, errors: &mut E) -> u8
     ensures bound { result ≤ 2 }
     ensures status { result ≢ 2 → result ≡ specs.status_of ported.now.has_comments }
     ensures low { result ≢ 2 → result ≤ 1 }
     ensures silent { result ≢ 2 → errors.new ≡ errors.old }
     ensures put { result ≢ 2
         → Appends (W.contents output.old) (W.contents output.new) ported.now.text }
+    ensures refused { result ≡ 2
+        → IsTold E.contents E.has_failed errors.old errors.new (
+        error_line (codes "file") (codes "standard output")) }
 {
     put_text(ported.text.as_slice(), status_of(ported), output, errors)
 }
 
 /// Writes a source that was rewritten and the warnings about it, and returns the exit status.
-#[tactic(auto, using(crate::proofs::Written::status_after, crate::proofs::Written::put_after, crate::proofs::Written::warned_after))]
-fn put_both<W: Write, E: Write>(
+#[tactic(auto, using(crate::proofs::Written::status_after, crate::proofs::Written::put_after, crate::proofs::Written::warned_after, crate::proofs::Saying::output_lost, crate::proofs::Saying::stream_lost))]
+fn put_both<W: Write, E: Hears>(
     ported: &Ported,
     warnings: &[u8],
     output: &mut W,
@@ -132,6 +152,7 @@ fn put_both<W: Write, E: Write>(
         ⊎ ((page : List ℕ) × Appends (E.contents errors.old) (E.contents errors.new) page) }
     ensures put { result ≢ 2
         → Appends (W.contents output.old) (W.contents output.new) ported.now.text }
+    ensures refused { result ≡ 2 → Says E.contents E.has_failed errors.old errors.new IsLost }
 {
     let status = put_ported(ported, output, errors);
     if status == 2 {
@@ -141,7 +162,8 @@ fn put_both<W: Write, E: Write>(
 }
 
 /// Writes a source that was rewritten and the warnings about it, and returns the exit status.
-fn print_ported<D: Disk, W: Write, E: Write>(
+#[tactic(auto, using(crate::proofs::Saying::memory_lost))]
+fn print_ported<D: Disk, W: Write, E: Hears>(
     alloc: Global,
     disk: &D,
     linted: &Linted,
@@ -156,6 +178,7 @@ fn print_ported<D: Disk, W: Write, E: Write>(
         ⊎ ((page : List ℕ) × Appends (E.contents errors.old) (E.contents errors.new) page) }
     ensures put { result ≢ 2
         → Appends (W.contents output.old) (W.contents output.new) ported.now.text }
+    ensures refused { result ≡ 2 → Says E.contents E.has_failed errors.old errors.new IsLost }
 {
     match warnings_of(alloc, disk, linted, ported) {
         Ok(warnings) => put_both(ported, warnings.as_slice(), output, errors),
@@ -164,8 +187,8 @@ fn print_ported<D: Disk, W: Write, E: Write>(
 }
 
 /// Prints a source with its calls rewritten, and returns the exit status.
-#[tactic(auto, using(crate::proofs::Written::answered))]
-fn port_source<D: Disk, W: Write, E: Write>(
+#[tactic(auto, using(crate::proofs::Written::answered, crate::proofs::Saying::lost_of, crate::proofs::Saying::memory_said, crate::proofs::Saying::refused_text))]
+fn port_source<D: Disk, W: Write, E: Hears>(
     alloc: Global,
     disk: &D,
     idioms: Idioms,
@@ -180,6 +203,8 @@ fn port_source<D: Disk, W: Write, E: Write>(
     ensures ported { result ≢ 2
         → (out : List ℕ) × specs.IsPrinted idioms linted.now.text out result
         × Appends (W.contents output.old) (W.contents output.new) out }
+    ensures refused { result ≡ 2
+        → Says E.contents E.has_failed errors.old errors.new (IsSaidOf linted.now.text) }
 {
     match port(alloc, idioms, linted.text.as_slice()) {
         Ok(Some(ported)) => print_ported(alloc, disk, linted, &ported, output, errors),
@@ -189,8 +214,8 @@ fn port_source<D: Disk, W: Write, E: Write>(
 }
 
 /// Prints the source of this name with its calls rewritten, and returns the exit status.
-#[tactic(auto, using(crate::proofs::Written::read))]
-fn port_named<D: Disk, R: Read, W: Write, E: Write>(
+#[tactic(auto, using(crate::proofs::Written::read, crate::proofs::Saying::said_of_named, crate::proofs::Saying::unread_said, crate::proofs::Saying::memory_for))]
+fn port_named<D: Disk, R: Read, W: Write, E: Hears>(
     alloc: Global,
     disk: &D,
     reads: bool,
@@ -211,6 +236,9 @@ fn port_named<D: Disk, R: Read, W: Write, E: Write>(
         × IsNamed (D.known disk.now) (reads && calls.is_input name.now) name.now text
         directory × specs.IsPrinted idioms text out result)
         × Appends (W.contents output.old) (W.contents output.new) out }
+    ensures refused { result ≡ 2
+        → Says E.contents E.has_failed errors.old errors.new (
+        IsSaidFor (D.known disk.now) (reads && calls.is_input name.now) name.now) }
 {
     match read_named(alloc, disk, reads, input, name) {
         Ok(Some(linted)) => port_source(alloc, disk, idioms, &linted, output, errors),
@@ -231,8 +259,8 @@ fn port_named<D: Disk, R: Read, W: Write, E: Write>(
 /// The status is 0 if nothing is left to do; 1 if the text has comments about what is left; and 2
 /// if the source can't be read, if its quotes have an error, if something can't be written, or if
 /// the words are wrong. Then standard error says so (own).
-#[tactic(auto, using(crate::proofs::Written::by_words, crate::proofs::Written::not_wrong))]
-pub fn run_port<D: Disk, R: Read, W: Write, E: Write>(
+#[tactic(auto, using(crate::proofs::Written::by_words, crate::proofs::Written::not_wrong, crate::proofs::Saying::said_by_words, crate::proofs::Saying::usage_said))]
+pub fn run_port<D: Disk, R: Read, W: Write, E: Hears>(
     alloc: Global,
     disk: &D,
     words: &[Bytes],
@@ -250,6 +278,13 @@ pub fn run_port<D: Disk, R: Read, W: Write, E: Write>(
         ⊎ ((page : List ℕ) × Appends (E.contents errors.old) (E.contents errors.new) page) }
     // It is 2 if the words are wrong.
     ensures usage { wanted.request_of words.now ≡ None → result ≡ 2 }
+    // Then standard error has the line for that.
+    ensures wrong { wanted.request_of words.now ≡ None
+        → IsTold E.contents E.has_failed errors.old errors.new (error_line (codes "usage") []) }
+    // If it is 2, standard error has what says why, or it has failed.
+    ensures refused { result ≡ 2
+        → Says E.contents E.has_failed errors.old errors.new (
+        IsSaid (D.known disk.now) (wanted.request_of words.now)) }
     // Unless it is 2, the source that the words name is written as it was rewritten. It is 1 if
     // that has comments about what is left, and 0 otherwise.
     ensures ported { result ≢ 2

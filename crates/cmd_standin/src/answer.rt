@@ -6,7 +6,7 @@
 //! other one is accepted. A list with `!meet` as its first line tests that children run at the same
 //! time: each makes a file, and one of them waits for the file of another.
 
-ghost use Rattle.std.specs.Prelude.{◌≡◌, ◌↔◌, ◌⊎◌, ℕ, List, [], ◌∷◌, ◌++◌, Some, IsTrue, IfOk, OnOk, IfSome, IfNone};
+ghost use Rattle.std.specs.Prelude.{◌≡◌, ◌↔◌, ◌⊎◌, ℕ, List, [], ◌∷◌, ◌++◌, Some, IsTrue, IfOk, OnErr, OnOk, IfSome, IfNone};
 ghost use Rattle.std.specs.Option.{option_copied};
 ghost use Rattle.std.specs.Io.KnownBytes.{Appends};
 ghost use Rattle.cmd_standin.specs.Standin as meant;
@@ -65,6 +65,9 @@ pub fn standin<F: Files, D: Disk, E: Write>(
     ensures answer { IfOk result (IsAnswered (D.known disk.now) words.now) }
     // If it accepts the conftest, it writes nothing.
     ensures silent { IfOk result (λ status. status ≡ 0 → errors.new ≡ errors.old) }
+    ensures status { IfOk result (λ status. (status ≡ 0) ⊎ (status ≡ 1)) }
+    // If memory runs out, it has written nothing.
+    ensures unsaid { OnErr result (errors.new ≡ errors.old) }
 {
     let list = text_of(alloc, disk, LIST)?;
     let name = name_of_conftest(words);
@@ -138,6 +141,7 @@ fn judge<E: Write>(
     ensures passed { IfOk result (λ status. status ≡ 0 → HasNoBarred list.now conftest.now) }
     ensures silent { IfOk result (λ status. status ≡ 0 → errors.new ≡ errors.old) }
     ensures status { IfOk result (λ status. (status ≡ 0) ⊎ (status ≡ 1)) }
+    ensures unsaid { OnErr result (errors.new ≡ errors.old) }
 {
     match first_barred(alloc, list, conftest)? {
         Some(line) => {

@@ -1,9 +1,10 @@
 -- What happened, and what follows from its exit status.
-use Rattle.std.proofs.Common.{◌≡◌, ◌≢◌, ℕ, Bool, true, false, ◌&&◌, Option, Some, None, Err, refl, sym, subst}
+use Rattle.std.proofs.Common.{◌≡◌, ◌≢◌, ℕ, Bool, true, false, ◌&&◌, List, [], ◌∷◌, Option, Some, None, Err, refl, sym, subst}
 use Rattle.std.specs.Prelude.{is_none, if◌then◌else◌}
 use Rattle.std.proofs.lemmas.Bool.{and_parts}
 use Rattle.cmd_status.specs.Happened.{after_fault, is_all_done, is_whole, left_status, status_after}
 use Rattle.cmd_status.specs.Left.{IsFinished}
+use Rattle.cmd_status.specs.Reasons.{run_line}
 use Rattle.cmd_status.specs.declared.happened.Happened.{Happened}
 use Rattle.cmd_status.specs.declared.happened.Happened.TheVariants.{NotRead, NotRecorded, Refused, OutOfMemory, Shown, Ran}
 use Rattle.cmd_status.specs.declared.happened.RunLeft.{RunLeft}
@@ -67,7 +68,7 @@ unfinished f = refl
 -- ---- a run that is finished
 
 -- Any fault but a refused put is told alone.
-pub told_alone : {D : Type 0} (known : D → Option Known) (old new : Held D) (f : Fault) (happened : Happened)
-    → ((number : ℕ) (report : Report) → f ≡ faults.PutRefused number report → ⊥) → happened ≡ after_fault f → new ≡ old → IsFinished known old new (Err f) happened
-told_alone known old new (faults.PutRefused number report) happened other is same = absurd (other number report refl)
-told_alone known old new f happened other is same = (is, same)
+pub told_alone : {D : Type 0} (known : D → Option Known) (old new : Held D) (precious : List (List ℕ)) (f : Fault) (happened : Happened)
+    → ((number : ℕ) (report : Report) → f ≡ faults.PutRefused number report → ⊥) → happened ≡ after_fault f → new ≡ old → IsFinished known old new precious (Err f) happened (run_line (Some precious) f ∷ [])
+told_alone known old new precious (faults.PutRefused number report) happened other is same = absurd (other number report refl)
+told_alone known old new precious f happened other is same = (is, same, refl)

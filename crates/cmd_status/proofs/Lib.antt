@@ -1,2 +1,4 @@
 pub mod Happenings
+pub mod Reasons
 pub mod Remakes
+pub mod Unmade

@@ -59,7 +59,7 @@ record_guarded known (Ok x) one two three name names is first more h =
 pub guarded_before : {D : Type 0} (known : D → Option Known) (d now : D) (guards : List Guard) (names : List (List ℕ)) → now ≡ d → AreGuarded (known now) guards names → AreGuarded (known d) guards names
 guarded_before known d now guards names same h = subst (λ x. AreGuarded (known x) guards names) same h
 
-remade_of : (text : List ℕ) (recorded : Record) (templates : List (List ℕ × List ℕ)) (tags : List (List ℕ)) → record_in text ≡ Ok recorded → remade text templates tags ≡ again.made_again recorded templates tags
+pub remade_of : (text : List ℕ) (recorded : Record) (templates : List (List ℕ × List ℕ)) (tags : List (List ℕ)) → record_in text ≡ Ok recorded → remade text templates tags ≡ again.made_again recorded templates tags
 unfolding remade
 remade_of text recorded templates tags is = ap (λ r. named of_record r >>= λ x. again.made_again x templates tags) is
 

@@ -1,4 +1,6 @@
 pub mod Happened
 pub mod Left
 pub mod Printed
+pub mod Reasons
 pub mod MadeAgain
+pub mod Unmade

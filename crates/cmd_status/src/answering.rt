@@ -1,19 +1,19 @@
 //! The command that answers in a compiler's place.
 
-ghost use Rattle.std.specs.Prelude.{◌≡◌, ◌⊎◌};
+ghost use Rattle.std.specs.Prelude.{◌≡◌, ◌⊎◌, [], codes};
+ghost use Rattle.cmd_call.specs.Lines.{IsTold, error_line};
 ghost use Rattle.cmd_standin.specs.Standin.{IsAnswered};
 
-use cmd_call::tell_memory;
+use cmd_call::{Hears, tell_memory};
 use cmd_standin::standin;
 use deftable::Bytes;
 use file_disk::Disk;
 use std::alloc::Global;
-use std::io::Write;
 use std::rt::Files;
 
 /// Answers as the stand-in for a compiler with this command line, and returns the exit status
 /// (own).
-pub fn run_standin<F: Files, D: Disk, E: Write>(
+pub fn run_standin<F: Files, D: Disk, E: Hears>(
     alloc: Global,
     files: &F,
     disk: &D,
@@ -22,6 +22,9 @@ pub fn run_standin<F: Files, D: Disk, E: Write>(
 ) -> u8
     ensures answer { (result ≡ 2) ⊎ IsAnswered (D.known disk.now) words.now result }
     ensures silent { result ≡ 0 → errors.new ≡ errors.old }
+    // If memory runs out, standard error has the line for that.
+    ensures refused { result ≡ 2
+        → IsTold E.contents E.has_failed errors.old errors.new (error_line (codes "memory") []) }
 {
     match standin(alloc, files, disk, words, errors) {
         Ok(status) => status,

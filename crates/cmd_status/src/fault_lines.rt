@@ -1,36 +1,36 @@
 //! The lines of the faults of a run, of outputs that are not made again, and of files that can't be
 //! read or written.
 
-ghost use Rattle.std.specs.Prelude.{◌≡◌, Ok, IsTrue};
+ghost use Rattle.std.specs.Prelude.{◌≡◌, false, [], Ok, IsTrue, codes, option_map};
+ghost use Rattle.cmd_call.specs.Lines.{AreSaid, IsTold, error_line};
+ghost use Rattle.cmd_call.specs.Precious.{precious_in};
+ghost use Rattle.cmd_status.specs.Reasons.{run_line, unwritten};
+ghost use Rattle.fault_spots.specs.FaultLines.{remake_line};
 ghost use Rattle.cmd_status.specs.Happened.{after_fault, after_record};
 ghost use Rattle.cmd_status.specs.declared.happened.Happened.TheVariants.{OutOfMemory};
 
 use crate::happened::{Happened, not_recorded, refused};
-use cmd_call::{FAULT, tell_file, tell_memory, tell_named, tell_precious};
+use cmd_call::{FAULT, Hears, tell_file, tell_memory, tell_precious};
 use cmd_explain::{Given, Why, explain_error, explain_fault, explain_file, explain_remake};
 use engine_frame::{Fault, RemakeFault};
+use fault_spots::{tell_fault, tell_remake_fault};
 use file_disk::Disk;
 use status_record::Record;
 use std::alloc::Global;
-use std::io::{self, Write};
-
-/// Reports a fault of a run, and returns the exit status. Of a precious variable, the line has the
-/// number and not the name.
-fn tell_fault<E: Write>(errors: &mut E, fault: &Fault) -> u8
-    ensures { result ≡ 2 }
-{
-    match fault {
-        Fault::NoTemplate(name) => tell_named(errors, fault, name.as_slice()),
-        _ => tell_named(errors, fault, b""),
-    }
-}
+use std::io;
 
 /// Reports the line of a fault of a run.
-fn tell_line<E: Write>(given: Option<&Given<'_>>, errors: &mut E, fault: &Fault) -> u8
-    ensures { result ≡ 2 }
+fn tell_line<E: Hears>(given: Option<&Given<'_>>, errors: &mut E, fault: &Fault) -> u8
+    ensures status { result ≡ 2 }
+    ensures told { IsTold E.contents E.has_failed errors.old errors.new (
+        run_line (option_map (λ g. precious_in g.now.source.now) given.entry)
+        fault.now) }
 {
-    match (fault, given) {
-        (Fault::Precious(inner), Some(given)) => tell_precious(errors, given.source, *inner),
+    match fault {
+        Fault::Precious(inner) => match given {
+            Some(given) => tell_precious(errors, given.source, *inner),
+            None => tell_fault(errors, fault),
+        },
         _ => tell_fault(errors, fault),
     }
 }
@@ -38,7 +38,8 @@ fn tell_line<E: Write>(given: Option<&Given<'_>>, errors: &mut E, fault: &Fault)
 /// Reports what is wrong with what a run is given, and says more of it if it is asked. Returns what
 /// happened. If the source was judged before the fault was found, `given` is what the run was given
 /// then.
-pub fn tell_run<D: Disk, E: Write>(
+#[tactic(auto, using(cmd_call::proofs::Lines::told_unasked, cmd_call::proofs::Lines::still_told))]
+pub fn tell_run<D: Disk, E: Hears>(
     alloc: Global,
     disk: &D,
     why: &Why<'_>,
@@ -46,7 +47,11 @@ pub fn tell_run<D: Disk, E: Write>(
     errors: &mut E,
     fault: Fault,
 ) -> Happened
-    ensures { result ≡ after_fault fault }
+    ensures happened { result ≡ after_fault fault }
+    ensures told { why.now.is_asked ≡ false
+        → IsTold E.contents E.has_failed errors.old errors.new (
+        run_line (option_map (λ g. precious_in g.now.source.now) given.entry)
+        fault) }
 {
     let _ = tell_line(given, errors, &fault);
     explain_fault(alloc, disk, why, given, errors, &fault);
@@ -54,8 +59,10 @@ pub fn tell_run<D: Disk, E: Write>(
 }
 
 /// Reports that memory ran out, and returns what happened.
-pub fn no_memory<E: Write>(errors: &mut E) -> Happened
-    ensures { result ≡ OutOfMemory }
+pub fn no_memory<E: Hears>(errors: &mut E) -> Happened
+    ensures happened { result ≡ OutOfMemory }
+    ensures told { IsTold E.contents E.has_failed errors.old errors.new (
+        error_line (codes "memory") []) }
 {
     let _ = tell_memory(errors);
     Happened::OutOfMemory
@@ -64,7 +71,8 @@ pub fn no_memory<E: Write>(errors: &mut E) -> Happened
 /// Reports why outputs are not made again, or a run is not done again, and returns the exit status.
 /// Says more of it if it is asked. `recorded` is the record, if it was read. If a put was refused,
 /// `cause` says why, and it is empty if that is not known.
-pub fn tell_remake<D: Disk, E: Write>(
+#[tactic(auto, using(cmd_call::proofs::Lines::told_unasked, cmd_call::proofs::Lines::still_told))]
+pub fn tell_remake<D: Disk, E: Hears>(
     alloc: Global,
     disk: &D,
     why: &Why<'_>,
@@ -73,26 +81,27 @@ pub fn tell_remake<D: Disk, E: Write>(
     errors: &mut E,
     fault: &RemakeFault,
 ) -> u8
-    ensures { result ≡ 2 }
+    ensures status { result ≡ 2 }
+    ensures told { why.now.is_asked ≡ false
+        → IsTold E.contents E.has_failed errors.old errors.new (remake_line fault.now) }
 {
-    let _ = match fault {
-        RemakeFault::NoTemplate(name) => tell_named(errors, fault, name.as_slice()),
-        _ => tell_named(errors, fault, b""),
-    };
+    let _ = tell_remake_fault(errors, fault);
     explain_remake(alloc, disk, why, recorded, cause, errors, fault);
     FAULT
 }
 
 /// Reports why the record of this text is not run again, as [`tell_remake`] does, and returns what
 /// happened.
-pub fn no_record<D: Disk, E: Write>(
+pub fn no_record<D: Disk, E: Hears>(
     alloc: Global,
     disk: &D,
     why: &Why<'_>,
     errors: &mut E,
     fault: RemakeFault,
 ) -> Happened
-    ensures { result ≡ after_record fault }
+    ensures happened { result ≡ after_record fault }
+    ensures told { why.now.is_asked ≡ false
+        → IsTold E.contents E.has_failed errors.old errors.new (remake_line fault) }
 {
     let _ = tell_remake(alloc, disk, why, None, b"", errors, &fault);
     not_recorded(fault)
@@ -100,14 +109,17 @@ pub fn no_record<D: Disk, E: Write>(
 
 /// Reports that the file at this path can't be read, and says why if it is asked. Returns the exit
 /// status.
-pub fn tell_unread<D: Disk, E: Write>(
+#[tactic(auto, using(cmd_call::proofs::Lines::told_unasked, cmd_call::proofs::Lines::still_told))]
+pub fn tell_unread<D: Disk, E: Hears>(
     alloc: Global,
     disk: &D,
     is_asked: bool,
     path: &[u8],
     errors: &mut E,
 ) -> u8
-    ensures { result ≡ 2 }
+    ensures status { result ≡ 2 }
+    ensures told { is_asked ≡ false
+        → IsTold E.contents E.has_failed errors.old errors.new (error_line (codes "file") path.now) }
 {
     let _ = tell_file(errors, path);
     explain_file(alloc, disk, is_asked, path, path, errors);
@@ -115,20 +127,24 @@ pub fn tell_unread<D: Disk, E: Write>(
 }
 
 /// Reports that the file of this name can't be written, and says why if it is asked.
-pub(crate) fn tell_unwritten<E: Write>(
+#[tactic(auto, using(cmd_call::proofs::Lines::told_unasked, cmd_call::proofs::Lines::still_told))]
+pub(crate) fn tell_unwritten<E: Hears>(
     alloc: Global,
     is_asked: bool,
     name: &[u8],
     cause: &io::Error,
     errors: &mut E,
-) {
+)
+    ensures told { is_asked ≡ false
+        → IsTold E.contents E.has_failed errors.old errors.new (error_line (codes "file") name.now) }
+{
     let _ = tell_file(errors, name);
     explain_error(alloc, is_asked, name, cause, errors);
 }
 
 /// Reports that the file of this name can't be written, if it can't be, and says why if it is
 /// asked. Returns whether it was.
-pub(crate) fn tell_written<E: Write>(
+pub(crate) fn tell_written<E: Hears>(
     alloc: Global,
     is_asked: bool,
     name: &[u8],
@@ -137,6 +153,8 @@ pub(crate) fn tell_written<E: Write>(
 ) -> bool
     ensures done { IsTrue result → done ≡ Ok tt }
     ensures silent { IsTrue result → errors.new ≡ errors.old }
+    ensures said { is_asked ≡ false
+        → AreSaid E.contents E.has_failed errors.old errors.new (unwritten name.now result) }
 {
     match done {
         Ok(()) => true,

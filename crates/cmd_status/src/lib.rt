@@ -11,9 +11,9 @@
 //!
 //! "own" marks a rule that no manual gives.
 //!
-//! In `specs`, read `Happened`, `Printed` (what a run prints), `Left` (what it leaves in files) and
-//! `MadeAgain`. In `src`, read `happened`, `reporting` and `remaking`; `answering` and `fault_lines`
-//! are small.
+//! In `specs`, read `Happened`, `Printed` (what a run prints), `Reasons` (the lines of what is
+//! wrong), `Left` (what a run leaves), `MadeAgain` and `Unmade`. In `src`, read `happened`,
+//! `reporting` and `remaking`; `answering` and `fault_lines` are small.
 #![tactic(auto)]
 
 mod answering;

@@ -1,14 +1,18 @@
 //! The command that makes the outputs of a record again.
 
-ghost use Rattle.std.specs.Prelude.{◌≡◌, ◌≢◌, ℕ, List, ◌∷◌, ◌++◌, Some, Ok, OnOk, IsTrue, codes};
+ghost use Rattle.std.specs.Prelude.{◌≡◌, ◌≢◌, ℕ, List, ◌∷◌, ◌++◌, false, Some, Ok, Err, OnOk, IsTrue, codes};
 ghost use Rattle.std.specs.Io.KnownBytes.{Appends};
 ghost use Rattle.cmd_status.specs.MadeAgain.{IsMadeAgain, IsRecordFound};
+ghost use Rattle.cmd_status.specs.Reasons.{answer_line, unwritten};
+ghost use Rattle.cmd_status.specs.Unmade.{SaysUnmade};
 ghost use Rattle.file_texts.specs.Held.{GuardsMore, IsUnused, fresh};
 ghost use Rattle.cmd_call.specs.Guarded.{AreGuarded, inputs_of};
+ghost use Rattle.cmd_call.specs.Lines.{AreSaid};
 ghost use Rattle.cmd_call.specs.Supplies.{AreTemplates, ReadsWhole};
+ghost use Rattle.engine_frame.specs.declared.fault.RemakeFault.{RemakeFault as FaultValue};
 
 use crate::fault_lines::{tell_remake, tell_unread, tell_written};
-use cmd_call::{FAULT, Terminal, keep_inputs, print_lines, record_templates, tell_memory};
+use cmd_call::{FAULT, Hears, Terminal, keep_inputs, print_lines, record_templates, tell_memory};
 use cmd_explain::Why;
 use deftable::Bytes;
 use engine_frame::{RemakeFault, remake_record};
@@ -25,7 +29,7 @@ pub const RECORD: &[u8] = b"config.status";
 pub(crate) const OUTPUT: &[u8] = b"standard output";
 
 /// Prints the lines of the outputs. Returns whether standard output took them.
-fn print_made<W: Write, E: Write>(
+fn print_made<W: Write, E: Hears>(
     alloc: Global,
     why: &Why<'_>,
     lines: &[u8],
@@ -35,13 +39,17 @@ fn print_made<W: Write, E: Write>(
     ensures prints { IsTrue result
         → Appends (W.contents output.old) (W.contents output.new) lines.now }
     ensures silent { IsTrue result → errors.new ≡ errors.old }
+    ensures said { why.now.is_asked ≡ false
+        → AreSaid E.contents E.has_failed errors.old errors.new
+        (unwritten (codes "standard output") result) }
 {
     let done = print_lines(lines, false, output);
     tell_written(alloc, why.is_asked, OUTPUT, done, errors)
 }
 
 /// Reports the fault of the answer, if there is one. Returns whether there is none.
-fn tell_answer<D: Disk, E: Write>(
+#[tactic(auto, using(crate::proofs::Reasons::fault_said))]
+fn tell_answer<D: Disk, E: Hears>(
     alloc: Global,
     outputs: &FileOutputs<D>,
     why: &Why<'_>,
@@ -50,7 +58,10 @@ fn tell_answer<D: Disk, E: Write>(
     errors: &mut E,
 ) -> bool
     ensures made { IsTrue result → (n : ℕ) × (answer.now ≡ Ok n) }
+    ensures unmade { result ≡ false → (f : FaultValue) × (answer.now ≡ Err f) }
     ensures silent { IsTrue result → errors.new ≡ errors.old }
+    ensures said { why.now.is_asked ≡ false
+        → AreSaid E.contents E.has_failed errors.old errors.new (answer_line answer.now) }
 {
     match answer {
         Ok(_) => true,
@@ -82,7 +93,8 @@ fn keep_all<D: Disk>(
 
 /// Returns what the faults of a record with this text are explained by.
 fn why_of<'a>(is_asked: bool, text: &'a [u8], srcdir: &'a [u8], tags: &'a [Bytes]) -> Why<'a>
-    ensures { result.args.now ≡ tags.now }
+    ensures asked { result.is_asked ≡ is_asked }
+    ensures args { result.args.now ≡ tags.now }
 {
     Why {
         is_asked,
@@ -95,7 +107,7 @@ fn why_of<'a>(is_asked: bool, text: &'a [u8], srcdir: &'a [u8], tags: &'a [Bytes
 
 /// Makes the outputs of a record with these templates, and returns the exit status.
 #[tactic(auto, using(file_texts::proofs::Unused::fresh_unused))]
-fn make_with<D: Disk, R: Read, W: Write, E: Write>(
+fn make_with<D: Disk, R: Read, W: Write, E: Hears>(
     terminal: &mut Terminal<'_, D, R, W, E>,
     why: &Why<'_>,
     recorded: &Record,
@@ -111,6 +123,10 @@ fn make_with<D: Disk, R: Read, W: Write, E: Write>(
         why.now.args.now out
         × Appends (W.contents terminal.old.output) (W.contents terminal.new.output) out }
     ensures silent { result ≢ 2 → terminal.new.errors ≡ terminal.old.errors }
+    ensures refused { why.now.is_asked ≡ false → result ≡ 2
+        → (lines : List (List ℕ))
+        × SaysUnmade (D.known terminal.old.outputs.disk) why.now.args.now lines
+        × AreSaid E.contents E.has_failed terminal.old.errors terminal.new.errors lines }
     ensures input { terminal.new.input ≡ terminal.old.input }
 {
     let alloc = terminal.alloc;
@@ -133,7 +149,7 @@ fn make_with<D: Disk, R: Read, W: Write, E: Write>(
 }
 
 /// Reads the templates of a record, makes its outputs, and returns the exit status.
-fn make_record<D: Disk, R: Read, W: Write, E: Write>(
+fn make_record<D: Disk, R: Read, W: Write, E: Hears>(
     terminal: &mut Terminal<'_, D, R, W, E>,
     text: &[u8],
     recorded: &Record,
@@ -147,6 +163,10 @@ fn make_record<D: Disk, R: Read, W: Write, E: Write>(
         tags.now out
         × Appends (W.contents terminal.old.output) (W.contents terminal.new.output) out }
     ensures silent { result ≢ 2 → terminal.new.errors ≡ terminal.old.errors }
+    ensures refused { terminal.old.is_asked ≡ false → result ≡ 2
+        → (lines : List (List ℕ))
+        × SaysUnmade (D.known terminal.old.outputs.disk) tags.now lines
+        × AreSaid E.contents E.has_failed terminal.old.errors terminal.new.errors lines }
     ensures input { terminal.new.input ≡ terminal.old.input }
 {
     match record_templates(terminal.alloc, terminal.outputs.disk(), recorded) {
@@ -159,7 +179,7 @@ fn make_record<D: Disk, R: Read, W: Write, E: Write>(
 }
 
 /// Reads a record, makes its outputs, and returns the exit status.
-fn make_text<D: Disk, R: Read, W: Write, E: Write>(
+fn make_text<D: Disk, R: Read, W: Write, E: Hears>(
     terminal: &mut Terminal<'_, D, R, W, E>,
     text: &[u8],
     tags: &[Bytes],
@@ -173,6 +193,10 @@ fn make_text<D: Disk, R: Read, W: Write, E: Write>(
         tags.now out
         × Appends (W.contents terminal.old.output) (W.contents terminal.new.output) out }
     ensures silent { result ≢ 2 → terminal.new.errors ≡ terminal.old.errors }
+    ensures refused { terminal.old.is_asked ≡ false → result ≡ 2
+        → (lines : List (List ℕ))
+        × SaysUnmade (D.known terminal.old.outputs.disk) tags.now lines
+        × AreSaid E.contents E.has_failed terminal.old.errors terminal.new.errors lines }
     ensures input { terminal.new.input ≡ terminal.old.input }
 {
     match read_record(terminal.alloc, text) {
@@ -200,7 +224,7 @@ fn make_text<D: Disk, R: Read, W: Write, E: Write>(
 /// If anything is wrong, the status is 2, and standard error has a line for it (own); outputs may
 /// have been made before that. If it is asked, further lines may say why. Nothing else is written
 /// there.
-pub fn run_status<D: Disk, R: Read, W: Write, E: Write>(
+pub fn run_status<D: Disk, R: Read, W: Write, E: Hears>(
     terminal: &mut Terminal<'_, D, R, W, E>,
     tags: &[Bytes],
 ) -> u8
@@ -211,6 +235,12 @@ pub fn run_status<D: Disk, R: Read, W: Write, E: Write>(
         tags.now out
         × Appends (W.contents terminal.old.output) (W.contents terminal.new.output) out }
     ensures silent { result ≢ 2 → terminal.new.errors ≡ terminal.old.errors }
+    // If it isn't asked why, standard error has the lines that say so, and nothing more, unless it has
+    // failed.
+    ensures refused { terminal.old.is_asked ≡ false → result ≡ 2
+        → (lines : List (List ℕ))
+        × SaysUnmade (D.known terminal.old.outputs.disk) tags.now lines
+        × AreSaid E.contents E.has_failed terminal.old.errors terminal.new.errors lines }
     ensures input { terminal.new.input ≡ terminal.old.input }
 {
     match read_text(terminal.alloc, terminal.outputs.disk(), RECORD) {

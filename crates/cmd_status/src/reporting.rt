@@ -1,20 +1,23 @@
 //! What a run leaves for its user: its messages, the lines on its outputs, and its log.
 
-ghost use Rattle.std.specs.Prelude.{◌≡◌, [], true, false, None, Ok, Err, IsTrue};
+ghost use Rattle.std.specs.Prelude.{◌≡◌, [], ◌++◌, true, false, None, Ok, Err, IsTrue, codes};
 ghost use Rattle.std.specs.Io.KnownBytes.{Appends};
 ghost use Rattle.cfglog.specs.Texts.{log_of};
 ghost use Rattle.cmd_status.specs.Happened.{is_all_done, is_whole, status_after};
 ghost use Rattle.cmd_status.specs.Left.{IsFinished, IsReported, Logs};
 ghost use Rattle.cmd_status.specs.Printed.{printed};
+ghost use Rattle.cmd_status.specs.Reasons.{SaysOf, lines_after, put_line, unwritten};
 ghost use Rattle.engine_frame.specs.declared.report.Report.{Report};
 ghost use Rattle.engine_frame.specs.Told as words;
 ghost use Rattle.cmd_call.specs.Errors.{AreTold, errors_of};
+ghost use Rattle.cmd_call.specs.Lines.{AreSaid};
 ghost use Rattle.cmd_call.specs.Logged.{HasLogged, HasNoLog, IsHeld};
+ghost use Rattle.cmd_call.specs.Precious.{precious_in};
 
 use crate::fault_lines::{tell_run, tell_unwritten, tell_written};
 use crate::happened::{Happened, RunLeft};
 use crate::remaking::OUTPUT;
-use cmd_call::{LOG, Terminal, print_all, tell_put, write_log};
+use cmd_call::{Hears, LOG, Terminal, print_all, tell_put, write_log};
 use cmd_explain::{
     Given, Why, explain_compilers, explain_cut, explain_directories, explain_doubts,
     explain_long_cache, explain_put,
@@ -76,7 +79,7 @@ fn explain_completed<E: Write>(
 
 /// Prints the messages of a run and the lines of its outputs, and says why it was cut, or what may
 /// be wrong with it, if it is asked. Returns whether standard output took them.
-fn print_report<D: Disk, C: Causes, R: Read, W: Write, E: Write>(
+fn print_report<D: Disk, C: Causes, R: Read, W: Write, E: Hears>(
     terminal: &mut Terminal<'_, D, R, W, E>,
     settings: &Settings,
     report: &Report,
@@ -88,6 +91,9 @@ fn print_report<D: Disk, C: Causes, R: Read, W: Write, E: Write>(
     ensures told { terminal.old.is_asked ≡ false → IsTrue result
         → AreTold (E.contents terminal.old.errors) (E.contents terminal.new.errors)
         (errors_of report.now.messages) }
+    ensures said { terminal.old.is_asked ≡ false
+        → AreSaid E.contents E.has_failed terminal.old.errors terminal.new.errors
+        (errors_of report.now.messages ++ unwritten (codes "standard output") result) }
     ensures held { IsHeld D.known terminal.old.outputs }
     ensures outputs { terminal.new.outputs ≡ terminal.old.outputs }
     ensures input { terminal.new.input ≡ terminal.old.input }
@@ -109,7 +115,7 @@ fn print_report<D: Disk, C: Causes, R: Read, W: Write, E: Write>(
 }
 
 /// Reports the put that was refused, if one was, and says why if it is asked.
-fn tell_refused<E: Write>(
+fn tell_refused<E: Hears>(
     alloc: Global,
     is_asked: bool,
     given: &Given<'_>,
@@ -118,6 +124,8 @@ fn tell_refused<E: Write>(
     errors: &mut E,
 )
     ensures silent { refused ≡ None → errors.new ≡ errors.old }
+    ensures said { is_asked ≡ false
+        → AreSaid E.contents E.has_failed errors.old errors.new (put_line refused) }
 {
     if let Some(number) = refused {
         let _ = tell_put(errors, number);
@@ -126,7 +134,7 @@ fn tell_refused<E: Write>(
 }
 
 /// Writes the log of a run. Returns whether that succeeded.
-fn log_report<D: Disk, E: Write>(
+fn log_report<D: Disk, E: Hears>(
     alloc: Global,
     outputs: &mut FileOutputs<D>,
     is_asked: bool,
@@ -137,6 +145,9 @@ fn log_report<D: Disk, E: Write>(
         → HasLogged D.known outputs.old outputs.new (log_of report.now.log) }
     ensures no_log { result ≡ false → HasNoLog D.known outputs.old outputs.new }
     ensures silent { result ≡ true → errors.new ≡ errors.old }
+    ensures said { is_asked ≡ false
+        → AreSaid E.contents E.has_failed errors.old errors.new
+        (unwritten (codes "config.log") result) }
 {
     match write_log(alloc, outputs, report.log.as_slice()) {
         Ok(()) => true,
@@ -148,7 +159,7 @@ fn log_report<D: Disk, E: Write>(
 }
 
 /// Prints and writes what a run leaves for its user, and returns what it left.
-fn finish_report<D: Disk, C: Causes, R: Read, W: Write, E: Write>(
+fn finish_report<D: Disk, C: Causes, R: Read, W: Write, E: Hears>(
     terminal: &mut Terminal<'_, D, R, W, E>,
     given: &Given<'_>,
     report: &Report,
@@ -163,6 +174,9 @@ fn finish_report<D: Disk, C: Causes, R: Read, W: Write, E: Write>(
         (errors_of report.now.messages)) }
     ensures left { IsReported D.known terminal.old.outputs terminal.new.outputs report.now refused
         result }
+    ensures said { terminal.old.is_asked ≡ false
+        → AreSaid E.contents E.has_failed terminal.old.errors terminal.new.errors
+        (lines_after report.now result) }
     ensures input { terminal.new.input ≡ terminal.old.input }
 {
     let alloc = terminal.alloc;
@@ -182,7 +196,7 @@ fn finish_report<D: Disk, C: Causes, R: Read, W: Write, E: Write>(
 
 /// Reports a fault of a run, or prints and writes what the run leaves if it is a refused put, and
 /// returns what happened.
-fn finish_fault<D: Disk, C: Causes, R: Read, W: Write, E: Write>(
+fn finish_fault<D: Disk, C: Causes, R: Read, W: Write, E: Hears>(
     terminal: &mut Terminal<'_, D, R, W, E>,
     why: &Why<'_>,
     given: &Given<'_>,
@@ -190,8 +204,10 @@ fn finish_fault<D: Disk, C: Causes, R: Read, W: Write, E: Write>(
     crew: &C,
 ) -> Happened
     ensures unfinished { is_all_done result ≡ false }
-    ensures finished { IsFinished D.known terminal.old.outputs terminal.new.outputs (Err fault)
-        result }
+    ensures finished { SaysOf E.contents E.has_failed terminal.old.errors terminal.new.errors
+        ((why.now.is_asked ≡ false) × (terminal.old.is_asked ≡ false)) (
+        IsFinished D.known terminal.old.outputs terminal.new.outputs
+        (precious_in given.now.source.now) (Err fault) result) }
     ensures input { terminal.new.input ≡ terminal.old.input }
 {
     match fault {
@@ -214,7 +230,7 @@ fn finish_fault<D: Disk, C: Causes, R: Read, W: Write, E: Write>(
 /// which is told then. Any other fault is told alone, and nothing else is done. If it is asked, it
 /// also says why: of a cut run by what the crew knows, and of a refused put by what the outputs
 /// know.
-pub fn finish_run<D: Disk, C: Causes, R: Read, W: Write, E: Write>(
+pub fn finish_run<D: Disk, C: Causes, R: Read, W: Write, E: Hears>(
     terminal: &mut Terminal<'_, D, R, W, E>,
     why: &Why<'_>,
     given: &Given<'_>,
@@ -230,7 +246,12 @@ pub fn finish_run<D: Disk, C: Causes, R: Read, W: Write, E: Write>(
         × (terminal.old.is_asked ≡ false
         → AreTold (E.contents terminal.old.errors) (E.contents terminal.new.errors)
         (errors_of report.messages)) }
-    ensures finished { IsFinished D.known terminal.old.outputs terminal.new.outputs answer result }
+    // If it isn't asked why, standard error has the messages of a run and the lines of what is
+    // missing, or the line of a fault that is told alone, and nothing more, unless it has failed.
+    ensures finished { SaysOf E.contents E.has_failed terminal.old.errors terminal.new.errors
+        ((why.now.is_asked ≡ false) × (terminal.old.is_asked ≡ false)) (
+        IsFinished D.known terminal.old.outputs terminal.new.outputs
+        (precious_in given.now.source.now) answer result) }
     ensures input { terminal.new.input ≡ terminal.old.input }
 {
     match answer {
@@ -243,7 +264,7 @@ pub fn finish_run<D: Disk, C: Causes, R: Read, W: Write, E: Write>(
 }
 
 /// Prints the text of a report that shows one. Returns whether standard output took it.
-pub fn print_shown<D: Disk, R: Read, W: Write, E: Write>(
+pub fn print_shown<D: Disk, R: Read, W: Write, E: Hears>(
     terminal: &mut Terminal<'_, D, R, W, E>,
     report: &Report,
 ) -> bool
@@ -252,6 +273,9 @@ pub fn print_shown<D: Disk, R: Read, W: Write, E: Write>(
         (printed false report.now.messages [])
         × AreTold (E.contents terminal.old.errors) (E.contents terminal.new.errors)
         (errors_of report.now.messages) }
+    ensures said { terminal.old.is_asked ≡ false
+        → AreSaid E.contents E.has_failed terminal.old.errors terminal.new.errors
+        (errors_of report.now.messages ++ unwritten (codes "standard output") result) }
     ensures outputs { terminal.new.outputs ≡ terminal.old.outputs }
     ensures input { terminal.new.input ≡ terminal.old.input }
 {

@@ -2,3 +2,4 @@ mod Ends
 mod Explained
 mod Nearness
 mod Records
+mod Saying

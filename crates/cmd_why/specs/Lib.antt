@@ -4,6 +4,7 @@ pub mod Subjects
 pub mod Names
 pub mod Nearest
 pub mod Quoting
+pub mod Refusals
 pub mod Origins
 pub mod Sources
 pub mod Shown

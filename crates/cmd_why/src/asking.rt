@@ -1,7 +1,10 @@
 //! The command.
 
-ghost use Rattle.std.specs.Prelude.{◌≡◌, ◌≢◌, ◌≤◌, ℕ, List, map, option_map, IfOk, IfSome};
+ghost use Rattle.std.specs.Prelude.{◌≡◌, ◌≢◌, ◌≤◌, ℕ, false, List, [], map, codes, option_map, IfNone, IfOk, IfSome};
 ghost use Rattle.std.specs.Io.KnownBytes.{Appends};
+ghost use Rattle.cmd_call.specs.Lines.{IsTold, error_line};
+ghost use Rattle.cmd_why.specs.Lines as logs;
+ghost use Rattle.cmd_why.specs.Refusals.{IsLost, IsNoLog, IsSaid, IsSaidForWord, IsSaidOfLog, IsSaidOfRecord, IsSaidOfRun, IsSaidOfText, Tells, record_line};
 ghost use Rattle.cmd_why.specs.Shown.{printed, status_of};
 ghost use Rattle.cmd_why.specs.Views.{check_seen, line_seen};
 ghost use Rattle.cmd_why.specs.Sources.{IsSeenFor};
@@ -13,7 +16,9 @@ use crate::record::line_in;
 use crate::seen::{RECORD, Seen, seen_for};
 use crate::showing::{FOUND, put_printed};
 use cfglog::read_log;
-use cmd_call::{FAULT, LOG, tell_file, tell_memory, tell_named, tell_usage};
+use cmd_call::{
+    Hears, LOG, record_spot, tell_file, tell_memory, tell_named, tell_spot, tell_usage,
+};
 use deftable::Bytes;
 use file_disk::Disk;
 use file_texts::read_text;
@@ -50,7 +55,7 @@ fn answer_with(
 
 /// Returns what is printed for a word of the lines of a log, or `None` if they have nothing of a
 /// run: none begins a check, and none is an error, a warning or a notice.
-#[tactic(auto, using(crate::proofs::Explained::answered))]
+#[tactic(auto, using(crate::proofs::Explained::answered, crate::proofs::Saying::nothing_of_run))]
 fn answer_of(
     alloc: Global,
     seen: &Seen,
@@ -61,6 +66,9 @@ fn answer_of(
         IfSome o (λ answer.
         specs.IsAnswer seen.now word.now (map line_seen lines.now) answer.text.items
         answer.status)) }
+    ensures none { IfOk result (λ o.
+        IfNone o (
+        logs.is_run (logs.checks (map line_seen lines.now)) (map line_seen lines.now) ≡ false)) }
     ensures bound { IfOk result (λ o. IfSome o (λ answer. answer.status ≤ 1)) }
 {
     let checks = checks_of(alloc, lines)?;
@@ -82,6 +90,7 @@ fn answer_in(
     ensures answer { IfOk result (λ o.
         IfSome o (λ answer.
         specs.IsInLog seen.now text.now word.now answer.text.items answer.status)) }
+    ensures none { IfOk result (λ o. IfNone o (IsNoLog text.now)) }
     ensures bound { IfOk result (λ o. IfSome o (λ answer. answer.status ≤ 1)) }
 {
     match read_log(alloc, text)? {
@@ -94,11 +103,13 @@ fn answer_in(
 }
 
 /// Writes what is to be printed, and returns the exit status.
-fn put_text<W: Write, E: Write>(text: &[u8], status: u8, output: &mut W, errors: &mut E) -> u8
+#[tactic(auto, using(crate::proofs::Saying::output_lost))]
+fn put_text<W: Write, E: Hears>(text: &[u8], status: u8, output: &mut W, errors: &mut E) -> u8
     requires { status ≤ 1 }
     ensures bound { result ≤ 2 }
     ensures status { result ≢ 2 → result ≡ status }
     ensures silent { result ≢ 2 → errors.new ≡ errors.old }
+    ensures refused { result ≡ 2 → Tells E.contents E.has_failed errors.old errors.new IsLost }
     ensures put { result ≢ 2 → Appends (W.contents output.old) (W.contents output.new) text.now }
 {
     match output.write_all(text) {
@@ -108,8 +119,8 @@ fn put_text<W: Write, E: Write>(text: &[u8], status: u8, output: &mut W, errors:
 }
 
 /// Writes what the text of a log says about the word, and returns the exit status.
-#[tactic(auto, using(crate::proofs::Explained::written))]
-fn write_from_text<W: Write, E: Write>(
+#[tactic(auto, using(crate::proofs::Explained::written, crate::proofs::Saying::lost_text, crate::proofs::Saying::no_log_told, crate::proofs::Saying::memory_of_text))]
+fn write_from_text<W: Write, E: Hears>(
     alloc: Global,
     seen: &Seen,
     text: &[u8],
@@ -120,20 +131,22 @@ fn write_from_text<W: Write, E: Write>(
 ) -> u8
     ensures status { result ≤ 2 }
     ensures silent { result ≢ 2 → errors.new ≡ errors.old }
+    ensures refused { result ≡ 2
+        → Tells E.contents E.has_failed errors.old errors.new (IsSaidOfText name.now text.now) }
     ensures answer { result ≢ 2
         → (out : List ℕ) × specs.IsInLog seen.now text.now word.now out result
         × Appends (W.contents output.old) (W.contents output.new) out }
 {
     match answer_in(alloc, seen, text, word) {
         Ok(Some(answer)) => put_text(answer.text.as_slice(), answer.status, output, errors),
-        Ok(None) => tell_named(errors, &"log", name),
+        Ok(None) => tell_named(errors, b"log", name),
         Err(_) => tell_memory(errors),
     }
 }
 
 /// Writes what the text of the log of this name says about the word, and returns the exit status.
-#[tactic(auto, using(crate::proofs::Explained::by_seen))]
-fn write_from_seen<D: Disk, W: Write, E: Write>(
+#[tactic(auto, using(crate::proofs::Explained::by_seen, crate::proofs::Saying::memory_of_text))]
+fn write_from_seen<D: Disk, W: Write, E: Hears>(
     alloc: Global,
     disk: &D,
     text: &[u8],
@@ -144,6 +157,8 @@ fn write_from_seen<D: Disk, W: Write, E: Write>(
 ) -> u8
     ensures status { result ≤ 2 }
     ensures silent { result ≢ 2 → errors.new ≡ errors.old }
+    ensures refused { result ≡ 2
+        → Tells E.contents E.has_failed errors.old errors.new (IsSaidOfText name.now text.now) }
     ensures answer { result ≢ 2
         → (seen : Seen) × IsSeenFor (D.known disk.now) name.now seen
         × ((out : List ℕ) × specs.IsInLog seen text.now word.now out result
@@ -156,8 +171,8 @@ fn write_from_seen<D: Disk, W: Write, E: Write>(
 }
 
 /// Writes what a log says about the word, and returns the exit status.
-#[tactic(auto, using(crate::proofs::Explained::explained))]
-fn write_from_log<D: Disk, W: Write, E: Write>(
+#[tactic(auto, using(crate::proofs::Explained::explained, crate::proofs::Saying::text_told, crate::proofs::Saying::unread_told, crate::proofs::Saying::memory_of_log))]
+fn write_from_log<D: Disk, W: Write, E: Hears>(
     alloc: Global,
     disk: &D,
     word: &[u8],
@@ -167,6 +182,9 @@ fn write_from_log<D: Disk, W: Write, E: Write>(
 ) -> u8
     ensures status { result ≤ 2 }
     ensures silent { result ≢ 2 → errors.new ≡ errors.old }
+    ensures refused { result ≡ 2
+        → Tells E.contents E.has_failed errors.old errors.new (
+        IsSaidOfLog (D.known disk.now) name.now) }
     ensures answer { result ≢ 2
         → (out : List ℕ) × specs.IsOfLog (D.known disk.now) name.now word.now out result
         × Appends (W.contents output.old) (W.contents output.new) out }
@@ -197,7 +215,8 @@ fn log_named(more: &[Bytes]) -> Option<&[u8]>
 /// Writes what the log of this name says about the word, and returns the exit status. If there is
 /// no name, the
 /// words have no meaning.
-fn write_for_word<D: Disk, W: Write, E: Write>(
+#[tactic(auto, using(crate::proofs::Saying::usage_told))]
+fn write_for_word<D: Disk, W: Write, E: Hears>(
     alloc: Global,
     disk: &D,
     word: &[u8],
@@ -207,6 +226,9 @@ fn write_for_word<D: Disk, W: Write, E: Write>(
 ) -> u8
     ensures status { result ≤ 2 }
     ensures silent { result ≢ 2 → errors.new ≡ errors.old }
+    ensures refused { result ≡ 2
+        → Tells E.contents E.has_failed errors.old errors.new (
+        IsSaidForWord (D.known disk.now) (option_map (λ name. name.now) name.entry)) }
     ensures answer { result ≢ 2
         → (out : List ℕ)
         × specs.IsOfWord (D.known disk.now) word.now (option_map (λ name. name.now) name.entry)
@@ -219,32 +241,33 @@ fn write_for_word<D: Disk, W: Write, E: Write>(
 }
 
 /// Reports that the record is refused, and returns the exit status.
-fn tell_record<E: Write>(errors: &mut E, fault: RecordFault) -> u8
-    ensures { result ≡ 2 }
+fn tell_record<E: Hears>(errors: &mut E, fault: RecordFault) -> u8
+    ensures status { result ≡ 2 }
+    ensures told { IsTold E.contents E.has_failed errors.old errors.new (record_line fault) }
 {
     match fault {
         RecordFault::OutOfMemory => tell_memory(errors),
-        _ => {
-            let _ = write!(errors, "acrun: record {fault}\n");
-            FAULT
-        }
+        _ => tell_spot(errors, b"record ", &record_spot(&fault)),
     }
 }
 
 /// Reports that the record has no arguments, and returns the exit status.
-fn tell_no_arguments<E: Write>(errors: &mut E) -> u8
-    ensures { result ≡ 2 }
+fn tell_no_arguments<E: Hears>(errors: &mut E) -> u8
+    ensures status { result ≡ 2 }
+    ensures told { IsTold E.contents E.has_failed errors.old errors.new (
+        error_line (codes "record has no arguments") []) }
 {
-    let _ = write!(errors, "acrun: record has no arguments\n");
-    FAULT
+    tell_named(errors, b"record has no arguments", b"")
 }
 
 /// Shows the run that the record in this text is of, and returns the exit status. If the record has
 /// no arguments, or the text is no record, says so.
-#[tactic(auto, using(crate::proofs::Explained::line_written))]
-fn show_record<W: Write, E: Write>(alloc: Global, text: &[u8], output: &mut W, errors: &mut E) -> u8
+#[tactic(auto, using(crate::proofs::Explained::line_written, crate::proofs::Saying::lost_record, crate::proofs::Saying::none_told, crate::proofs::Saying::fault_told))]
+fn show_record<W: Write, E: Hears>(alloc: Global, text: &[u8], output: &mut W, errors: &mut E) -> u8
     ensures status { result ≤ 2 }
     ensures silent { result ≢ 2 → errors.new ≡ errors.old }
+    ensures refused { result ≡ 2
+        → Tells E.contents E.has_failed errors.old errors.new (IsSaidOfRecord text.now) }
     ensures line { result ≢ 2
         → (out : List ℕ) × specs.IsLineIn text.now out × (result ≡ 0)
         × Appends (W.contents output.old) (W.contents output.new) out }
@@ -258,7 +281,8 @@ fn show_record<W: Write, E: Write>(alloc: Global, text: &[u8], output: &mut W, e
 
 /// Shows the run that the record is of, and returns the exit status. If the record can't be read, a
 /// word is missing.
-fn show_run<D: Disk, W: Write, E: Write>(
+#[tactic(auto, using(crate::proofs::Saying::record_told, crate::proofs::Saying::no_record_told, crate::proofs::Saying::memory_of_run))]
+fn show_run<D: Disk, W: Write, E: Hears>(
     alloc: Global,
     disk: &D,
     output: &mut W,
@@ -266,6 +290,8 @@ fn show_run<D: Disk, W: Write, E: Write>(
 ) -> u8
     ensures status { result ≤ 2 }
     ensures silent { result ≢ 2 → errors.new ≡ errors.old }
+    ensures refused { result ≡ 2
+        → Tells E.contents E.has_failed errors.old errors.new (IsSaidOfRun (D.known disk.now)) }
     ensures run { result ≢ 2
         → (out : List ℕ) × specs.IsOfRecord (D.known disk.now) out result
         × Appends (W.contents output.old) (W.contents output.new) out }
@@ -297,7 +323,7 @@ fn show_run<D: Disk, W: Write, E: Write>(
 /// checks that are nearest to WORD are printed. It is 2 if the words aren't these, if there are
 /// none and no `config.status` with arguments can be read, or if the log can't be read, is no log,
 /// or can't be explained on standard output. Then standard error has a line that says which.
-pub fn run_why<D: Disk, W: Write, E: Write>(
+pub fn run_why<D: Disk, W: Write, E: Hears>(
     alloc: Global,
     disk: &D,
     words: &[Bytes],
@@ -307,6 +333,10 @@ pub fn run_why<D: Disk, W: Write, E: Write>(
     ensures status { result ≤ 2 }
     // Standard error has something only if the status is 2.
     ensures silent { result ≢ 2 → errors.new ≡ errors.old }
+    // Then it has the line that says why nothing is printed.
+    ensures refused { result ≡ 2
+        → Tells E.contents E.has_failed errors.old errors.new (
+        IsSaid (D.known disk.now) words.now) }
     // Unless the status is 2, what is written is the answer for these words, by the log or the
     // record.
     ensures answer { result ≢ 2

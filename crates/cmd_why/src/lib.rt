@@ -22,10 +22,10 @@
 //! ```
 //!
 //! In `specs`, read `Lines` (the checks of a log, and which lines are a check's), `Subjects` (what
-//! a check is about), `Names` (which names a check has), `Shown`, `Doubts`, `Nearest`, and then `Why`, which
-//! says what is printed for words and files. `Views` has the lines of the code as the definitions
-//! have them. In `src`, read `lines`, `subject`, `names`, `nearest`, `showing`, `record`, and then
-//! `asking`.
+//! a check is about), `Names` (which names a check has), `Shown`, `Doubts`, `Nearest`, and then
+//! `Why`, which says what is printed for words and files, and `Refusals` (why nothing is). `Views`
+//! has the lines of the code as the definitions have them. In `src`, read `lines`, `subject`,
+//! `names`, `nearest`, `showing`, `record`, and then `asking`.
 #![tactic(auto)]
 
 mod asking;

@@ -1,7 +1,7 @@
 //! The run that the record is of.
 
-ghost use Rattle.std.specs.Prelude.{◌≡◌, ◌++◌, IfOk, IfSome, OnOk, flat_map, option_map};
-ghost use Rattle.status_record.specs.Reading.{record_in};
+ghost use Rattle.std.specs.Prelude.{◌≡◌, ◌++◌, None, IfErr, IfNone, IfOk, IfSome, OnOk, flat_map, option_map};
+ghost use Rattle.status_record.specs.Reading.{Fails, record_in};
 ghost use Rattle.cmd_why.specs.Quoting as specs;
 ghost use Rattle.cmd_why.specs.Why.{IsLineIn};
 
@@ -94,19 +94,28 @@ pub(crate) fn kept_in(alloc: Global, text: &[u8]) -> Result<Option<(Texts, Defs)
 /// Returns the arguments of the record in a text, or `None` if the record has no arguments. Fails if
 /// the text is no record.
 fn args_in(alloc: Global, text: &[u8]) -> Result<Option<Texts>, RecordFault>
-    ensures { IfOk result (λ args. args ≡ specs.arguments_in (record_in text.now)) }
+    ensures args { IfOk result (λ args. args ≡ specs.arguments_in (record_in text.now)) }
+    ensures refused { IfErr result (λ fault. Fails fault (record_in text.now)) }
 {
-    let record = read_record(alloc, text)?;
-    Ok(args_of(record))
+    match read_record(alloc, text) {
+        Ok(record) => Ok(args_of(record)),
+        Err(fault) => Err(fault),
+    }
 }
 
 /// Returns the line of the run that the record in a text is of, with the arguments as words of a
 /// shell, or `None` if the record has no arguments. Fails if the text is no record.
 pub(crate) fn line_in(alloc: Global, text: &[u8]) -> Result<Option<Vec<u8>>, RecordFault>
-    ensures { IfOk result (λ o. IfSome o (λ line. IsLineIn text.now line.items)) }
+    ensures line { IfOk result (λ o. IfSome o (λ line. IsLineIn text.now line.items)) }
+    ensures none { IfOk result (λ o. IfNone o (specs.arguments_in (record_in text.now) ≡ None)) }
+    ensures refused { IfErr result (λ fault. Fails fault (record_in text.now)) }
 {
-    match &args_in(alloc, text)? {
-        Some(args) => Ok(Some(line_of(alloc, args.as_slice())?)),
-        None => Ok(None),
+    match args_in(alloc, text) {
+        Ok(Some(args)) => match line_of(alloc, args.as_slice()) {
+            Ok(line) => Ok(Some(line)),
+            Err(_) => Err(RecordFault::OutOfMemory),
+        },
+        Ok(None) => Ok(None),
+        Err(fault) => Err(fault),
     }
 }

@@ -64,14 +64,15 @@ GuardsMore old new = (more : List Guard) × (new ≡ with_guards old (old.guards
 abbrev pub AreUnguarded : List Guard → List Artifact → Type 0
 AreUnguarded guards artifacts = All (λ artifact. is_name_guarded artifact.name guards ≡ false) artifacts
 
--- What no put changes: the names that are guarded, with their places, and what is under the names of
--- the disk, if that is known. (own)
+-- What no put changes: the names that are guarded, with their places; what is under the names of the
+-- disk, if that is known; and whether the receiver is closed. (own)
 pub record Lasting : Type 0 where
   pub guards : List Guard
   pub files : Option Files
+  pub closed : Bool
 
 abbrev pub lasting_of : {D : Type 0} → (D → Option Known) → Held D → Lasting
-lasting_of known o = record { guards = o.guards; files = option_map (λ k. k.files) (known o.disk) }
+lasting_of known o = record { guards = o.guards; files = option_map (λ k. k.files) (known o.disk); closed = o.closed }
 
 -- The receiver has taken nothing, and no put was refused. It may guard names. (own)
 pub record IsUnused {D : Type 0} (o : Held D) : Type 0 where

@@ -1,3 +1,4 @@
 mod Others
+mod Refusals
 mod Statuses
 mod Whole

@@ -27,6 +27,18 @@ pub no_recheck : (call : lent.ProgramCall) (seen : ProgramCall) (P : Type 0) →
 no_recheck lends.Recheck seen P ne e = absurd (ne refl)
 no_recheck call seen P ne e = subst (λ s. IfRecheck s P) e tt
 
+pub no_why : (call : lent.ProgramCall) (seen : ProgramCall) (P : List (List ℕ) → Type 0) → ((words : _) → call ≡ lends.Why words → ⊥) → call_seen call ≡ seen → IfWhy seen P
+no_why (lends.Why words) seen P ne e = absurd (ne words refl)
+no_why call seen P ne e = subst (λ s. IfWhy s P) e tt
+
+pub no_lint : (call : lent.ProgramCall) (seen : ProgramCall) (P : List (List ℕ) → Type 0) → ((words : _) → call ≡ lends.Lint words → ⊥) → call_seen call ≡ seen → IfLint seen P
+no_lint (lends.Lint words) seen P ne e = absurd (ne words refl)
+no_lint call seen P ne e = subst (λ s. IfLint s P) e tt
+
+pub no_port : (call : lent.ProgramCall) (seen : ProgramCall) (P : List (List ℕ) → Type 0) → ((words : _) → call ≡ lends.Port words → ⊥) → call_seen call ≡ seen → IfPort seen P
+no_port (lends.Port words) seen P ne e = absurd (ne words refl)
+no_port call seen P ne e = subst (λ s. IfPort s P) e tt
+
 pub failed_why : (n : ℕ) (P : Type 0) (seen : ProgramCall) → n ≡ 2 → IfWhy seen (λ words. (n ≤ 2) × (n ≢ 2 → P))
 failed_why n P (Why words) e = (omega (arith, e), λ ne. absurd (ne e))
 failed_why n P call e = tt

@@ -12,6 +12,12 @@ pub said_too : (o : Option (List ℕ)) (said seen : List ℕ) (Is : List ℕ →
 said_too None said seen Is Put Quiet Told same h q t = tt
 said_too (Some input) said seen Is Put Quiet Told same h q t = (h.0, seen, subst (λ (s : List ℕ). Is input h.0 s) (sym same) h.1, h.2, q, t)
 
+-- What is told whole is said of the input.
+pub said_whole : (o : Option (List ℕ)) (said seen : List ℕ) (Is : List ℕ → List ℕ → List ℕ → Type 0) (Put Whole : List ℕ → Type 0)
+    → seen ≡ said → IfSome o (λ input. (out : List ℕ) × Is input out said × Put out) → Whole seen → IfSome o (λ input. (out : List ℕ) × (s : List ℕ) × Is input out s × Whole s)
+said_whole None said seen Is Put Whole same h w = tt
+said_whole (Some input) said seen Is Put Whole same h w = (h.0, seen, subst (λ (s : List ℕ). Is input h.0 s) (sym same) h.1, w)
+
 -- The input was filtered.
 pub filtered_so : (o : Option (List ℕ)) (status : ℕ) (unwritten : Type 0) (Put Quiet Told : List ℕ → Type 0)
     → IfSome o (λ input. (out : List ℕ) × (said : List ℕ) × IsFiltered input out said status × Put out × Quiet said × Told said)

@@ -1,5 +1,8 @@
 -- What became of the filter's input, whatever the exit status is.
-use Rattle.std.specs.Prelude.{◌≡◌, ◌≢◌, ◌⊎◌, ℕ, List}
+use Rattle.std.specs.Prelude.{◌≡◌, ◌≢◌, ◌⊎◌, ℕ, Bool, false, List, Option, IfSome}
+use Rattle.std.specs.Io.KnownBytes.{Appends}
+use Rattle.cmd_call.specs.Lines.{IsTold}
+use Rattle.cmd_filter.specs.FaultText.{filter_line}
 use Rattle.cmd_filter.specs.Filtered.{IsFiltered, IsRefused}
 use Rattle.cmd_filter.specs.declared.fault.FilterFault.{FilterFault}
 use Rattle.cmd_filter.specs.declared.fault.FilterFault.TheVariants.{Write}
@@ -11,3 +14,10 @@ abbrev pub FiltersSo : List ℕ → ℕ → Type 0 → (List ℕ → List ℕ �
 FiltersSo input status unwritten is_so =
     ((fault : FilterFault) × IsRefused input fault × (status ≡ 2) × (fault ≢ Write → unwritten))
     ⊎ ((out : List ℕ) × (said : List ℕ) × IsFiltered input out said status × is_so out said)
+
+-- What is said on standard error of an input, if it is known: the line of its fault, or, as the status
+-- is that of its source's run, the text of that run, unless the stream has failed. (own)
+abbrev pub FilterSays : {E : Type 0} → (E → Option (List ℕ)) → (E → Bool) → E → E → Option (List ℕ) → ℕ → Type 0
+FilterSays contents has_failed old new known status =
+    ((fault : FilterFault) × IfSome known (λ input. IsRefused input fault) × IsTold contents has_failed old new (filter_line fault))
+    ⊎ IfSome known (λ input. (out : List ℕ) × (said : List ℕ) × IsFiltered input out said status × (has_failed new ≡ false → Appends (contents old) (contents new) said))

@@ -1,3 +1,4 @@
 pub mod Filters
 pub mod Ports
 pub mod Puts
+pub mod Refusals

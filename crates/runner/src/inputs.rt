@@ -1,19 +1,23 @@
 //! The filter, over its input.
 
-ghost use Rattle.std.specs.Prelude.{◌≡◌, ◌⊎◌, List, ℕ, [], ◌∷◌, IfSome};
+ghost use Rattle.std.specs.Prelude.{◌≡◌, ◌⊎◌, false, List, ℕ, [], ◌∷◌, IfSome};
 ghost use Rattle.std.specs.Io.KnownBytes.{Appends};
 ghost use Rattle.cmd_filter.specs.Filtered.{IsFiltered};
+ghost use Rattle.cmd_filter.specs.FaultText.{filter_line};
 ghost use Rattle.cmd_call.specs.Errors.{AreTold};
-ghost use Rattle.runner.specs.Filters.{FiltersSo};
+ghost use Rattle.cmd_call.specs.Lines.{IsTold};
+ghost use Rattle.runner.specs.Filters.{FilterSays, FiltersSo};
 
-use cmd_call::{FAULT, write_errors};
+use cmd_call::{FAULT, Hears, write_errors};
 use cmd_explain::{Why, explain_source, explain_usage};
 use cmd_filter::{FilterFault, Filtered, filter_keeping, source_part, tell};
 use std::alloc::Global;
 use std::io::{Read, Write};
 
 /// Returns what the faults of a source that was read from the input are explained by.
-fn why_of(is_asked: bool, text: &[u8]) -> Why<'_> {
+fn why_of(is_asked: bool, text: &[u8]) -> Why<'_>
+    ensures { result.is_asked ≡ is_asked }
+{
     Why {
         is_asked,
         srcdir: b"",
@@ -30,7 +34,9 @@ fn explain_filter<E: Write>(
     input: &[u8],
     fault: &FilterFault,
     errors: &mut E,
-) {
+)
+    ensures silent { is_asked ≡ false → errors.new ≡ errors.old }
+{
     match fault {
         FilterFault::Usage => explain_usage(alloc, is_asked, &[], errors),
         FilterFault::Run(fault) => {
@@ -43,14 +49,17 @@ fn explain_filter<E: Write>(
 
 /// Reports an error of the filter over this input, and says more of it if it is asked. Returns the
 /// exit status.
-fn tell_filter<E: Write>(
+#[tactic(auto, using(cmd_call::proofs::Lines::told_unasked))]
+fn tell_filter<E: Hears>(
     alloc: Global,
     is_asked: bool,
     input: &[u8],
     fault: &FilterFault,
     errors: &mut E,
 ) -> u8
-    ensures { result ≡ 2 }
+    ensures status { result ≡ 2 }
+    ensures told { is_asked ≡ false
+        → IsTold E.contents E.has_failed errors.old errors.new (filter_line fault.now) }
 {
     let _ = tell(errors, fault);
     explain_filter(alloc, is_asked, input, fault, errors);
@@ -58,10 +67,12 @@ fn tell_filter<E: Write>(
 }
 
 /// Writes what the source says on standard error, as far as it takes it.
-#[tactic(auto, using(cmd_call::proofs::Fronts::told_blank))]
-fn write_said<E: Write>(said: &[u8], errors: &mut E)
+#[tactic(auto, using(cmd_call::proofs::Fronts::told_blank, cmd_call::proofs::Lines::blank_whole))]
+fn write_said<E: Hears>(said: &[u8], errors: &mut E)
     ensures silent { said.now ≡ [] → errors.new ≡ errors.old }
     ensures told { AreTold (E.contents errors.old) (E.contents errors.new) (said.now ∷ []) }
+    ensures whole { E.has_failed errors.new ≡ false
+        → Appends (E.contents errors.old) (E.contents errors.new) said.now }
 {
     if said.is_empty() {
         return;
@@ -70,7 +81,7 @@ fn write_said<E: Write>(said: &[u8], errors: &mut E)
 }
 
 /// Filters the input, and returns the exit status.
-pub(crate) fn run_filter<R: Read, W: Write, E: Write>(
+pub(crate) fn run_filter<R: Read, W: Write, E: Hears>(
     alloc: Global,
     why: bool,
     input: &mut R,
@@ -88,6 +99,8 @@ pub(crate) fn run_filter<R: Read, W: Write, E: Write>(
         Appends (W.contents output.old) (W.contents output.new) out
         × (said ≡ [] → errors.new ≡ errors.old)
         × AreTold (E.contents errors.old) (E.contents errors.new) (said ∷ []))) }
+    ensures refused { why ≡ false → result ≡ 2
+        → FilterSays E.contents E.has_failed errors.old errors.new (R.remaining input.old) result }
 {
     let mut text = Vec::new(alloc);
     match filter_keeping(alloc, input, output, &mut text) {

@@ -11,14 +11,15 @@
 //! "own" marks a rule that no manual gives.
 //!
 //! The definitions are those of the crates below: `Calls` in `cmd_call`, `Configures` in
-//! `cmd_configure`, `MadeAgain` in `cmd_status`, and `Filtered` in `cmd_filter`. `specs/Puts` is
-//! small. In `src`, read `inputs` and `program`.
+//! `cmd_configure`, `MadeAgain` in `cmd_status`, and `Filtered` in `cmd_filter`. `specs/Filters`
+//! and `specs/Refusals` say what is said of a refusal, and `specs/Puts` is small. In `src`, read
+//! `inputs` and `program`.
 #![tactic(auto)]
 
 mod inputs;
 mod program;
 
-pub use cmd_call::{LOG, Terminal, environment, showing_of, words};
+pub use cmd_call::{Heard, LOG, Terminal, environment, showing_of, words};
 pub use cmd_explain::asks_why;
 pub use cmd_filter::{FilterFault, Filtered, filter, tell};
 pub use engine_frame::Fault;

@@ -1,6 +1,6 @@
 //! The program's commands, over its streams, its files and a crew.
 
-ghost use Rattle.std.specs.Prelude.{◌≡◌, true, false, ◌∷◌, ◌≢◌, ◌⊎◌, ◌≤◌, ◌<◌, ℕ, List, [], length, None, IfSome};
+ghost use Rattle.std.specs.Prelude.{◌≡◌, true, false, ◌∷◌, ◌≢◌, ◌⊎◌, ◌≤◌, ◌<◌, ℕ, List, [], length, None, IfSome, codes};
 ghost use Rattle.std.specs.Io.KnownBytes.{Appends};
 ghost use Rattle.std.specs.List.{list_any};
 ghost use Rattle.cmd_status.specs.MadeAgain.{IsMadeAgain};
@@ -11,17 +11,25 @@ ghost use Rattle.file_texts.specs.Held.{fresh};
 ghost use Rattle.cmd_filter.specs.Filtered.{IsFiltered};
 ghost use Rattle.cmd_call.specs.Calls.{call_of, Unknown, Version, IfFilter, IfStandIn, IfConfigure, IfStatus, IfRecheck, IfWhy, IfHelp, IfLint, HasNoRun, HasNoInput, HasNoOutput};
 ghost use Rattle.cmd_call.specs.Errors.{AreTold};
-ghost use Rattle.cmd_lint.specs.Status.{IsStatus, is_unknown};
+ghost use Rattle.cmd_call.specs.Lines.{AreSaid, IsTold, error_line};
+ghost use Rattle.cmd_status.specs.Reasons.{SaysOf};
+ghost use Rattle.cmd_status.specs.Unmade.{SaysUnmade};
+ghost use Rattle.runner.specs.Refusals.{IsUsageTold, TellsWhy};
+ghost use Rattle.cmd_lint.specs.Refusals.{AreSaidOf};
+ghost use Rattle.cmd_lint.specs.Status.{IsStatus, is_unknown, named_by};
 ghost use Rattle.cmd_port.specs.Asked.{request_of};
 ghost use Rattle.cmd_port.specs.Printed.{IsAnswer};
-ghost use Rattle.runner.specs.Filters.{FiltersSo};
+ghost use Rattle.cmd_port.specs.Refusals.{IsSaid, Says};
+ghost use Rattle.runner.specs.Filters.{FilterSays, FiltersSo};
 ghost use Rattle.runner.specs.Ports.{IfPort};
 ghost use Rattle.runner.specs.Puts.{HasNoPuts};
 ghost use Rattle.cmd_standin.specs.Standin.{IsAnswered};
+ghost use Rattle.cmd_why.specs.Refusals as unprinted;
+ghost use Rattle.cmd_why.specs.Refusals.{Tells};
 ghost use Rattle.cmd_why.specs.Why.{IsWhy};
 
 use crate::inputs::run_filter;
-use cmd_call::{FAULT, ProgramCall, Terminal, call_of, tell_usage};
+use cmd_call::{FAULT, Heard, Hears, ProgramCall, Terminal, call_of, tell_usage};
 use cmd_configure::{run_configure, run_recheck};
 use cmd_explain::{asks_why, explain_help, explain_usage};
 use cmd_help::{run_help, run_version};
@@ -43,8 +51,11 @@ use text_controls::Shown;
 
 /// Reports that the words are no command, and says more of it if it is asked. Returns the exit
 /// status.
-fn tell_unknown<E: Write>(alloc: Global, is_asked: bool, words: &[Bytes], errors: &mut E) -> u8
-    ensures { result ≡ 2 }
+#[tactic(auto, using(cmd_call::proofs::Lines::told_unasked))]
+fn tell_unknown<E: Hears>(alloc: Global, is_asked: bool, words: &[Bytes], errors: &mut E) -> u8
+    ensures status { result ≡ 2 }
+    ensures told { is_asked ≡ false
+        → IsUsageTold E.contents E.has_failed errors.old errors.new }
 {
     let _ = tell_usage(errors);
     explain_usage(alloc, is_asked, words, errors);
@@ -53,7 +64,7 @@ fn tell_unknown<E: Write>(alloc: Global, is_asked: bool, words: &[Bytes], errors
 
 /// Runs the command that the words name, if it is one that explains something, and returns its exit
 /// status. Any other words are reported as no command.
-fn explain<D: Disk, R: Read, W: Write, E: Write>(
+fn explain<D: Disk, R: Read, W: Write, E: Hears>(
     terminal: &mut Terminal<'_, D, R, W, E>,
     words: &[Bytes],
     has_colours: bool,
@@ -91,6 +102,22 @@ fn explain<D: Disk, R: Read, W: Write, E: Write>(
     ensures input { HasNoInput (call_of words.now) → terminal.new.input ≡ terminal.old.input }
     ensures output { HasNoOutput (call_of words.now) → terminal.new.output ≡ terminal.old.output }
     ensures files { terminal.new.outputs ≡ terminal.old.outputs }
+    ensures refused { terminal.old.is_asked ≡ false → result ≡ 2
+        → TellsWhy E.contents E.has_failed terminal.old.errors terminal.new.errors
+        (call_of words.now) }
+    ensures why_refused { IfWhy (call_of words.now) (λ asked.
+        result ≡ 2
+        → Tells E.contents E.has_failed terminal.old.errors terminal.new.errors (
+        unprinted.IsSaid (D.known terminal.old.outputs.disk) asked)) }
+    ensures lint_refused { IfLint (call_of words.now) (λ asked.
+        list_any is_unknown asked ≡ false
+        → (lines : List (List ℕ)) × AreSaidOf (named_by asked) lines
+        × (result ≡ 2 → lines ≢ [])
+        × AreSaid E.contents E.has_failed terminal.old.errors terminal.new.errors lines) }
+    ensures port_refused { IfPort (call_of words.now) (λ asked.
+        result ≡ 2
+        → Says E.contents E.has_failed terminal.old.errors terminal.new.errors (
+        IsSaid (D.known terminal.old.outputs.disk) (request_of asked))) }
 {
     let alloc = terminal.alloc;
     let disk = terminal.outputs.disk();
@@ -120,7 +147,7 @@ fn explain<D: Disk, R: Read, W: Write, E: Write>(
 }
 
 /// Runs the configure.ac that the arguments name, and returns the exit status of what happened.
-fn configure<D: Disk, C: Crew + Causes, R: Read, W: Write, E: Write>(
+fn configure<D: Disk, C: Crew + Causes, R: Read, W: Write, E: Hears>(
     terminal: &mut Terminal<'_, D, R, W, E>,
     window: usize,
     args: &[Bytes],
@@ -137,10 +164,12 @@ fn configure<D: Disk, C: Crew + Causes, R: Read, W: Write, E: Write>(
         IsConfigured window args.now terminal.old.env.now (C.account crew.old)
         (C.account crew.new) (D.known terminal.old.outputs.disk)
         (D.known terminal.new.outputs.disk) out said result) }
-    ensures ended { Exits result (
+    ensures ended { Exits result (λ happened.
+        SaysOf E.contents E.has_failed terminal.old.errors terminal.new.errors
+        (terminal.old.is_asked ≡ false) (
         HasHappened window args.now terminal.old.env.now (C.account crew.old)
         (C.account crew.new) (D.known terminal.old.outputs.disk)
-        (D.known terminal.new.outputs.disk))
+        (D.known terminal.new.outputs.disk) happened))
         (Prints terminal.old.is_asked (W.contents terminal.old.output)
         (W.contents terminal.new.output) (E.contents terminal.old.errors)
         (E.contents terminal.new.errors) (λ out said.
@@ -155,7 +184,7 @@ fn configure<D: Disk, C: Crew + Causes, R: Read, W: Write, E: Write>(
 
 /// Runs a configure.ac again with the arguments of its record, and returns the exit status of what
 /// happened.
-fn recheck<D: Disk, C: Crew + Causes, R: Read, W: Write, E: Write>(
+fn recheck<D: Disk, C: Crew + Causes, R: Read, W: Write, E: Hears>(
     terminal: &mut Terminal<'_, D, R, W, E>,
     crew: &mut C,
 ) -> u8
@@ -169,9 +198,11 @@ fn recheck<D: Disk, C: Crew + Causes, R: Read, W: Write, E: Write>(
         IsRechecked terminal.old.env.now (C.account crew.old) (C.account crew.new)
         (D.known terminal.old.outputs.disk) (D.known terminal.new.outputs.disk) out said
         result) }
-    ensures ended { Exits result (
+    ensures ended { Exits result (λ happened.
+        SaysOf E.contents E.has_failed terminal.old.errors terminal.new.errors
+        (terminal.old.is_asked ≡ false) (
         HasHappenedAgain terminal.old.env.now (C.account crew.old) (C.account crew.new)
-        (D.known terminal.old.outputs.disk) (D.known terminal.new.outputs.disk))
+        (D.known terminal.old.outputs.disk) (D.known terminal.new.outputs.disk) happened))
         (Prints terminal.old.is_asked (W.contents terminal.old.output)
         (W.contents terminal.new.output) (E.contents terminal.old.errors)
         (E.contents terminal.new.errors) (λ out said.
@@ -198,7 +229,7 @@ fn recheck<D: Disk, C: Crew + Causes, R: Read, W: Write, E: Write>(
 /// Each error is reported as one line on standard error. If that can't be written, only the status
 /// reports it. If the terminal's `is_asked` is true, further lines may follow such a line, which
 /// say why; otherwise none do.
-pub fn run<F: Files, D: Disk, C: Crew + Causes, R: Read, W: Write, E: Write>(
+pub fn run<F: Files, D: Disk, C: Crew + Causes, R: Read, W: Write, E: Hears>(
     terminal: &mut Terminal<'_, D, R, W, E>,
     files: &F,
     words: &[Bytes],
@@ -251,13 +282,17 @@ pub fn run<F: Files, D: Disk, C: Crew + Causes, R: Read, W: Write, E: Write>(
     // source can't be read, it or what it is given has a fault, memory ran out before the run, or a
     // text was shown: then no child was started, and nothing was done to files. Or memory ran out in
     // the run, and nothing was done to files. Or the run was made, and what it handed over before a
-    // put was refused is written, and nothing else. Unless something couldn't be written, also the
-    // rest of what is said above holds, with this status.
+    // put was refused is written, and nothing else. If it isn't asked why, standard error gets the
+    // line of the fault, or the messages of the run and a line for all that couldn't be written, and
+    // nothing else. Unless something couldn't be written, also the rest of what is said above holds,
+    // with this status.
     ensures ended { IfConfigure (call_of words.now) (λ window args.
-        Exits result (
+        Exits result (λ happened.
+        SaysOf E.contents E.has_failed terminal.old.errors terminal.new.errors
+        (terminal.old.is_asked ≡ false) (
         HasHappened window args terminal.old.env.now (C.account crew.old)
         (C.account crew.new) (D.known terminal.old.outputs.disk)
-        (D.known terminal.new.outputs.disk))
+        (D.known terminal.new.outputs.disk) happened))
         (Prints terminal.old.is_asked (W.contents terminal.old.output)
         (W.contents terminal.new.output) (E.contents terminal.old.errors)
         (E.contents terminal.new.errors) (λ out said.
@@ -290,9 +325,11 @@ pub fn run<F: Files, D: Disk, C: Crew + Causes, R: Read, W: Write, E: Write>(
     // Whatever its status is, one of the same cases holds of it, or the record can't be read or run
     // again, and nothing was done.
     ensures ended_again { IfRecheck (call_of words.now) (
-        Exits result (
+        Exits result (λ happened.
+        SaysOf E.contents E.has_failed terminal.old.errors terminal.new.errors
+        (terminal.old.is_asked ≡ false) (
         HasHappenedAgain terminal.old.env.now (C.account crew.old) (C.account crew.new)
-        (D.known terminal.old.outputs.disk) (D.known terminal.new.outputs.disk))
+        (D.known terminal.old.outputs.disk) (D.known terminal.new.outputs.disk) happened))
         (Prints terminal.old.is_asked (W.contents terminal.old.output)
         (W.contents terminal.new.output) (E.contents terminal.old.errors)
         (E.contents terminal.new.errors) (λ out said.
@@ -344,6 +381,37 @@ pub fn run<F: Files, D: Disk, C: Crew + Causes, R: Read, W: Write, E: Write>(
     ensures input { HasNoInput (call_of words.now) → terminal.new.input ≡ terminal.old.input }
     ensures output { HasNoOutput (call_of words.now) → terminal.new.output ≡ terminal.old.output }
     ensures files { HasNoPuts (call_of words.now) → terminal.new.outputs ≡ terminal.old.outputs }
+    // If it isn't asked why, a refusal is told, unless standard error failed: what refuses is one of
+    // these, and standard error has its line, and nothing more.
+    ensures refused { terminal.old.is_asked ≡ false → result ≡ 2
+        → TellsWhy E.contents E.has_failed terminal.old.errors terminal.new.errors
+        (call_of words.now) }
+    ensures why_refused { IfWhy (call_of words.now) (λ asked.
+        result ≡ 2
+        → Tells E.contents E.has_failed terminal.old.errors terminal.new.errors (
+        unprinted.IsSaid (D.known terminal.old.outputs.disk) asked)) }
+    ensures lint_refused { IfLint (call_of words.now) (λ asked.
+        list_any is_unknown asked ≡ false
+        → (lines : List (List ℕ)) × AreSaidOf (named_by asked) lines
+        × (result ≡ 2 → lines ≢ [])
+        × AreSaid E.contents E.has_failed terminal.old.errors terminal.new.errors lines) }
+    ensures port_refused { IfPort (call_of words.now) (λ asked.
+        result ≡ 2
+        → Says E.contents E.has_failed terminal.old.errors terminal.new.errors (
+        IsSaid (D.known terminal.old.outputs.disk) (request_of asked))) }
+    ensures filter_refused { IfFilter (call_of words.now) (
+        terminal.old.is_asked ≡ false → result ≡ 2
+        → FilterSays E.contents E.has_failed terminal.old.errors terminal.new.errors
+        (R.remaining terminal.old.input) result) }
+    ensures standin_refused { IfStandIn (call_of words.now) (λ others.
+        result ≡ 2
+        → IsTold E.contents E.has_failed terminal.old.errors terminal.new.errors
+        (error_line (codes "memory") [])) }
+    ensures status_refused { IfStatus (call_of words.now) (λ tags.
+        terminal.old.is_asked ≡ false → result ≡ 2
+        → (lines : List (List ℕ))
+        × SaysUnmade (D.known terminal.old.outputs.disk) tags lines
+        × AreSaid E.contents E.has_failed terminal.old.errors terminal.new.errors lines) }
     // No child is left in flight.
     ensures idle { IsIdle (C.account crew.new).events }
 {
@@ -441,8 +509,10 @@ pub fn command<C: Crew + Causes + Children>(
         × IsConfigured window args env.now (C.account crew.old) (C.account crew.new) None
         None out said result) }
     ensures ended { IfConfigure (call_of words.now) (λ window args.
-        Exits result (
-        HasHappened window args env.now (C.account crew.old) (C.account crew.new) None None)
+        Exits result (λ happened.
+        (said : List (List ℕ))
+        × HasHappened window args env.now (C.account crew.old) (C.account crew.new) None None
+        happened said)
         ((out : List ℕ) × (said : List (List ℕ))
         × IsConfigured window args env.now (C.account crew.old) (C.account crew.new) None
         None out said result)) }
@@ -454,8 +524,10 @@ pub fn command<C: Crew + Causes + Children>(
         × IsRechecked env.now (C.account crew.old) (C.account crew.new) None None out said
         result) }
     ensures ended_again { IfRecheck (call_of words.now) (
-        Exits result (
-        HasHappenedAgain env.now (C.account crew.old) (C.account crew.new) None None)
+        Exits result (λ happened.
+        (said : List (List ℕ))
+        × HasHappenedAgain env.now (C.account crew.old) (C.account crew.new) None None happened
+        said)
         ((out : List ℕ) × (said : List (List ℕ))
         × IsRechecked env.now (C.account crew.old) (C.account crew.new) None None out said
         result)) }
@@ -486,7 +558,7 @@ pub fn command<C: Crew + Causes + Children>(
         outputs: FileOutputs::new(alloc, Host::new(&rt)),
         input: rt.reader(),
         output: Counted::new(Shown::new(io::writer(&rt), is_shown)),
-        errors: Shown::new(rt.stderr(), is_seen),
+        errors: Heard::new(Shown::new(rt.stderr(), is_seen)),
     };
     let status = run(&mut terminal, &rt, words, crew, is_terminal);
     let is_summed = is_seen && asks_run(words);

@@ -9,7 +9,7 @@ use crew_tally::Children;
 use deftable::Bytes;
 use file_disk::Host;
 use file_texts::FileOutputs;
-use runner::{Terminal, asks_why, command, run};
+use runner::{Heard, Terminal, asks_why, command, run};
 use std::fs::File;
 use std::io::{Read, Write};
 use test_rows::Page;
@@ -68,7 +68,7 @@ pub fn status_over<C: Crew + Causes, R: Read, W: Write, E: Write>(
         outputs: FileOutputs::new(rt.alloc(), Host::new(rt)),
         input,
         output,
-        errors,
+        errors: Heard::new(errors),
     };
     run(&mut terminal, rt, words, crew, false)
 }

@@ -5,7 +5,7 @@ ghost use Rattle.proberun.specs.Ran.{MayRun};
 
 use crate::done::Placed;
 use crate::memory::{MemoryDisk, copied};
-use cmd_call::Terminal;
+use cmd_call::{Heard, Terminal};
 use cmd_configure::run_configure;
 use cmd_status::{exit_status, run_status};
 use crew::{Crew, MemoryCrew, Order};
@@ -96,6 +96,7 @@ fn configure_over<D: Disk, C: Crew + Causes>(
     requires may_run { MayRun (C.account crew.old) }
 {
     let alloc = page.alloc();
+    let mut errors = Vec::new(alloc);
     let mut terminal = Terminal {
         alloc,
         is_asked: false,
@@ -103,15 +104,10 @@ fn configure_over<D: Disk, C: Crew + Causes>(
         outputs: FileOutputs::new(alloc, disk),
         input: b"".as_slice(),
         output: Vec::new(alloc),
-        errors: Vec::new(alloc),
+        errors: Heard::new(&mut errors),
     };
     let status = exit_status(&run_configure(&mut terminal, 1, words, crew));
-    put_told(
-        page,
-        status,
-        terminal.output.as_slice(),
-        terminal.errors.as_slice(),
-    );
+    put_told(page, status, terminal.output.as_slice(), errors.as_slice());
     terminal.outputs
 }
 
@@ -120,6 +116,7 @@ fn status_over<D: Disk>(page: &mut Page, disk: D, tags: &[Bytes]) -> FileOutputs
     requires { IfSome (D.known disk) (λ k. k.deeds ≡ []) }
 {
     let alloc = page.alloc();
+    let mut errors = Vec::new(alloc);
     let mut terminal = Terminal {
         alloc,
         is_asked: false,
@@ -127,15 +124,10 @@ fn status_over<D: Disk>(page: &mut Page, disk: D, tags: &[Bytes]) -> FileOutputs
         outputs: FileOutputs::new(alloc, disk),
         input: b"".as_slice(),
         output: Vec::new(alloc),
-        errors: Vec::new(alloc),
+        errors: Heard::new(&mut errors),
     };
     let status = run_status(&mut terminal, tags);
-    put_told(
-        page,
-        status,
-        terminal.output.as_slice(),
-        terminal.errors.as_slice(),
-    );
+    put_told(page, status, terminal.output.as_slice(), errors.as_slice());
     terminal.outputs
 }
 

@@ -3,7 +3,7 @@
 
 ghost use Rattle.std.specs.Prelude.{◌≤◌, length};
 
-use cmd_call::{print_all, write_errors};
+use cmd_call::{Heard, print_all, write_errors};
 use crew_tally::Counted;
 use deftable::{Bytes, Note, Notes, Stream};
 use std::cell::RefCell;
@@ -116,7 +116,7 @@ fn notes_of(page: &mut Page, text: &[u8]) -> Notes {
 }
 
 /// Prints pieces and the lines after them, without either on standard output if it is quiet.
-fn put_printed(page: &mut Page, output: &mut Side<'_>, errors: &mut Side<'_>, words: &[u8]) {
+fn put_printed(page: &mut Page, output: &mut Side<'_>, errors: &mut Heard<Side<'_>>, words: &[u8]) {
     let (pieces, rest) = cut(words, b"|");
     let (lines, quiet) = cut(rest, b"|");
     let notes = notes_of(page, pieces);
@@ -161,12 +161,12 @@ fn put_call<'a>(
     page: &mut Page,
     verb: &[u8],
     mut output: Side<'a>,
-    mut errors: Side<'a>,
+    errors: Side<'a>,
     words: &[u8],
 ) {
     match verb {
-        b"print" => put_printed(page, &mut output, &mut errors, words),
-        b"tell" => write_errors(words, &mut errors),
+        b"print" => put_printed(page, &mut output, &mut Heard::new(errors), words),
+        b"tell" => write_errors(words, &mut Heard::new(errors)),
         b"shown" => put_texts(page, &mut Shown::new(output, true), false, words),
         b"shown once" => put_texts(page, &mut Shown::new(output, true), true, words),
         b"plain" => put_texts(page, &mut Shown::new(output, false), false, words),

@@ -1,5 +1,6 @@
 //! The command, over a log in a file.
 
+use cmd_call::Heard;
 use cmd_why::run_why;
 use deftable::Bytes;
 use file_disk::Host;
@@ -130,7 +131,13 @@ fn put_answer(page: &mut Page, rt: &HostRuntime, words: &[Bytes]) {
     let mut output = Vec::new(page.alloc());
     let mut errors = Vec::new(page.alloc());
     let disk = Host::new(rt);
-    let status = run_why(page.alloc(), &disk, words, &mut output, &mut errors);
+    let status = run_why(
+        page.alloc(),
+        &disk,
+        words,
+        &mut output,
+        &mut Heard::new(&mut errors),
+    );
     page.put_number(usize::from(status));
     page.put_text(output.as_slice());
     page.put_text(errors.as_slice());

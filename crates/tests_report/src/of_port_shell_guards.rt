@@ -56,6 +56,13 @@ set -e^Jtest a && x=1 => the same
 set  -o errexit^Jtest a && x=1 => the same
 set \^J  -e^Jtest a && x=1 => the same
 AC_MSG_NOTICE([set it])^Jtest a && x=1 => AC_MSG_NOTICE([set it])^JAS_IF([test a], [x=1])
+AC_CHECK_FUNCS([memset^J  memcpy])^Jtest a && x=1 => AC_CHECK_FUNCS([memset^J  memcpy])^JAS_IF([test a], [x=1])
+x_set=" -a"^Jtest a && x=1 => x_set=" -a"^JAS_IF([test a], [x=1])
+x="a_set -a Set  b"^Jtest a && x=1 => x="a_set -a Set  b"^JAS_IF([test a], [x=1])
+if :; then set -e; fi^Jtest a && x=1 => the same
+$1set -e^Jtest a && x=1 => the same
+(set -e)^Jtest a && x=1 => the same
+;set -e^Jtest a && x=1 => the same
 // other statements
 test a && x=1 && y=2 => the same
 test a && x=1 || y=2 => the same

@@ -1,4 +1,5 @@
-use Rattle.std.proofs.Common.{take, ◌≤◌, OnOk}
+use Rattle.std.proofs.Common.{take, ◌≤◌, ◌≡◌, false, OnOk}
+use Rattle.std.specs.List.{concat}
 use Rattle.std.specs.Io.KnownBytes.{Appends}
 use Rattle.cfglog.specs.Texts.{messages_of}
 use Rattle.deftable.specs.declared.note.Stream.TheVariants as streams
@@ -10,4 +11,6 @@ invariant-notes g l = record {
   before : l.start ≤ l.i;
   written : OnOk l.done (Appends (g.W.Write.contents l.fn.output) (g.W.Write.contents l.output) (messages_of streams.Out l.fn.quiet (take l.start l.fn.notes)));
   told : AreTold (g.E.Write.contents l.fn.errors) (g.E.Write.contents l.errors) (errors_of (take l.i l.fn.notes));
+  whole : g.E.Hears.has_failed l.errors ≡ false → Appends (g.E.Write.contents l.fn.errors) (g.E.Write.contents l.errors) (concat (errors_of (take l.i l.fn.notes)));
+  kept : g.E.Hears.has_failed l.errors ≡ false → g.E.Hears.has_failed l.fn.errors ≡ false;
 }

@@ -1,7 +1,8 @@
-use Rattle.std.proofs.Common.{refl, subst, sym}
+use Rattle.std.proofs.Common.{refl, subst, sym, ◌∙◌}
 use Rattle.engine_frame.specs.Rechecked.{HasArguments}
 use Rattle.cmd_configure.specs.Ended.{ran_again}
 use Rattle.cmd_configure.proofs.Cases.{has_bad_record, never_done_again}
+use Rattle.cmd_call.proofs.Lines.{said_line}
 use Rattle.cmd_configure.proofs.rechecking.run_again.Goals as goal
 
 pub returns-in-Ok-clause-run : goal.returns-in-Ok-clause-run
@@ -22,12 +23,19 @@ returns-in-Ok-clause-run g c = λ other.
 
 pub returns-in-Ok-clause-ended : goal.returns-in-Ok-clause-ended
 returns-in-Ok-clause-ended g c =
-    ran_again c.args.text.now c.as_slice-args.result.now c.requires.found
-    (subst (λ a. HasArguments c.args.text.now a) (sym c.as_slice-args.ensures) c.in-Ok.ensures.sound) c.run_configure-happened.ensures.ended
+    let made = c.run_configure-happened.ensures.ended in (
+      made.0,
+      ran_again c.args.text.now c.as_slice-args.result.now c.requires.found
+          (subst (λ a. HasArguments c.args.text.now a) (sym c.as_slice-args.ensures) c.in-Ok.ensures.sound) made.1,
+      made.2,
+    )
 
 pub returns-in-Err-clause-run : goal.returns-in-Err-clause-run
-returns-in-Err-clause-run g c = never_done_again c.in-Err.fault c.no_record.result _ c.no_record.ensures
+returns-in-Err-clause-run g c = never_done_again c.in-Err.fault c.no_record.result _ c.no_record.ensures.happened
 
 pub returns-in-Err-clause-ended : goal.returns-in-Err-clause-ended
-returns-in-Err-clause-ended g c =
-    has_bad_record c.in-Err.fault c.args.terminal.now.env.now _ _ _ _ c.args.text.now c.no_record.result c.requires.found c.in-Err.ensures.exact c.no_record.ensures refl refl
+returns-in-Err-clause-ended g c = (
+  _,
+  has_bad_record c.in-Err.fault c.args.terminal.now.env.now _ _ _ _ c.args.text.now c.no_record.result c.requires.found c.in-Err.ensures.exact c.no_record.ensures.happened refl refl,
+  λ unasked. said_line g.E.Write.contents g.E.Hears.has_failed _ _ _ (c.no_record.ensures.told (c.why_of-why.ensures ∙ unasked)),
+)

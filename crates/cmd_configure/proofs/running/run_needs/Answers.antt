@@ -1,9 +1,14 @@
-use Rattle.std.proofs.Common.{refl, subst, sym}
+use Rattle.std.proofs.Common.{[], ◌∷◌, refl, subst, sym}
 use Rattle.engine_frame.specs.Needed.{script_in}
+use Rattle.cmd_call.proofs.Lines.{said_line}
+use Rattle.cmd_status.specs.Reasons.{memory_line}
 use Rattle.cmd_configure.specs.Ended.{IsRunEnd, unstarted}
 use Rattle.cmd_configure.proofs.running.run_needs.Goals as goal
 
 pub returns-in-Err-clause-ended : goal.returns-in-Err-clause-ended
 returns-in-Err-clause-ended g c =
-    let n = c.args.needs.now in
-    subst (IsRunEnd c.args.window n.arguments (script_in n) n.settings _ _ _ _) (sym c.no_memory.ensures) (unstarted refl refl)
+    let n = c.args.needs.now in (
+      _,
+      subst (λ h. IsRunEnd c.args.window n.arguments (script_in n) n.settings _ _ _ _ h (memory_line ∷ [])) (sym c.no_memory.ensures.happened) (unstarted refl refl),
+      λ unasked. said_line g.E.Write.contents g.E.Hears.has_failed _ _ _ c.no_memory.ensures.told,
+    )

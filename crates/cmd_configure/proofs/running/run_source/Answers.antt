@@ -4,7 +4,8 @@ use Rattle.cmd_status.specs.Printed.{printed}
 use Rattle.cmd_call.specs.Errors.{errors_of}
 use Rattle.ac_tree.specs.Script.{script_of}
 use Rattle.cmd_configure.proofs.Cases.{has_bad_arguments, has_run, has_shown, never_done, zero_if}
-use Rattle.cmd_configure.proofs.Done.{is_read, is_run, is_shown}
+use Rattle.cmd_configure.proofs.Done.{is_read, is_run, is_shown, shown_said}
+use Rattle.cmd_call.proofs.Lines.{said_line}
 use Rattle.cmd_configure.proofs.running.run_source.Goals as goal
 
 pub run_needs-requires-clause-source : goal.run_needs-requires-clause-source
@@ -25,10 +26,14 @@ returns-in-Ok-Shows-clause-run g c = λ printed_it.
     )
 
 pub returns-in-Ok-Shows-clause-ended : goal.returns-in-Ok-Shows-clause-ended
-returns-in-Ok-Shows-clause-ended g c =
-    has_shown c.args.window c.args.why.now.args.now c.args.terminal.now.env.now (g.C.Crew.account c.args.crew.now) (g.D.Disk.known c.args.terminal.now.outputs.disk) (g.D.Disk.known c.print_shown-is_printed.new.terminal.outputs.disk)
-    c.args.why.now.text.now (script_of c.args.source.now) _ c.in-Ok-Shows.report c.print_shown-is_printed.result
-    c.requires.found c.requires.source c.in-Ok-Shows.ensures.exact c.in-Ok-Shows.field-0-is (ap (λ o. g.D.Disk.known o.disk) c.print_shown-is_printed.ensures.outputs)
+returns-in-Ok-Shows-clause-ended g c = (
+  _,
+  has_shown c.args.window c.args.why.now.args.now c.args.terminal.now.env.now (g.C.Crew.account c.args.crew.now) (g.D.Disk.known c.args.terminal.now.outputs.disk) (g.D.Disk.known c.print_shown-is_printed.new.terminal.outputs.disk)
+      c.args.why.now.text.now (script_of c.args.source.now) _ c.in-Ok-Shows.report c.print_shown-is_printed.result
+      c.requires.found c.requires.source c.in-Ok-Shows.ensures.exact c.in-Ok-Shows.field-0-is (ap (λ o. g.D.Disk.known o.disk) c.print_shown-is_printed.ensures.outputs),
+  λ unasked. shown_said g.E.Write.contents g.E.Hears.has_failed _ _ c.args.why.now.args.now c.args.terminal.now.env.now (script_of c.args.source.now) _ c.in-Ok-Shows.report _
+      c.in-Ok-Shows.ensures.exact c.in-Ok-Shows.field-0-is (c.print_shown-is_printed.ensures.said unasked.1),
+)
 
 pub returns-in-Ok-Runs-clause-run : goal.returns-in-Ok-Runs-clause-run
 returns-in-Ok-Runs-clause-run g c = λ other.
@@ -45,15 +50,22 @@ returns-in-Ok-Runs-clause-run g c = λ other.
 
 pub returns-in-Ok-Runs-clause-ended : goal.returns-in-Ok-Runs-clause-ended
 returns-in-Ok-Runs-clause-ended g c =
-    has_run c.args.window c.args.why.now.args.now c.args.terminal.now.env.now (g.C.Crew.account c.args.crew.now) (g.C.Crew.account c.run_needs.new.crew)
-    (g.D.Disk.known c.args.terminal.now.outputs.disk) (g.D.Disk.known c.run_needs.new.terminal.outputs.disk)
-    c.args.why.now.text.now (script_of c.args.source.now) _ c.in-Ok-Runs.needs c.run_needs.result
-    c.requires.found c.requires.source c.in-Ok-Runs.ensures.exact c.in-Ok-Runs.field-0-is c.in-Ok-Runs.ensures.directory c.run_needs.ensures.ended
+    let made = c.run_needs.ensures.ended in (
+      made.0,
+      has_run c.args.window c.args.why.now.args.now c.args.terminal.now.env.now (g.C.Crew.account c.args.crew.now) (g.C.Crew.account c.run_needs.new.crew)
+          (g.D.Disk.known c.args.terminal.now.outputs.disk) (g.D.Disk.known c.run_needs.new.terminal.outputs.disk)
+          c.args.why.now.text.now (script_of c.args.source.now) _ c.in-Ok-Runs.needs c.run_needs.result made.0
+          c.requires.found c.requires.source c.in-Ok-Runs.ensures.exact c.in-Ok-Runs.field-0-is c.in-Ok-Runs.ensures.directory made.1,
+      made.2,
+    )
 
 pub returns-in-Err-clause-run : goal.returns-in-Err-clause-run
-returns-in-Err-clause-run g c = never_done c.in-Err.fault c.tell_run.result _ c.tell_run.ensures
+returns-in-Err-clause-run g c = never_done c.in-Err.fault c.tell_run.result _ c.tell_run.ensures.happened
 
 pub returns-in-Err-clause-ended : goal.returns-in-Err-clause-ended
-returns-in-Err-clause-ended g c =
-    has_bad_arguments c.in-Err.fault c.args.window c.args.why.now.args.now c.args.terminal.now.env.now _ _ _ _ c.args.why.now.text.now (script_of c.args.source.now) c.tell_run.result
-    c.requires.found c.requires.source c.in-Err.ensures.exact c.tell_run.ensures refl refl
+returns-in-Err-clause-ended g c = (
+  _,
+  has_bad_arguments c.in-Err.fault c.args.window c.args.why.now.args.now c.args.terminal.now.env.now _ _ _ _ c.args.why.now.text.now (script_of c.args.source.now) c.tell_run.result
+      c.requires.found c.requires.source c.in-Err.ensures.exact c.tell_run.ensures.happened refl refl,
+  λ unasked. said_line g.E.Write.contents g.E.Hears.has_failed _ _ _ (c.tell_run.ensures.told unasked.0),
+)

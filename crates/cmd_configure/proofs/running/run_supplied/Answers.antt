@@ -1,4 +1,4 @@
-use Rattle.std.proofs.Common.{◌≡◌, ◌∙◌, ap, refl, sym, subst}
+use Rattle.std.proofs.Common.{◌≡◌, ◌∙◌, [], ◌∷◌, ap, refl, sym, subst}
 use Rattle.file_texts.proofs.Unused.{fresh_unused, more_unused}
 use Rattle.std.specs.Option.{option_copied}
 use Rattle.cmd_status.specs.Happened.{status_after}
@@ -7,7 +7,10 @@ use Rattle.engine_frame.specs.Given.{started}
 use Rattle.engine_frame.specs.Needed.{script_in}
 use Rattle.cmd_call.specs.Errors.{errors_of}
 use Rattle.cmd_call.specs.Guarded.{AreGuarded, inputs_of}
+use Rattle.cmd_call.specs.Precious.{precious_in}
 use Rattle.cmd_call.specs.Supplies.{AreGiven}
+use Rattle.cmd_call.proofs.Lines.{said_line}
+use Rattle.cmd_status.specs.Reasons.{memory_line}
 use Rattle.cmd_configure.specs.Ended.{IsRunEnd, unstarted}
 use Rattle.cmd_configure.proofs.Done.{run_done}
 use Rattle.cmd_configure.proofs.Ends.{IsGone, run_ended}
@@ -18,9 +21,12 @@ returns-in_default-clause-ended g c =
     let n = c.args.needs.now in
     let account = g.C.Crew.account c.args.crew.now in
     let old = g.D.Disk.known c.args.terminal.now.outputs.disk in
-    let new = g.D.Disk.known c.keep_inputs.new.outputs.disk in
-    subst (IsRunEnd c.args.window n.arguments (script_in n) n.settings account account old new) (sym c.no_memory.ensures)
-    (unstarted refl (ap (λ o. g.D.Disk.known o.disk) c.keep_inputs.ensures.more.1))
+    let new = g.D.Disk.known c.keep_inputs.new.outputs.disk in (
+      _,
+      subst (λ h. IsRunEnd c.args.window n.arguments (script_in n) n.settings account account old new h (memory_line ∷ [])) (sym c.no_memory.ensures.happened)
+          (unstarted refl (ap (λ o. g.D.Disk.known o.disk) c.keep_inputs.ensures.more.1)),
+      λ unasked. said_line g.E.Write.contents g.E.Hears.has_failed _ _ _ c.no_memory.ensures.told,
+    )
 
 pub returns-clause-ended : goal.returns-clause-ended
 returns-clause-ended g c =
@@ -41,6 +47,7 @@ returns-clause-ended g c =
       disk = ap (λ o. o.disk) c.keep_inputs.ensures.more.1;
       guarded = guarded;
       same_guards = ap (λ l. l.guards) answer.ensures.lasting;
+      same_closed = ap (λ l. l.closed) answer.ensures.lasting;
       same_files = ap (λ l. l.files) answer.ensures.lasting;
       given = given;
       is = refl;
@@ -53,7 +60,12 @@ returns-clause-ended g c =
       begun = answer.ensures.begun;
       memory = answer.ensures.memory;
     } in
-    run_ended g.D.Disk.known c.args.terminal.now.outputs.disk kept answer.new.outputs c.finish_run.new.terminal.outputs _ c.args.window n.arguments (script_in n) n.settings _ _ _ _ answer.result c.finish_run.result gone c.finish_run.ensures.finished
+    let finished = c.finish_run.ensures.finished in (
+      finished.0,
+      run_ended g.D.Disk.known c.args.terminal.now.outputs.disk kept answer.new.outputs c.finish_run.new.terminal.outputs _ c.args.window n.arguments (script_in n) n.settings _ _ _ _ _ answer.result c.finish_run.result finished.0 gone
+          (ap precious_in c.given_of-given.ensures.source) finished.1,
+      finished.2,
+    )
 
 pub returns-clause-run : goal.returns-clause-run
 returns-clause-run g c = λ other.
@@ -73,7 +85,7 @@ returns-clause-run g c = λ other.
       run_done g.D.Disk.known c.args.terminal.now.outputs.disk c.keep_inputs.new.outputs answer.new.outputs c.finish_run.new.terminal.outputs c.args.window n.arguments (script_in n) n.settings _ _
           (g.C.Crew.account c.args.crew.now) (g.C.Crew.account answer.new.crew) answer.result told.0 c.given_of-given.result.settings.now (status_after c.finish_run.result)
           (more_unused _ _ (fresh_unused _ _ c.requires.fresh) c.keep_inputs.ensures.more) (ap (λ o. o.disk) c.keep_inputs.ensures.more.1) guarded (ap (λ l. l.guards) answer.ensures.lasting) (ap (λ l. l.files) answer.ensures.lasting) given
-          answer.ensures.accepted answer.ensures.meaning answer.ensures.artifacts answer.ensures.remakes c.given_of-given.ensures told.1 told.2 told.4,
+          answer.ensures.accepted answer.ensures.meaning answer.ensures.artifacts answer.ensures.remakes c.given_of-given.ensures.settings told.1 told.2 told.4,
       told.3,
       told.5,
     )

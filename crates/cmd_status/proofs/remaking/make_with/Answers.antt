@@ -1,9 +1,11 @@
-use Rattle.std.proofs.Common.{ap, refl, sym, subst, ◌++◌}
+use Rattle.std.proofs.Common.{ap, refl, subst}
 use Rattle.std.specs.Prelude.{codes, ◌∷◌}
 use Rattle.cmd_call.specs.Guarded.{AreGuarded, inputs_of}
 use Rattle.file_texts.proofs.Unused.{fresh_unused, more_unused}
 use Rattle.cmd_status.proofs.Remakes.{made_again}
+use Rattle.cmd_status.proofs.Unmade.{not_made, said_by, said_memory}
 use Rattle.cmd_status.proofs.remaking.make_with.Goals as goal
+use Rattle.cmd_status.proofs.remaking.make_with.Goals.{else-is_printed-via-then-is_printed+else-is_whole, else-is_printed-via-else-is_printed}
 
 pub returns-then-is_whole-clause-status : goal.returns-then-is_whole-clause-status
 returns-then-is_whole-clause-status g c = λ other.
@@ -19,3 +21,21 @@ returns-then-is_whole-clause-status g c = λ other.
           c.lines-lines.ensures.unguarded c.lines-lines.ensures.apart (ap (λ l. l.guards) c.remake_record-answer.ensures.lasting) (ap (λ l. l.files) c.remake_record-answer.ensures.lasting) (ap (λ o. o.disk) c.keep_all.ensures.more.1) guarded,
       c.print_made-is_printed.ensures.prints c.if-is_printed.true,
     )
+
+pub returns-in_default-clause-refused : goal.returns-in_default-clause-refused
+returns-in_default-clause-refused g c = λ unasked two. said_memory g.E.Write.contents g.E.Hears.has_failed _ _ _ _ c.tell_memory.ensures.told
+
+pub returns-clause-refused : goal.returns-clause-refused
+returns-clause-refused g c = λ unasked two.
+    elim c.else-is_printed.branch [
+      | else-is_printed-via-then-is_printed+else-is_whole w ↦
+          said_by g.E.Write.contents g.E.Hears.has_failed _ _ _ _ c.args.why.now.args.now c.print_made-is_printed.result c.remake_record-answer.result
+          (λ e. c.tell_answer-is_whole.ensures.unmade w.if-is_whole.false)
+          (λ f is. not_made g.D.Disk.known c.args.terminal.now.outputs.disk c.args.recorded.now _ c.args.why.now.args.now _ _ _ _ f c.requires.found c.requires.given c.remake_record-answer.ensures.remade is)
+          (c.print_made-is_printed.ensures.said unasked) (c.tell_answer-is_whole.ensures.said unasked)
+      | else-is_printed-via-else-is_printed w ↦
+          said_by g.E.Write.contents g.E.Hears.has_failed _ _ _ _ c.args.why.now.args.now c.print_made-is_printed.result c.remake_record-answer.result
+          (λ e. let no = w.if-is_printed.false in absurd (cc))
+          (λ f is. not_made g.D.Disk.known c.args.terminal.now.outputs.disk c.args.recorded.now _ c.args.why.now.args.now _ _ _ _ f c.requires.found c.requires.given c.remake_record-answer.ensures.remade is)
+          (c.print_made-is_printed.ensures.said unasked) (c.tell_answer-is_whole.ensures.said unasked)
+    ]

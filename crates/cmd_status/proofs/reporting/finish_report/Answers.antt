@@ -2,6 +2,7 @@ use Rattle.std.proofs.Common.{refl, subst, sym, ◌∙◌}
 use Rattle.cfglog.specs.Texts.{log_of}
 use Rattle.cmd_call.specs.Errors.{AreTold, errors_of}
 use Rattle.cmd_call.specs.Logged.{HasLogged, HasNoLog}
+use Rattle.cmd_call.proofs.Lines.{said_thrice}
 use Rattle.cmd_status.proofs.Happenings.{whole_parts}
 use Rattle.cmd_status.specs.declared.happened.RunLeft.{RunLeft}
 use Rattle.cmd_status.proofs.reporting.finish_report.Goals as goal
@@ -28,3 +29,7 @@ returns-clause-left g c =
       logged = λ e. subst (λ o. HasLogged g.D.Disk.known o logged.new.outputs log) told.outputs (logged.ensures.log e);
       unlogged = λ e. subst (λ o. HasNoLog g.D.Disk.known o logged.new.outputs) told.outputs (logged.ensures.no_log e);
     }
+
+pub returns-clause-said : goal.returns-clause-said
+returns-clause-said g c = λ unasked.
+    said_thrice g.E.Write.contents g.E.Hears.has_failed _ _ _ _ (errors_of c.args.report.now.messages) _ _ _ (c.print_report-is_printed.ensures.said unasked) (c.tell_refused.ensures.said unasked) (c.log_report-is_logged.ensures.said unasked)

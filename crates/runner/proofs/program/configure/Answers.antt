@@ -1,3 +1,5 @@
+use Rattle.std.proofs.Common.{◌≡◌, false}
+use Rattle.cmd_status.specs.Reasons.{SaysOf}
 use Rattle.cmd_configure.specs.Configures.{IsConfigured}
 use Rattle.cmd_configure.specs.Ended.{HasHappened, Prints}
 use Rattle.runner.proofs.Statuses.{exits_so, unless_fault}
@@ -21,5 +23,5 @@ returns-clause-ended g c =
     exits_so
     (λ n. Prints old.is_asked (g.W.Write.contents old.output) (g.W.Write.contents new.output) (g.E.Write.contents old.errors) (g.E.Write.contents new.errors) (λ out said.
     IsConfigured c.args.window c.args.args.now old.env.now (g.C.Crew.account c.args.crew.now) (g.C.Crew.account made.new.crew) (g.D.Disk.known old.outputs.disk) (g.D.Disk.known new.outputs.disk) out said n))
-    (HasHappened c.args.window c.args.args.now old.env.now (g.C.Crew.account c.args.crew.now) (g.C.Crew.account made.new.crew) (g.D.Disk.known old.outputs.disk) (g.D.Disk.known new.outputs.disk))
+    (λ happened. SaysOf g.E.Write.contents g.E.Hears.has_failed old.errors new.errors (old.is_asked ≡ false) (HasHappened c.args.window c.args.args.now old.env.now (g.C.Crew.account c.args.crew.now) (g.C.Crew.account made.new.crew) (g.D.Disk.known old.outputs.disk) (g.D.Disk.known new.outputs.disk) happened))
     c.exit_status.result made.result c.exit_status.ensures made.ensures.ended made.ensures.run

@@ -27,3 +27,12 @@ returns-in_default-clause-ended_again g c = no_recheck c.call_of.result _ _ c.in
 
 pub returns-in_default-clause-filtered : goal.returns-in_default-clause-filtered
 returns-in_default-clause-filtered g c = no_filter c.call_of.result _ _ c.in_default.not-Filter c.call_of.ensures.call
+
+pub returns-in_default-clause-filter_refused : goal.returns-in_default-clause-filter_refused
+returns-in_default-clause-filter_refused g c = no_filter c.call_of.result _ _ c.in_default.not-Filter c.call_of.ensures.call
+
+pub returns-in_default-clause-standin_refused : goal.returns-in_default-clause-standin_refused
+returns-in_default-clause-standin_refused g c = no_standin c.call_of.result _ _ c.in_default.not-StandIn c.call_of.ensures.call
+
+pub returns-in_default-clause-status_refused : goal.returns-in_default-clause-status_refused
+returns-in_default-clause-status_refused g c = no_status c.call_of.result _ _ c.in_default.not-Status c.call_of.ensures.call

@@ -2,7 +2,7 @@ use Rattle.std.proofs.Common.{arith, take, subst}
 use Rattle.std.specs.Io.KnownBytes.{Appends}
 use Rattle.std.proofs.lemmas.List.{length-drop, take_rest}
 use Rattle.cmd_call.proofs.Fronts.{front_more}
-use Rattle.cmd_call.proofs.printing.write_front.Goals as goal
+use Rattle.cmd_call.proofs.writes.write_front.Goals as goal
 
 pub writes-preserved : goal.writes-preserved
 writes-preserved g c = record {

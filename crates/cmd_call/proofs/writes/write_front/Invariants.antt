@@ -1,6 +1,6 @@
 use Rattle.std.proofs.Common.{take, length, ℕ, ◌≤◌}
 use Rattle.std.specs.Io.KnownBytes.{Appends}
-use Rattle.cmd_call.proofs.printing.write_front.Given as goal
+use Rattle.cmd_call.proofs.writes.write_front.Given as goal
 
 abbrev pub invariant-writes : goal.invariant-writes
 invariant-writes g l = record {

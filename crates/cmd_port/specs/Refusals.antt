@@ -1,0 +1,33 @@
+-- What is said on standard error of a source that is not printed. All of this is own.
+use Rattle.std.specs.Prelude.{◌≡◌, ◌⊎◌, ℕ, Bool, true, List, [], Option, Some, None, codes}
+use Rattle.cmd_call.specs.Calls.{is_input}
+use Rattle.cmd_call.specs.Lines.{IsTold, error_line}
+use Rattle.cmd_lint.specs.Status.{IsNamed}
+use Rattle.cmd_port.specs.Asked.{Request}
+use Rattle.file_disk.specs.Known.{Known}
+use Rattle.lint_errors.specs.Errors.{IsAccepted}
+
+-- The line that memory ran out, or that standard output didn't take the text.
+pub data IsLost : List ℕ → Type 0 where
+  no_memory : IsLost (error_line (codes "memory") [])
+  unwritten : IsLost (error_line (codes "file") (codes "standard output"))
+
+-- What is said of a source that has this text: the line of what was lost, or a text about its errors, if acrun doesn't accept it.
+pub data IsSaidOf (text : List ℕ) : List ℕ → Type 0 where
+  lost : {line : List ℕ} → IsLost line → IsSaidOf text line
+  wrong : (page : List ℕ) → (IsAccepted text → ⊥) → IsSaidOf text page
+
+-- What is said of the source of a name: that it can't be read, that memory ran out, or what is said of its text.
+pub data IsSaidFor (files : Option Known) (is_stream : Bool) (name : List ℕ) : List ℕ → Type 0 where
+  unread : IsSaidFor files is_stream name (error_line (codes "file") name)
+  without : {line : List ℕ} → IsLost line → IsSaidFor files is_stream name line
+  of_text : {said : List ℕ} (text directory : List ℕ) → IsNamed files is_stream name text directory → IsSaidOf text said → IsSaidFor files is_stream name said
+
+-- A text of this kind was said, or the stream has failed.
+abbrev pub Says : {E : Type 0} → (E → Option (List ℕ)) → (E → Bool) → E → E → (List ℕ → Type 0) → Type 0
+Says contents has_failed old new is_so = (has_failed new ≡ true) ⊎ ((said : List ℕ) × is_so said × IsTold contents has_failed old new said)
+
+-- What is said of wrong words is the line for them; and of a source that is asked for, what is said of its name.
+abbrev pub IsSaid : Option Known → Option Request → List ℕ → Type 0
+IsSaid files None said = said ≡ error_line (codes "usage") []
+IsSaid files (Some request) said = IsSaidFor files (is_input request.source) request.source said

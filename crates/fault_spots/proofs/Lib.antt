@@ -1,0 +1,2 @@
+mod KindDigits
+mod ToldAs
