@@ -35,7 +35,7 @@ fn is_inside(reason: &Reason) -> bool {
 
 /// Returns what is said of what is around a statement or at its words, if the reason is that.
 fn key_of(reason: &Reason) -> Option<Key> {
-    Some(match reason {
+    let key = match reason {
         Reason::InBraces => keys::IN_BRACES,
         Reason::InParentheses => keys::IN_PARENTHESES,
         Reason::InCondition => keys::IN_CONDITION,
@@ -46,11 +46,12 @@ fn key_of(reason: &Reason) -> Option<Key> {
         Reason::Followed => keys::FOLLOWED_ON_LINE,
         Reason::HasComment => keys::COMMENT_IN_CONDITION,
         _ => return None,
-    })
+    };
+    Some(key)
 }
 
 /// Writes the reason that a statement stays, which begins with this word.
-fn put_reason(page: &mut Page, word: &[u8], reason: &Reason) {
+fn put_reason<'a>(page: &mut Page, word: &'a [u8], reason: &'a Reason) {
     if put_inside(page, reason) {
         return;
     }
@@ -212,6 +213,19 @@ fn words_of_other(
     page.message()
 }
 
+/// Returns why the statement at an offset stays, if it is known.
+fn words_of_start(
+    alloc: Global,
+    text: &[u8],
+    statements: &[Staying],
+    start: usize,
+) -> Result<Option<Bytes>, AllocError> {
+    match statements.binary_search_by(|statement| statement.start.cmp(&start)) {
+        Ok(index) => words_of_index(alloc, text, statements, index),
+        Err(_) => Ok(None),
+    }
+}
+
 /// Returns why the statement at an offset stays, or what may keep it. If it isn't known, it is
 /// empty.
 fn words_at(
@@ -221,14 +235,12 @@ fn words_at(
     starts: &[usize],
     start: usize,
 ) -> Result<Bytes, AllocError> {
-    let found = match statements.binary_search_by(|statement| statement.start.cmp(&start)) {
-        Ok(index) => words_of_index(alloc, text, statements, index)?,
-        Err(_) => None,
-    };
-    let other = words_of_other(alloc, text, starts, start)?;
-    match found {
-        Some(words) if !is_test_in_brackets(text, start) => Ok(words),
-        _ => Ok(other),
+    if is_test_in_brackets(text, start) {
+        return words_of_other(alloc, text, starts, start);
+    }
+    match words_of_start(alloc, text, statements, start)? {
+        Some(words) => Ok(words),
+        None => words_of_other(alloc, text, starts, start),
     }
 }
 
