@@ -46,4 +46,5 @@ fi
 diff "$here/expected.txt" printed
 python3 "$here/../../tools/try_port.py" "$acrun" $(cat sources) > tried || { cat tried; exit 1; }
 python3 "$here/../../tools/try_port.py" "$acrun" -i $(cat sources idioms) > tried || { cat tried; exit 1; }
+sh "$here/files.sh" "$acrun"
 echo "port: $(cat sources idioms | wc -l) sources, as expected"

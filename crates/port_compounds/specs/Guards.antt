@@ -1,8 +1,8 @@
 -- A statement of a shell that a condition guards, between two offsets of a text, and its parts. (POSIX shell, 2.9.3 "AND Lists" and
 -- "OR Lists")
-use Rattle.std.specs.Prelude.{◌≡◌, ◌⊎◌, ℕ, ◌+◌, ◌-◌, ◌≤◌, ◌==◌, ◌||◌, Bool, true, false, List, [], ◌∷◌, length, slice_range, slice_index, codes}
+use Rattle.std.specs.Prelude.{◌≡◌, ◌⊎◌, ℕ, ◌+◌, ◌-◌, ◌<◌, ◌≤◌, ◌==◌, ◌||◌, Bool, true, false, List, [], ◌∷◌, length, slice_range, slice_index, codes}
 use Rattle.std.specs.List.{list_any}
-use Rattle.std.specs.Char.{is_ascii_alphabetic}
+use Rattle.std.specs.Char.{is_ascii_alphanumeric}
 use Rattle.m4quote.specs.ItemValue.{Span, ItemValue, call}
 use Rattle.m4quote.specs.Spelling.{IsSpelling}
 use Rattle.port_compounds.specs.Parts.{IsNotEscaped, IsPlainLine}
@@ -18,25 +18,25 @@ may_begin_option b = b == 45 || b == 92 || is_blank b
 abbrev pub IsBeforeOption : List ℕ → ℕ → Type 0
 IsBeforeOption text at = (is_blank (slice_index text at) ≡ true) × (may_begin_option (slice_index text (at + 1)) ≡ true)
 
--- A letter of ASCII or `_`. Before `set` it makes another word of it, as in `memset`. (own)
-abbrev pub joins_set : ℕ → Bool
-joins_set b = is_ascii_alphabetic b || b == 95
+-- A letter, a digit or `_`. (own)
+abbrev pub is_of_name : ℕ → Bool
+is_of_name b = is_ascii_alphanumeric b || b == 95
 
--- A word may begin at this offset: the text begins there, or no such byte is before it. (own)
-unfoldable pub MayBeginWord : List ℕ → ℕ → Type 0
-MayBeginWord text at = (at ≡ 0) ⊎ (joins_set (slice_index text (at - 1)) ≡ false)
+-- No such byte is right before this offset. (own)
+abbrev pub BeginsName : List ℕ → ℕ → Type 0
+BeginsName text at = (at ≡ 0) ⊎ (is_of_name (slice_index text (at - 1)) ≡ false)
 
--- At this offset is the word `set`, and an option may follow it. (POSIX shell, 2.14 "set")
+-- At this offset is `set`, and an option may follow it. With a letter before it, it is the end of another word. (POSIX shell, 2.14 "set")
 abbrev pub IsSetAt : List ℕ → ℕ → Type 0
-IsSetAt text at = (slice_range text at (at + 3) ≡ codes "set") × MayBeginWord text at × IsBeforeOption text (at + 3)
+IsSetAt text at = (slice_range text at (at + 3) ≡ codes "set") × BeginsName text at × IsBeforeOption text (at + 3)
 
 -- At this offset is `$?`, the status of a command, or a shell may be asked to end at one. (POSIX shell, 2.5.2 "Special Parameters")
-abbrev pub IsStatusAt : List ℕ → ℕ → Type 0
+unfoldable pub IsStatusAt : List ℕ → ℕ → Type 0
 IsStatusAt text at = (slice_range text at (at + 2) ≡ codes "$?") ⊎ IsSetAt text at
 
 -- The text has this at some place.
 abbrev pub ReadsStatus : List ℕ → Type 0
-ReadsStatus text = (at : ℕ) × IsStatusAt text at
+ReadsStatus text = (at : ℕ) × (at < length text) × IsStatusAt text at
 
 -- ---- the statement
 

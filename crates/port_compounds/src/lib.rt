@@ -29,5 +29,5 @@ pub use cases::case_parts;
 pub use cut::{CaseBranch, CaseCut, GuardCut, IfBranch, IfCut};
 pub use guards::guard_parts;
 pub use parts::{has_dnl, is_list_end};
-pub use places::{are_blank, are_spaces, is_word};
+pub use places::{are_blank, are_spaces, begins_statement, is_word};
 pub use status::reads_status;

@@ -97,7 +97,7 @@ fn is_list_start(text: &[u8], at: usize) -> bool
 }
 
 /// Returns whether a statement may begin at an offset, or before the spaces before it.
-pub(crate) fn begins_statement(text: &[u8], start: usize) -> bool
+pub fn begins_statement(text: &[u8], start: usize) -> bool
     ensures { IsTrue result → specs.BeginsStatement text.now start }
 {
     let from = before_spaces(text, 0, start);

@@ -30,22 +30,6 @@ fn is_set_word_at(text: &[u8], at: usize) -> bool
     rest.len() >= 3 && &rest[..3] == b"set".as_slice()
 }
 
-/// Returns whether the byte before `set` makes another word of it.
-fn joins_set(byte: u8) -> bool
-    ensures { result ≡ specs.joins_set byte }
-{
-    byte.is_ascii_alphabetic() || byte == b'_'
-}
-
-/// Returns whether a word may begin at an offset.
-#[tactic(auto, unfolding(crate::specs::Guards::MayBeginWord))]
-fn may_begin_word(text: &[u8], at: usize) -> bool
-    requires { at ≤ length text.now }
-    ensures { result ≡ false → specs.MayBeginWord text.now at → ⊥ }
-{
-    at == 0 || !joins_set(text[at - 1])
-}
-
 /// Returns whether a blank is at an offset, and an option may begin after it.
 fn is_before_option(text: &[u8], at: usize) -> bool
     ensures { result ≡ false → (specs.IsBeforeOption text.now at) → ⊥ }
@@ -54,18 +38,34 @@ fn is_before_option(text: &[u8], at: usize) -> bool
     after < text.len() && is_blank(text[at]) && may_begin_option(text[after])
 }
 
+/// Returns whether the byte may be in the name of a variable.
+fn is_of_name(byte: u8) -> bool
+    ensures { result ≡ specs.is_of_name byte }
+{
+    byte.is_ascii_alphanumeric() || byte == b'_'
+}
+
+/// Returns whether no letter, digit or `_` is right before an offset.
+fn begins_name(text: &[u8], at: usize) -> bool
+    requires { at ≤ length text.now }
+    ensures { result ≡ false → specs.BeginsName text.now at → ⊥ }
+{
+    at == 0 || !is_of_name(text[at - 1])
+}
+
 /// Returns whether `set` is at an offset, and an option may follow it.
 fn is_set_at(text: &[u8], at: usize) -> bool
     requires { at ≤ length text.now }
     ensures { result ≡ false → specs.IsSetAt text.now at → ⊥ }
 {
     is_set_word_at(text, at)
-        && may_begin_word(text, at)
+        && begins_name(text, at)
         && is_before_option(text, at.saturating_add(3))
 }
 
 /// Returns whether the status of a command is read at an offset, or a shell may be asked to end at
 /// one.
+#[tactic(auto, unfolding(crate::specs::Guards::IsStatusAt))]
 fn is_status_at(text: &[u8], at: usize) -> bool
     requires { at ≤ length text.now }
     ensures { result ≡ false → specs.IsStatusAt text.now at → ⊥ }

@@ -1,2 +1,3 @@
 mod Becoming
 pub mod Spelling
+mod Asking

@@ -14,8 +14,10 @@
 #![tactic(auto)]
 
 mod conditions;
+mod files;
 mod joints;
 mod spelled;
 
 pub use conditions::{joined_condition, joined_texts};
+pub use files::{FileCut, file_test, has_part, is_test_of_files, program_of, with_answer};
 pub use spelled::respelled;

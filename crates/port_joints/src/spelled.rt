@@ -16,7 +16,7 @@ use std::alloc::{AllocError, Global};
 
 /// How long a condition is at most that is looked at: the time that it takes grows with the square
 /// of that.
-const LONGEST: usize = 1000;
+pub(crate) const LONGEST: usize = 1000;
 
 /// Returns whether a double quote is open after a text.
 fn is_open_after(text: &[u8]) -> bool
@@ -32,7 +32,7 @@ fn is_open_after(text: &[u8]) -> bool
 }
 
 /// Returns whether no double quote is open at an offset.
-fn is_outside(text: &[u8], at: usize) -> bool
+pub(crate) fn is_outside(text: &[u8], at: usize) -> bool
     ensures { IsTrue result → specs.is_open_after false (take at text.now) ≡ false }
 {
     at <= text.len() && !is_open_after(&text[..at])
@@ -62,7 +62,7 @@ fn is_plain_number(text: &[u8], at: usize, end: usize) -> bool
 }
 
 /// Returns whether a blank or the end is at an offset.
-fn ends_word(text: &[u8], at: usize) -> bool
+pub(crate) fn ends_word(text: &[u8], at: usize) -> bool
     ensures { IsTrue result
         → (at ≡ length text.now)
         ⊎ (joints.is_gap (slice_index text.now at) ≡ true) }
@@ -326,7 +326,7 @@ fn is_test(alloc: Global, text: &[u8], last: &[u8]) -> Result<bool, AllocError>
 }
 
 /// Returns whether a text is a test, once `-a` and `-o` in it have become `&&` and `||`.
-fn is_readable(alloc: Global, text: &[u8]) -> Result<bool, AllocError>
+pub(crate) fn is_readable(alloc: Global, text: &[u8]) -> Result<bool, AllocError>
     ensures { IfOk result (λ b. IsTrue b → specs.IsReadable text.now) }
 {
     let last = condition_text(alloc, text)?;
@@ -334,7 +334,7 @@ fn is_readable(alloc: Global, text: &[u8]) -> Result<bool, AllocError>
 }
 
 /// Returns whether the text has a backslash, a bracket, a single quote or a backquote.
-fn has_hard(text: &[u8]) -> bool
+pub(crate) fn has_hard(text: &[u8]) -> bool
     ensures { result ≡ list_any specs.is_hard text.now }
 {
     text.iter().any(|byte| *byte == b'\\'

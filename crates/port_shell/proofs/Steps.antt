@@ -22,6 +22,7 @@ pass_bound idioms text at out (specs.IsPass.cased end parts note put before is n
 pass_bound idioms text at out (specs.IsPass.guarded end parts texts note put before is unread become notes puts) = guard_bound text end is.ends
 pass_bound idioms text at out (specs.IsPass.tested start to put before is order become) = order.2
 pass_bound idioms text at out (specs.IsPass.respelled from to put indent all before is order spelled blank) = order.2
+pass_bound idioms text at out (specs.IsPass.asked from to put call indent all before is order may asks blank) = order.2
 
 -- What follows from what an `Ok` says holds of the `Ok`.
 pub on_ok : {T E P Q : Type 0} → (P → Q) → (r : Result T E) → OnOk r P → OnOk r Q

@@ -1,6 +1,6 @@
 -- What one step of a pass over conditions makes.
-use Rattle.std.proofs.Common.{◌≡◌, ℕ, ◌<◌, ◌≤◌, List, ◌∷◌, ◌++◌, length, slice_range, sym, subst, ap, ◌∙◌, true, map, get_or, arith}
-use Rattle.std.specs.Prelude.{Contains}
+use Rattle.std.proofs.Common.{◌≡◌, ℕ, ◌<◌, ◌≤◌, List, [], ◌∷◌, ◌++◌, length, slice_range, sym, subst, ap, ◌∙◌, true, map, get_or, Result, Option, arith}
+use Rattle.std.specs.Prelude.{Contains, IfOk, IfSome, codes}
 use Rattle.std.proofs.lemmas.List.{get_or-map, length-map}
 use Rattle.std.proofs.lemmas.List.Elements.{Contains-get_or}
 use Rattle.ac_calls.specs.declared.call.CallAt.{CallAt}
@@ -10,9 +10,11 @@ use Rattle.port_compounds.specs.Guards.{IsGuarded}
 use Rattle.port_compounds.specs.Places.{is_space}
 use Rattle.port_idioms.specs.declared.idioms.Idioms.{Idioms}
 use Rattle.port_idioms.specs.declared.idioms.Idioms.TheVariants.{All}
+use Rattle.port_joints.specs.Files.{program_of}
 use Rattle.port_joints.specs.Joints.{Becomes}
+use Rattle.port_shell.specs.Calls.{IsPut}
 use Rattle.port_joints.specs.Spelled.{IsRespelled}
-use Rattle.port_shell.specs.Formed.{IsPass, IsTestAt, IsListTest, AreOrdered, spelled_so}
+use Rattle.port_shell.specs.Formed.{IsPass, IsTestAt, IsListTest, Asks, IsAsked, MayAskAt, AreOrdered, spelled_so, asked_so}
 use Rattle.port_shell.specs.Formed as specs
 
 pub tested_step : (idioms : Idioms) (text : List ℕ) (at : ℕ) (out : List ℕ) (start from to : ℕ) (put : List ℕ) (new_at : ℕ) (new : List ℕ)
@@ -30,6 +32,25 @@ spelled_step idioms text at out start from to indent put whole new_at new all be
     subst (λ a. IsPass idioms text a new) (sym at_is)
     (subst (IsPass idioms text to) (sym (new_is ∙ ap (λ w. (out ++ slice_range text at start) ++ w) whole_is))
     (specs.IsPass.respelled from to put indent all (specs.IsPass.copied start before place (omega (arith, first, second, third))) is (first, second, third) spelled blank))
+
+pub asked_step : (idioms : Idioms) (text : List ℕ) (at : ℕ) (out : List ℕ) (start from to : ℕ) (indent put call whole : List ℕ) (new_at : ℕ) (new : List ℕ) → idioms ≡ All
+    → IsPass idioms text at out → IsTestAt text start from to → AreOrdered text start from to → MayAskAt text start → IsAsked (slice_range text from to) put call → list_all is_space indent ≡ true → at ≤ start
+    → whole ≡ asked_so indent call ++ (slice_range text start from ++ put)
+    → (new_at ≡ to) × (new ≡ (out ++ slice_range text at start) ++ whole) → IsPass idioms text new_at new
+asked_step idioms text at out start from to indent put call whole new_at new all before is (first, second, third) may asked blank place whole_is (at_is, new_is) =
+    subst (λ a. IsPass idioms text a new) (sym at_is)
+    (subst (IsPass idioms text to) (sym (new_is ∙ ap (λ w. (out ++ slice_range text at start) ++ w) whole_is))
+    (specs.IsPass.asked from to put call indent all (specs.IsPass.copied start before place (omega (arith, first, second, third))) is (first, second, third) may asked blank))
+
+-- The arguments of a call that asks.
+pub asks_for : {V E : Type 0} (items : V → List ℕ) (r : Result (Option V) E) (letter : ℕ) (path name program found lacks none : List ℕ)
+    → program ≡ program_of letter path → found ≡ name ++ codes "=yes" → lacks ≡ name ++ codes "=no" → none ≡ name ++ codes "=no"
+    → IfOk r (λ o. IfSome o (λ v. IsPut (codes "AC_RUN_IFELSE") (program ∷ found ∷ lacks ∷ none ∷ []) (items v))) → IfOk r (λ o. IfSome o (λ v. Asks letter path name (items v)))
+asks_for items r letter path name program found lacks none program_is found_is lacks_is none_is is =
+    subst (λ p. IfOk r (λ o. IfSome o (λ v. IsPut (codes "AC_RUN_IFELSE") (p ∷ (name ++ codes "=yes") ∷ (name ++ codes "=no") ∷ (name ++ codes "=no") ∷ []) (items v)))) program_is
+    (subst (λ f. IfOk r (λ o. IfSome o (λ v. IsPut (codes "AC_RUN_IFELSE") (program ∷ f ∷ (name ++ codes "=no") ∷ (name ++ codes "=no") ∷ []) (items v)))) found_is
+    (subst (λ l. IfOk r (λ o. IfSome o (λ v. IsPut (codes "AC_RUN_IFELSE") (program ∷ found ∷ l ∷ (name ++ codes "=no") ∷ []) (items v)))) lacks_is
+    (subst (λ n. IfOk r (λ o. IfSome o (λ v. IsPut (codes "AC_RUN_IFELSE") (program ∷ found ∷ lacks ∷ n ∷ []) (items v)))) none_is is)))
 
 -- The call of an index is one of the calls.
 pub has_call : (calls : List CallAt) (all : List MacroCall) (i : ℕ) (c : CallAt) → map macro_call_of calls ≡ all → i < length calls → c ≡ get_or calls i c → Contains all (macro_call_of c)

@@ -7,9 +7,10 @@ use Rattle.port_compounds.specs.Cases.{IsCase}
 use Rattle.port_compounds.specs.Guards.{IsGuarded, ReadsStatus}
 use Rattle.port_compounds.specs.Ifs.{IsIf}
 use Rattle.port_compounds.specs.Parts.{IsListEnd}
-use Rattle.port_compounds.specs.Places.{is_space, AreBlank, IsWord}
+use Rattle.port_compounds.specs.Places.{is_space, AreBlank, IsWord, BeginsStatement}
 use Rattle.port_idioms.specs.declared.idioms.Idioms.{Idioms}
 use Rattle.port_idioms.specs.declared.idioms.Idioms.TheVariants.{All}
+use Rattle.port_joints.specs.Files.{HasPart, IsFileTest, IsTestOfFiles, program_of, with_answer}
 use Rattle.port_joints.specs.Joints.{AllBecome, Becomes}
 use Rattle.port_joints.specs.Spelled.{IsRespelled}
 use Rattle.port_shell.specs.Calls.{IsPut}
@@ -67,12 +68,49 @@ AreOrdered text start from to = (start ≤ from) × (from ≤ to) × (to ≤ len
 unfoldable pub spelled_so : List ℕ → List ℕ
 spelled_so indent = codes "dnl acrun: in place of ==, -eq or -ne: the words are compared as texts" ++ 10 ∷ indent
 
+-- What asks for a file, before a statement with the test of it: a call of AC_RUN_IFELSE with a program that asks, which sets this variable to
+-- `yes` or `no`. If no program can be run, the answer is no.
+abbrev pub Asks : ℕ → List ℕ → List ℕ → List ℕ → Type 0
+Asks letter path name call = IsPut (codes "AC_RUN_IFELSE") (program_of letter path ∷ (name ++ codes "=yes") ∷ (name ++ codes "=no") ∷ (name ++ codes "=no") ∷ []) call
+
+-- The condition becomes this one, and this call asks for a file that it tests. The variable is not in the condition before.
+pub record IsAsked (condition put call : List ℕ) : Type 0 where
+  pub at : ℕ
+  pub letter : ℕ
+  pub from : ℕ
+  pub to : ℕ
+  pub end : ℕ
+  pub name : List ℕ
+  pub test : IsFileTest condition at letter from to end
+  pub readable : IsTestOfFiles condition
+  pub new_name : HasPart condition name → ⊥
+  pub asks : Asks letter (slice_range condition from to) name call
+  pub is : put ≡ with_answer condition at end name
+
+-- AC_PROG_CC is before this offset.
+pub record HasCompiler (text : List ℕ) (start : ℕ) : Type 0 where
+  pub call : MacroCall
+  pub is_there : Contains (calls_in text) call
+  pub macro : slice_range text call.start call.name_end ≡ codes "AC_PROG_CC"
+  pub before : call.end ≤ start
+
+-- A statement may begin at this offset, which isn't `elif`, and AC_PROG_CC is before it.
+pub record MayAskAt (text : List ℕ) (start : ℕ) : Type 0 where
+  pub begins : BeginsStatement text start
+  pub no_branch : IsWord text start (codes "elif") (start + 4) → ⊥
+  pub compiler : HasCompiler text start
+
+-- The comment above a call that asks for a file, and the call, with the indent of the statement before it and after it.
+unfoldable pub asked_so : List ℕ → List ℕ → List ℕ
+asked_so indent call = (codes "dnl acrun: in place of a test of a file: a program asks, whose answer is no in a cross build and if the word is empty" ++ 10 ∷ indent) ++ (call ++ 10 ∷ indent)
+
 -- One pass over a text has read so much of it, and written this. Everything is copied, but an `if` may become the call of AS_IF with the
 -- same conditions and bodies in the same order, and a `case` that of AS_CASE with the same word, patterns and bodies.
 -- If the text reads no status of a command, a statement after `&&` or `||` may become the call of AS_IF with its condition and itself. In a
 -- condition, `-a` and `-o` of `test` may become `&&` and `||`. If all idioms are wanted, a comment may be right before the call, and in a
 -- condition of an `if`, of AS_IF or of a guarded statement `==`, `-eq` and `-ne` may be spelled otherwise, with a comment right before the
--- statement.
+-- statement. In such a condition the answer of a program may also come in the place of a test of a file, with a comment and the call that
+-- asks right before the statement.
 pub data IsPass (idioms : Idioms) (text : List ℕ) : ℕ → List ℕ → Type 0 where
   begun : IsPass idioms text 0 []
   copied : {at : ℕ} {out : List ℕ} (next : ℕ) → IsPass idioms text at out → at ≤ next → next ≤ length text → IsPass idioms text next (out ++ slice_range text at next)
@@ -86,6 +124,9 @@ pub data IsPass (idioms : Idioms) (text : List ℕ) : ℕ → List ℕ → Type 
       → Becomes (slice_range text from to) put → IsPass idioms text to (out ++ put)
   respelled : {start : ℕ} {out : List ℕ} (from to : ℕ) (put indent : List ℕ) → idioms ≡ All → IsPass idioms text start out → IsTestAt text start from to → AreOrdered text start from to
       → IsRespelled (slice_range text from to) put → list_all is_space indent ≡ true → IsPass idioms text to (out ++ (spelled_so indent ++ (slice_range text start from ++ put)))
+  asked : {start : ℕ} {out : List ℕ} (from to : ℕ) (put call indent : List ℕ) → idioms ≡ All → IsPass idioms text start out → IsTestAt text start from to → AreOrdered text start from to
+      → MayAskAt text start → IsAsked (slice_range text from to) put call → list_all is_space indent ≡ true
+      → IsPass idioms text to (out ++ (asked_so indent call ++ (slice_range text start from ++ put)))
 
 -- A pass that has read the text up to `start` may put this, after a note, in the place of what is between the offsets.
 unfoldable pub MayPut : List ℕ → ℕ → ℕ → List ℕ → Type 0

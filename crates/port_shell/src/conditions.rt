@@ -11,6 +11,7 @@ ghost use Rattle.port_joints.specs.Spelled.{IsRespelled};
 ghost use Rattle.port_shell.specs.Formed as specs;
 
 use crate::cut::Cut;
+use crate::files::pass_files;
 use crate::lists::cuts_in;
 use crate::passing::{Pass, write_change};
 use ac_calls::{CallAt, Extent, calls_of};
@@ -27,7 +28,7 @@ const COMMENT: &[u8] = b"dnl acrun: in place of ==, -eq or -ne: the words are co
 
 /// What a condition is of.
 #[derive(Clone, Copy)]
-enum Whole {
+pub(crate) enum Whole {
     /// An `if`, with the offset of its `then`.
     If(usize),
     /// The call of AS_IF with this index.
@@ -38,13 +39,13 @@ enum Whole {
 
 /// Where a condition may be.
 #[derive(Clone, Copy)]
-struct Place {
+pub(crate) struct Place {
     /// The offset of the statement.
-    start: usize,
+    pub start: usize,
     /// The offsets of the condition.
-    from: usize,
-    to: usize,
-    whole: Whole,
+    pub from: usize,
+    pub to: usize,
+    pub whole: Whole,
 }
 
 /// Returns whether `if` or `elif` is between two offsets.
@@ -409,7 +410,7 @@ fn put_spelled(
 
 /// Returns whether an offset is in an argument without brackets of one of the calls. A comment there
 /// would be a part of it.
-fn is_in_bare(text: &[u8], calls: &[CallAt], at: usize) -> bool {
+pub(crate) fn is_in_bare(text: &[u8], calls: &[CallAt], at: usize) -> bool {
     for call in calls {
         if call.start < at && at < call.end {
             for arg in &call.args {
@@ -467,6 +468,27 @@ fn pass_other(
     }
 }
 
+/// Writes a condition that is spelled otherwise, if there is a spelling, or asks for a file that it
+/// tests.
+fn pass_idioms(
+    alloc: Global,
+    idioms: Idioms,
+    text: &[u8],
+    calls: &[CallAt],
+    place: Place,
+    pass: &mut Pass,
+) -> Result<(), AllocError>
+    requires calls { map macro_call_of calls.now ≡ calls_in text.now }
+    requires all { idioms ≡ All }
+    requires is { specs.IsTestAt text.now place.start place.from place.to }
+    requires order { specs.AreOrdered text.now place.start place.from place.to }
+    requires begun { specs.IsPass idioms text.now pass.old.at pass.old.out.items }
+    ensures { OnOk result (specs.IsPass idioms text.now pass.new.at pass.new.out.items) }
+{
+    pass_other(alloc, idioms, text, calls, place, pass)?;
+    pass_files(alloc, idioms, text, calls, place, pass)
+}
+
 /// Writes a condition that is spelled otherwise, if there is a spelling and all idioms are wanted.
 fn pass_wanted(
     alloc: Global,
@@ -476,6 +498,7 @@ fn pass_wanted(
     place: Place,
     pass: &mut Pass,
 ) -> Result<(), AllocError>
+    requires calls { map macro_call_of calls.now ≡ calls_in text.now }
     requires is { specs.IsTestAt text.now place.start place.from place.to }
     requires order { specs.AreOrdered text.now place.start place.from place.to }
     requires begun { specs.IsPass idioms text.now pass.old.at pass.old.out.items }
@@ -483,7 +506,7 @@ fn pass_wanted(
 {
     match idioms {
         Idioms::Exact => Ok(()),
-        Idioms::All => pass_other(alloc, idioms, text, calls, place, pass),
+        Idioms::All => pass_idioms(alloc, idioms, text, calls, place, pass),
     }
 }
 

@@ -10,7 +10,7 @@
 //! case $a in x | y) b=1 ;; *) b=2 ;; esac    // becomes AS_CASE([$a], [x | y], [b=1], [b=2])
 //! test -n "$a" || b=2                        // becomes AS_IF([test -n "$a"], [], [b=2])
 //! test "$a" = b -a "$c" && d=1               // becomes AS_IF([test "$a" = b && test "$c"], [d=1])
-//! if test -f a; then b=1; fi                 // stays, since acrun reads no test of files
+//! if test -f a; then b=1; fi                 // stays, or a program asks for the file below a comment
 //! echo using $a                              // stays, or becomes AC_MSG_RESULT([using $a]) below a comment
 //! if :; then AC_CHECK_HEADERS([a.h]); fi     // the first such call: stays, or is rewritten below a comment
 //! ```
@@ -23,7 +23,7 @@
 //! `puts` joins the two. `needs` finds where Autoconf makes checks that macros require, of which
 //! nothing is proved either, and `noting` writes the comment there. `reasons` says why
 //! statements stay. `passing` is one pass over a
-//! text, `conditions` one over its conditions, and `echoes` and `commands` one over its lines with an
+//! text, `conditions` one over its conditions, of which `files` writes what asks for a file, and `echoes` and `commands` one over its lines with an
 //! `echo` and its like. A call fails only if memory runs out. "own" marks a rule that no manual gives.
 #![tactic(auto)]
 
@@ -33,6 +33,7 @@ mod compounds;
 mod conditions;
 mod cut;
 mod echoes;
+mod files;
 mod lists;
 mod needs;
 mod noting;

@@ -1,0 +1,359 @@
+//! Tests of files in conditions: a program asks before the statement.
+
+ghost use Rattle.std.specs.Prelude.{◌≡◌, ◌≤◌, ◌<◌, ◌+◌, ◌++◌, true, false, map, length, slice_range, codes, Contains, IfOk, IfSome, OnOk, IsTrue};
+ghost use Rattle.std.specs.List.{list_all};
+ghost use Rattle.ac_calls.specs.Calls.{calls_in, macro_call_of};
+ghost use Rattle.port_compounds.specs.Places.{is_space, IsWord};
+ghost use Rattle.port_idioms.specs.declared.idioms.Idioms.TheVariants.{All};
+ghost use Rattle.port_joints.specs.Files as files;
+ghost use Rattle.port_shell.specs.Calls.{IsPut};
+ghost use Rattle.port_shell.specs.Formed as specs;
+
+use crate::calls::accepted_call;
+use crate::conditions::{Place, is_in_bare};
+use crate::passing::{Pass, write_change};
+use ac_calls::CallAt;
+use lint_text::{line_start, part, without_end_blanks};
+use port_compounds::{are_spaces, begins_statement, is_word};
+use port_idioms::Idioms;
+use port_joints::{FileCut, file_test, has_part, is_test_of_files, program_of, with_answer};
+use std::alloc::{AllocError, Global};
+
+/// The variables that answers are put into.
+const NAMES: [&[u8]; 5] = [
+    b"acrun_file",
+    b"acrun_file_2",
+    b"acrun_file_3",
+    b"acrun_file_4",
+    b"acrun_file_5",
+];
+
+// ---- where a program may ask
+
+/// Returns whether the call is one of AC_PROG_CC, before an offset.
+fn is_compiler_before(text: &[u8], call: &CallAt, start: usize) -> bool
+    requires { Contains (calls_in text.now) (macro_call_of call.now) }
+    ensures { IsTrue result → specs.HasCompiler text.now start }
+{
+    let has_name = call.start <= call.name_end && call.name_end <= text.len();
+    has_name && call.end <= start && &text[call.start..call.name_end] == b"AC_PROG_CC".as_slice()
+}
+
+/// Returns whether the call of an index is one of AC_PROG_CC, before an offset.
+fn is_compiler_at(text: &[u8], calls: &[CallAt], index: usize, start: usize) -> bool
+    requires { map macro_call_of calls.now ≡ calls_in text.now }
+    ensures { IsTrue result → specs.HasCompiler text.now start }
+{
+    index < calls.len() && is_compiler_before(text, &calls[index], start)
+}
+
+/// Returns whether AC_PROG_CC is before an offset.
+fn has_compiler(text: &[u8], calls: &[CallAt], start: usize) -> bool
+    requires { map macro_call_of calls.now ≡ calls_in text.now }
+    ensures { IsTrue result → specs.HasCompiler text.now start }
+{
+    for index in 0..calls.len() {
+        if is_compiler_at(text, calls, index, start) {
+            return true;
+        }
+    }
+    false
+}
+
+/// Returns whether `elif` is at an offset.
+fn is_branch(text: &[u8], start: usize) -> bool
+    ensures { result ≡ false → IsWord text.now start (codes "elif") (start + 4) → ⊥ }
+{
+    start <= text.len() && text[start..].starts_with(b"elif")
+}
+
+/// Returns whether a statement may begin at an offset, which isn't `elif`, and AC_PROG_CC is before
+/// it.
+fn may_ask_at(text: &[u8], calls: &[CallAt], start: usize) -> bool
+    requires { map macro_call_of calls.now ≡ calls_in text.now }
+    ensures { IsTrue result → specs.MayAskAt text.now start }
+{
+    begins_statement(text, start) && !is_branch(text, start) && has_compiler(text, calls, start)
+}
+
+/// Returns whether a command is joined to the one before an offset.
+fn is_joined(text: &[u8], start: usize) -> bool {
+    let before = without_end_blanks(part(text, 0, start));
+    match before.last() {
+        Some(last) => matches!(*last, b'&' | b'|' | b'\\'),
+        None => false,
+    }
+}
+
+// ---- what is written
+
+/// Returns the comment above a statement, and the call that asks, with this indent after each.
+#[tactic(auto, unfolding(crate::specs::Formed::asked_so))]
+fn asked_so(alloc: Global, indent: &[u8], call: &[u8]) -> Result<Vec<u8>, AllocError>
+    ensures { IfOk result (λ v. v.items ≡ specs.asked_so indent.now call.now) }
+{
+    let mut out = Vec::from_slice(
+        alloc,
+        b"dnl acrun: in place of a test of a file: a program asks, whose answer is no in a cross build and if the word is empty",
+    )?;
+    out.push(b'\n')?;
+    out.extend_from_slice(indent)?;
+    out.extend_from_slice(call)?;
+    out.push(b'\n')?;
+    out.extend_from_slice(indent)?;
+    Ok(out)
+}
+
+/// Returns the same, and below it a statement up to its condition, and the condition.
+fn below(
+    alloc: Global,
+    indent: &[u8],
+    call: &[u8],
+    front: &[u8],
+    put: &[u8],
+) -> Result<Vec<u8>, AllocError>
+    ensures { IfOk result (λ v.
+        v.items ≡ specs.asked_so indent.now call.now ++ (front.now ++ put.now)) }
+{
+    let mut out = asked_so(alloc, indent, call)?;
+    out.extend_from_slice(front)?;
+    out.extend_from_slice(put)?;
+    Ok(out)
+}
+
+/// Writes the call that asks for a file above a statement, and the statement up to its condition,
+/// which has the answer in the place of the test.
+fn put_asked(
+    alloc: Global,
+    idioms: Idioms,
+    text: &[u8],
+    indent: &[u8],
+    place: Place,
+    put: &[u8],
+    call: &[u8],
+    pass: &mut Pass,
+) -> Result<(), AllocError>
+    requires all { idioms ≡ All }
+    requires is { specs.IsTestAt text.now place.start place.from place.to }
+    requires order { specs.AreOrdered text.now place.start place.from place.to }
+    requires may { specs.MayAskAt text.now place.start }
+    requires asked { specs.IsAsked (slice_range text.now place.from place.to) put.now call.now }
+    requires indent { list_all is_space indent.now ≡ true }
+    requires begun { specs.IsPass idioms text.now pass.old.at pass.old.out.items }
+    ensures { OnOk result (specs.IsPass idioms text.now pass.new.at pass.new.out.items) }
+{
+    let _ = idioms;
+    if place.start < pass.at {
+        return Ok(());
+    }
+    let whole = below(alloc, indent, call, &text[place.start..place.from], put)?;
+    write_change(text, place.start, place.to, whole.as_slice(), pass)
+}
+
+/// Writes a condition with the answer of a call, if the call can be on lines above.
+fn pass_asked(
+    alloc: Global,
+    idioms: Idioms,
+    text: &[u8],
+    calls: &[CallAt],
+    place: Place,
+    put: &[u8],
+    call: &[u8],
+    pass: &mut Pass,
+) -> Result<(), AllocError>
+    requires all { idioms ≡ All }
+    requires is { specs.IsTestAt text.now place.start place.from place.to }
+    requires order { specs.AreOrdered text.now place.start place.from place.to }
+    requires may { specs.MayAskAt text.now place.start }
+    requires asked { specs.IsAsked (slice_range text.now place.from place.to) put.now call.now }
+    requires begun { specs.IsPass idioms text.now pass.old.at pass.old.out.items }
+    ensures { OnOk result (specs.IsPass idioms text.now pass.new.at pass.new.out.items) }
+{
+    let indent = part(text, line_start(text, place.start), place.start);
+    if !are_spaces(indent) || is_joined(text, place.start) || is_in_bare(text, calls, place.start) {
+        return Ok(());
+    }
+    put_asked(alloc, idioms, text, indent, place, put, call, pass)
+}
+
+/// Returns a variable's name with a text after it.
+fn assignment(alloc: Global, name: &[u8], value: &[u8]) -> Result<Vec<u8>, AllocError>
+    ensures { IfOk result (λ v. v.items ≡ name.now ++ value.now) }
+{
+    let mut out = Vec::from_slice(alloc, name)?;
+    out.extend_from_slice(value)?;
+    Ok(out)
+}
+
+/// Returns the call that asks for a file, and sets a variable, unless acrun doesn't accept it.
+fn asking_call(
+    alloc: Global,
+    letter: u8,
+    path: &[u8],
+    name: &[u8],
+) -> Result<Option<Vec<u8>>, AllocError>
+    ensures { IfOk result (λ o. IfSome o (λ v. specs.Asks letter path.now name.now v.items)) }
+{
+    let program = program_of(alloc, letter, path)?;
+    let found = assignment(alloc, name, b"=yes")?;
+    let lacks = assignment(alloc, name, b"=no")?;
+    accepted_call(
+        alloc,
+        b"AC_RUN_IFELSE",
+        &[
+            program.as_slice(),
+            found.as_slice(),
+            lacks.as_slice(),
+            lacks.as_slice(),
+        ],
+    )
+}
+
+/// Returns a name of a variable that isn't in a condition, or none.
+fn new_name(condition: &[u8]) -> &'static [u8] {
+    for i in 0..NAMES.len() {
+        if !has_part(condition, NAMES[i]) {
+            return NAMES[i];
+        }
+    }
+    b""
+}
+
+/// Writes a condition with the answer of a call in the place of a test of a file.
+fn pass_answer(
+    alloc: Global,
+    idioms: Idioms,
+    text: &[u8],
+    calls: &[CallAt],
+    place: Place,
+    condition: &[u8],
+    cut: FileCut,
+    name: &[u8],
+    call: &[u8],
+    pass: &mut Pass,
+) -> Result<(), AllocError>
+    requires all { idioms ≡ All }
+    requires is { specs.IsTestAt text.now place.start place.from place.to }
+    requires order { specs.AreOrdered text.now place.start place.from place.to }
+    requires may { specs.MayAskAt text.now place.start }
+    requires condition { condition.now ≡ slice_range text.now place.from place.to }
+    requires test { files.IsFileTest condition.now cut.at cut.letter cut.from cut.to cut.end }
+    requires readable { files.IsTestOfFiles condition.now }
+    requires new_name { files.HasPart condition.now name.now → ⊥ }
+    requires asks { specs.Asks cut.letter (slice_range condition.now cut.from cut.to) name.now call.now }
+    requires begun { specs.IsPass idioms text.now pass.old.at pass.old.out.items }
+    ensures { OnOk result (specs.IsPass idioms text.now pass.new.at pass.new.out.items) }
+{
+    let put = with_answer(alloc, condition, cut.at, cut.end, name)?;
+    pass_asked(
+        alloc,
+        idioms,
+        text,
+        calls,
+        place,
+        put.as_slice(),
+        call,
+        pass,
+    )
+}
+
+/// Asks for a file that a condition tests, and puts the answer into a variable of a new name.
+fn pass_named(
+    alloc: Global,
+    idioms: Idioms,
+    text: &[u8],
+    calls: &[CallAt],
+    place: Place,
+    condition: &[u8],
+    cut: FileCut,
+    name: &[u8],
+    pass: &mut Pass,
+) -> Result<(), AllocError>
+    requires all { idioms ≡ All }
+    requires is { specs.IsTestAt text.now place.start place.from place.to }
+    requires order { specs.AreOrdered text.now place.start place.from place.to }
+    requires may { specs.MayAskAt text.now place.start }
+    requires condition { condition.now ≡ slice_range text.now place.from place.to }
+    requires test { files.IsFileTest condition.now cut.at cut.letter cut.from cut.to cut.end }
+    requires readable { files.IsTestOfFiles condition.now }
+    requires begun { specs.IsPass idioms text.now pass.old.at pass.old.out.items }
+    ensures { OnOk result (specs.IsPass idioms text.now pass.new.at pass.new.out.items) }
+{
+    if name.is_empty() || has_part(condition, name) {
+        return Ok(());
+    }
+    match asking_call(alloc, cut.letter, &condition[cut.from..cut.to], name)? {
+        Some(call) => pass_answer(
+            alloc,
+            idioms,
+            text,
+            calls,
+            place,
+            condition,
+            cut,
+            name,
+            call.as_slice(),
+            pass,
+        ),
+        None => Ok(()),
+    }
+}
+
+/// Asks for the first file that a condition tests, if a program may ask there.
+fn pass_cut(
+    alloc: Global,
+    idioms: Idioms,
+    text: &[u8],
+    calls: &[CallAt],
+    place: Place,
+    condition: &[u8],
+    cut: FileCut,
+    pass: &mut Pass,
+) -> Result<(), AllocError>
+    requires calls { map macro_call_of calls.now ≡ calls_in text.now }
+    requires all { idioms ≡ All }
+    requires is { specs.IsTestAt text.now place.start place.from place.to }
+    requires order { specs.AreOrdered text.now place.start place.from place.to }
+    requires condition { condition.now ≡ slice_range text.now place.from place.to }
+    requires test { files.IsFileTest condition.now cut.at cut.letter cut.from cut.to cut.end }
+    requires begun { specs.IsPass idioms text.now pass.old.at pass.old.out.items }
+    ensures { OnOk result (specs.IsPass idioms text.now pass.new.at pass.new.out.items) }
+{
+    if !may_ask_at(text, calls, place.start) || !is_test_of_files(alloc, condition)? {
+        return Ok(());
+    }
+    pass_named(
+        alloc,
+        idioms,
+        text,
+        calls,
+        place,
+        condition,
+        cut,
+        new_name(condition),
+        pass,
+    )
+}
+
+/// Asks for the first file that a condition tests, if it tests one.
+pub(crate) fn pass_files(
+    alloc: Global,
+    idioms: Idioms,
+    text: &[u8],
+    calls: &[CallAt],
+    place: Place,
+    pass: &mut Pass,
+) -> Result<(), AllocError>
+    requires calls { map macro_call_of calls.now ≡ calls_in text.now }
+    requires all { idioms ≡ All }
+    requires is { specs.IsTestAt text.now place.start place.from place.to }
+    requires order { specs.AreOrdered text.now place.start place.from place.to }
+    requires begun { specs.IsPass idioms text.now pass.old.at pass.old.out.items }
+    ensures { OnOk result (specs.IsPass idioms text.now pass.new.at pass.new.out.items) }
+{
+    let condition = &text[place.from..place.to];
+    match file_test(condition) {
+        Some(cut) => pass_cut(alloc, idioms, text, calls, place, condition, cut, pass),
+        None => Ok(()),
+    }
+}
