@@ -2,17 +2,20 @@
 """Checks one crate over libraries of statements, in seconds also if it is a high one. It is no verdict: `rt ci` gives that.
 
     python3 tools/check_over.py CRATE [WORD..]          at the top of the repository; the words are those of `rattle check`
-    python3 tools/check_over.py --base TOP [--wait] CRATE [WORD..]
+    python3 tools/check_over.py --base TOP [--wait] [--kept] CRATE [WORD..]
 
 `rt ci` without names leaves such libraries in crates/*/out/rlib. They are taken from there, or from those of another clone, TOP.
 First the libraries of crates below are built anew here whose sources are other than those that the libraries were made of, and
 of crates that stand on one of these. Each is proved for it, which takes as long as in the gate, so begin with the lowest crate that
 you change. With --wait, a library of the same sources that TOP does not have yet is waited for, as long as an `rt ci` is at work
-there.
+there. With --kept, such a library is built in seconds of what a check of its crate by this script has kept, with its proofs, and is
+built again only if a source has changed. It suits a few small crates below the one that is checked: one with proofs takes longer to
+read.
 
 Words that are of use: `--only MODULE::FUNCTION` checks one function and what it calls, and `--start MODULE::FUNCTION` writes the
 files of its goals. Holes are allowed. The last line has their number, and the exit status is that of the check.
 """
+import hashlib
 import os
 import shutil
 import subprocess
@@ -25,8 +28,9 @@ import edits_together as edits
 class Libraries:
     """The libraries of a repository, of which some are built in it, and all others were left in a base."""
 
-    def __init__(self, top, base, kit, waits=False):
+    def __init__(self, top, base, kit, waits=False, kept=False):
         self.repository, self.top, self.base, self.kit, self.waits = edits.Repository(top, [top], kit), top, base, kit, waits
+        self.kept = kept
         self.fresh = {}
 
     def path(self, name):
@@ -78,13 +82,25 @@ class Libraries:
                 return False
         return True
 
+    def sources(self, name):
+        """A sum of the sources of a crate, and of those below it that are built here."""
+        crates = [it for it in [name, *sorted(self.repository.below(name))] if self.fresh[it]]
+        texts = [sorted(edits.texts_below(f"{self.top}/crates/{it}").items()) for it in crates]
+        return hashlib.sha256(repr(texts).encode()).hexdigest()
+
     def build(self, name):
         made = self.path(name)
+        mark, sources = f"{os.path.dirname(made)}.sum", self.sources(name)
+        if self.kept and os.path.isfile(f"{made}/format") and os.path.isfile(mark) and open(mark).read() == sources:
+            return True
         shutil.rmtree(made, ignore_errors=True)
         os.makedirs(os.path.dirname(made), exist_ok=True)
-        words = [f"{self.kit}/bin/rattle", "build", *self.words(name), "--jobs", "2", "--statements", "-o", made, "--empty-contracts"]
+        words = [f"{self.kit}/bin/rattle", "build", *self.words(name), "--jobs", "2", "-o", made, "--empty-contracts"]
+        words += ["--incremental", "out/over"] if self.kept else ["--statements"]
         ran = subprocess.run(words, cwd=f"{self.top}/crates/{name}", stdout=subprocess.PIPE, stderr=subprocess.STDOUT, text=True)
         print(f"{name}: {'its library is built anew' if ran.returncode == 0 else ran.stdout}", flush=True)
+        if ran.returncode == 0:
+            open(mark, "w").write(sources)
         return ran.returncode == 0
 
 
@@ -106,12 +122,14 @@ def main(words):
         base, words = os.path.abspath(words[1]), words[2:]
     waits = words[:1] == ["--wait"]
     words = words[waits:]
+    kept = words[:1] == ["--kept"]
+    words = words[kept:]
     kit, fault = edits.toolchain()
     if fault or not words or not os.path.isdir(f"{top}/crates/{words[0]}"):
         print(fault or __doc__, file=sys.stderr)
         return 2
     name, *more = words
-    libraries = Libraries(top, base, kit, waits)
+    libraries = Libraries(top, base, kit, waits, kept)
     if not libraries.make(name):
         return 2
     check = [f"{kit}/bin/rattle", "check", *libraries.words(name), "--jobs", "3", "--incremental", "out/over", "--allow-holes", *more]
