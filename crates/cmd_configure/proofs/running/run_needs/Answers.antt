@@ -7,8 +7,10 @@ use Rattle.cmd_configure.proofs.running.run_needs.Goals as goal
 
 pub returns-in-Err-clause-ended : goal.returns-in-Err-clause-ended
 returns-in-Err-clause-ended g c =
-    let n = c.args.needs.now in (
+    let n = c.args.needs.now in
+    let account = g.C.Crew.account c.args.crew.now in
+    let files = g.D.Disk.known c.args.terminal.now.outputs.disk in (
       _,
-      subst (λ h. IsRunEnd c.args.window n.arguments (script_in n) n.settings _ _ _ _ h (memory_line ∷ [])) (sym c.no_memory.ensures.happened) (unstarted refl refl),
+      subst (λ h. IsRunEnd c.args.window n.arguments (script_in n) n.settings account account files files h (memory_line ∷ [])) (sym c.no_memory.ensures.happened) (unstarted refl refl),
       λ unasked. said_line g.E.Write.contents g.E.Hears.has_failed _ _ _ c.no_memory.ensures.told,
     )
