@@ -56,5 +56,31 @@ set -e^Jtest a && x=1 => the same
 set  -o errexit^Jtest a && x=1 => the same
 set \^J  -e^Jtest a && x=1 => the same
 AC_MSG_NOTICE([set it])^Jtest a && x=1 => AC_MSG_NOTICE([set it])^JAS_IF([test a], [x=1])
+AC_CHECK_FUNCS([memset^J  memcpy])^Jtest a && x=1 => AC_CHECK_FUNCS([memset^J  memcpy])^JAS_IF([test a], [x=1])
+x_set=" -a"^Jtest a && x=1 => x_set=" -a"^JAS_IF([test a], [x=1])
+x="a_set -a Set  b"^Jtest a && x=1 => x="a_set -a Set  b"^JAS_IF([test a], [x=1])
+if :; then set -e; fi^Jtest a && x=1 => the same
+(set -e)^Jtest a && x=1 => the same
+;set -e^Jtest a && x=1 => the same
 AC_MSG_NOTICE([charset  -e, b_set -c])^Jtest a && x=1 => AC_MSG_NOTICE([charset  -e, b_set -c])^JAS_IF([test a], [x=1])
 b;set -e^Jtest a && x=1 => the same
+// other statements
+test a && x=1 && y=2 => the same
+test a && x=1 || y=2 => the same
+test a && AC_CHECK_FUNCS([f]) => the same
+test a && AC_SUBST([x]) => the same
+test a && AC_DEFINE([X]) y=1 => the same
+test a && mkdir b => the same
+test -f a && x=1 => the same
+test a && x=`b` => the same
+test a && (x=1) => the same
+test a && { x=1; } => the same
+test a && if :; then x=1; fi => the same
+test a && => the same
+test a && x="b; c" => the same
+"##;
+
+#[test]
+fn guards(rt: HostRuntime) -> Result<(), Fail> {
+    try_rows(rt.alloc(), &Forms, GUARDS)
+}
