@@ -1,11 +1,18 @@
 -- What is said of a call of one kind, for a call of another kind.
 use Rattle.std.specs.Prelude.{◌≡◌, ◌⊎◌, ℕ, List, length, refl}
-use Rattle.std.proofs.Common.{◌≢◌, ◌≤◌, ◌<◌, ◌∙◌, arith, inr, subst, sym}
+use Rattle.std.proofs.Common.{◌≢◌, ◌≤◌, ◌<◌, ◌∙◌, arith, ap, inr, subst, sym}
 use Rattle.cmd_call.specs.Calls.{ProgramCall, Why, Help, Lint, Port, IfFilter, IfStandIn, IfConfigure, IfStatus, IfRecheck, IfWhy, IfHelp, IfLint}
 use Rattle.cmd_call.specs.Lent.{call_seen}
 use Rattle.runner.specs.Ports.{IfPort}
 use Rattle.cmd_call.specs.declared.call.ProgramCall as lent
 use Rattle.cmd_call.specs.declared.call.ProgramCall.TheVariants as lends
+
+-- What is said of a call of this kind.
+pub is_filter : (call : lent.ProgramCall) (seen : ProgramCall) (P : Type 0) → call ≡ lends.Filter → call_seen call ≡ seen → P → IfFilter seen P
+is_filter call seen P is e p = subst (λ s. IfFilter s P) (sym (ap call_seen is) ∙ e) p
+
+pub is_status : (call : lent.ProgramCall) (seen : ProgramCall) (P : List (List ℕ) → Type 0) (tags : _) → call ≡ lends.Status tags → call_seen call ≡ seen → P tags.now → IfStatus seen P
+is_status call seen P tags is e p = subst (λ s. IfStatus s P) (sym (ap call_seen is) ∙ e) p
 
 pub no_filter : (call : lent.ProgramCall) (seen : ProgramCall) (P : Type 0) → (call ≡ lends.Filter → ⊥) → call_seen call ≡ seen → IfFilter seen P
 no_filter lends.Filter seen P ne e = absurd (ne refl)

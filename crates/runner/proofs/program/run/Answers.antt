@@ -1,4 +1,4 @@
-use Rattle.runner.proofs.Others.{no_filter, no_standin, no_configure, no_status, no_recheck}
+use Rattle.runner.proofs.Others.{is_filter, is_status, no_filter, no_standin, no_configure, no_status, no_recheck}
 use Rattle.runner.proofs.program.run.Goals as goal
 
 pub returns-in_default-clause-filter : goal.returns-in_default-clause-filter
@@ -36,3 +36,9 @@ returns-in_default-clause-standin_refused g c = no_standin c.call_of.result _ _ 
 
 pub returns-in_default-clause-status_refused : goal.returns-in_default-clause-status_refused
 returns-in_default-clause-status_refused g c = no_status c.call_of.result _ _ c.in_default.not-Status c.call_of.ensures.call
+
+pub returns-in-Filter-clause-filter_refused : goal.returns-in-Filter-clause-filter_refused
+returns-in-Filter-clause-filter_refused g c = is_filter c.call_of.result _ _ c.in-Filter.is c.call_of.ensures.call c.run_filter.ensures.refused
+
+pub returns-in-Status-clause-status_refused : goal.returns-in-Status-clause-status_refused
+returns-in-Status-clause-status_refused g c = is_status c.call_of.result _ _ c.in-Status.tags c.in-Status.is c.call_of.ensures.call c.run_status.ensures.refused
