@@ -46,7 +46,7 @@ AC_INIT([a], [1])^Jif b; then^J  c=1^Jelse^J  AC_A^Jfi^JAC_OUTPUT =>  parse-3 18
 AC_INIT([a], [1])^Jfi^Jls^JAC_OUTPUT =>  parse-3 18[fi] parse-3 21[ls]
 // the ends of a source
 x=1^JAC_SUBST([a-b]) =>  parse-8 0[x=1] parse-5 13[[a-b]] parse-9 19[]
-AC_INIT([a], [1])^JAC_OUTPUT^Jls^Jx=1 =>  parse-10 28[ls] parse-10 31[x=1]
+AC_INIT([a], [1])^JAC_OUTPUT^Jls^Jx=1 =>  parse-10 28[ls]
 // in a comment of m4, which is none of the shell; what is marked ends before a bracket
 AC_INIT([a], [1])^Ja='#[31m'dnl ; AC_])^JAC_OUTPUT =>  parse-3 33[AC_]
 // quotes alone
