@@ -4,6 +4,7 @@
 
 use crate::pieces::Pieces;
 use acparse::{Source, is_resumable};
+use cmd_call::Heard;
 use cmd_filter::{FilterFault, Filtered, filter, tell};
 use deftable::Bytes;
 use options::{help_text, srcdir_of};
@@ -35,5 +36,5 @@ pub fn run_filter(
 
 /// The fault line.
 pub fn put_fault_line(out: &mut Vec<u8>, fault: &FilterFault) {
-    tell(out, fault);
+    tell(&mut Heard::new(out), fault);
 }

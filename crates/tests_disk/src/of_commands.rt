@@ -13,6 +13,7 @@ use crew_refusals::Causes;
 use deftable::Bytes;
 use file_disk::Disk;
 use file_texts::FileOutputs;
+use std::alloc::Global;
 use std::process::Abort;
 use std::test::Fail;
 use test_crews::replies::replies_in;
@@ -85,6 +86,31 @@ fn put_told(page: &mut Page, status: u8, output: &[u8], errors: &[u8]) {
     }
 }
 
+/// Configures with standard error in a vector. Returns the exit status, what standard output took, and
+/// the outputs.
+fn configured_with<D: Disk, C: Crew + Causes>(
+    alloc: Global,
+    disk: D,
+    words: &[Bytes],
+    crew: &mut C,
+    errors: &mut Vec<u8>,
+) -> (u8, Vec<u8>, FileOutputs<D>)
+    requires unchanged { IfSome (D.known disk) (λ k. k.deeds ≡ []) }
+    requires may_run { MayRun (C.account crew.old) }
+{
+    let mut terminal = Terminal {
+        alloc,
+        is_asked: false,
+        env: &[],
+        outputs: FileOutputs::new(alloc, disk),
+        input: b"".as_slice(),
+        output: Vec::new(alloc),
+        errors: Heard::new(errors),
+    };
+    let status = exit_status(&run_configure(&mut terminal, 1, words, crew));
+    (status, terminal.output, terminal.outputs)
+}
+
 /// Runs `configure` over a disk and a crew, and returns the outputs.
 fn configure_over<D: Disk, C: Crew + Causes>(
     page: &mut Page,
@@ -97,6 +123,21 @@ fn configure_over<D: Disk, C: Crew + Causes>(
 {
     let alloc = page.alloc();
     let mut errors = Vec::new(alloc);
+    let (status, output, outputs) = configured_with(alloc, disk, words, crew, &mut errors);
+    put_told(page, status, output.as_slice(), errors.as_slice());
+    outputs
+}
+
+/// Runs `status` with standard error in a vector. Returns the exit status, what standard output took,
+/// and the outputs.
+fn made_with<D: Disk>(
+    alloc: Global,
+    disk: D,
+    tags: &[Bytes],
+    errors: &mut Vec<u8>,
+) -> (u8, Vec<u8>, FileOutputs<D>)
+    requires { IfSome (D.known disk) (λ k. k.deeds ≡ []) }
+{
     let mut terminal = Terminal {
         alloc,
         is_asked: false,
@@ -104,11 +145,10 @@ fn configure_over<D: Disk, C: Crew + Causes>(
         outputs: FileOutputs::new(alloc, disk),
         input: b"".as_slice(),
         output: Vec::new(alloc),
-        errors: Heard::new(&mut errors),
+        errors: Heard::new(errors),
     };
-    let status = exit_status(&run_configure(&mut terminal, 1, words, crew));
-    put_told(page, status, terminal.output.as_slice(), errors.as_slice());
-    terminal.outputs
+    let status = run_status(&mut terminal, tags);
+    (status, terminal.output, terminal.outputs)
 }
 
 /// Runs `status` over a disk, and returns the outputs.
@@ -117,18 +157,9 @@ fn status_over<D: Disk>(page: &mut Page, disk: D, tags: &[Bytes]) -> FileOutputs
 {
     let alloc = page.alloc();
     let mut errors = Vec::new(alloc);
-    let mut terminal = Terminal {
-        alloc,
-        is_asked: false,
-        env: &[],
-        outputs: FileOutputs::new(alloc, disk),
-        input: b"".as_slice(),
-        output: Vec::new(alloc),
-        errors: Heard::new(&mut errors),
-    };
-    let status = run_status(&mut terminal, tags);
-    put_told(page, status, terminal.output.as_slice(), errors.as_slice());
-    terminal.outputs
+    let (status, output, outputs) = made_with(alloc, disk, tags, &mut errors);
+    put_told(page, status, output.as_slice(), errors.as_slice());
+    outputs
 }
 
 /// Returns words with blanks between them.
