@@ -2,7 +2,7 @@
 
 use ac_calls::{CallAt, Extent};
 use lint_all::Scan;
-use lint_text::from;
+use lint_text::{after_blanks, first_line, from, without_end_blanks};
 use std::alloc::{AllocError, Global};
 
 /// What a line of comment begins with.
@@ -28,6 +28,9 @@ pub(crate) struct Line {
     /// The offset of the quote of the shell that is open there and that is closed before the next
     /// call, if one is.
     quote: Option<usize>,
+    /// The offset of the first of the lines before it that go on with the next one, if the last line
+    /// does.
+    front: Option<usize>,
 }
 
 /// What is open within an argument, or between calls.
@@ -193,6 +196,25 @@ fn open_argument<'a>(
     }
 }
 
+/// Returns whether the shell takes the next line for a part of the command on this one.
+fn goes_on(line: &[u8]) -> bool {
+    let rest = after_blanks(line);
+    let line = without_end_blanks(rest);
+    let is_comment = rest.starts_with(b"#") || rest.starts_with(b"dnl");
+    let is_joined = line.ends_with(b"&&") || line.ends_with(b"||") || line.ends_with(b"\\");
+    is_joined && !is_comment
+}
+
+/// Returns the offset of the first of these lines, if each of them goes on with the next one.
+fn front_of(text: &[u8], lines: &[Line]) -> Option<usize> {
+    let last = lines.last()?;
+    if goes_on(first_line(from(text, last.start))) {
+        Some(last.front.unwrap_or(last.start))
+    } else {
+        None
+    }
+}
+
 /// Returns the line that begins at an offset.
 fn line_at(text: &[u8], calls: &[CallAt], at: usize, walk: &Walk) -> Line {
     let mut line = Line {
@@ -202,6 +224,7 @@ fn line_at(text: &[u8], calls: &[CallAt], at: usize, walk: &Walk) -> Line {
         arg_end: 0,
         bracket: walk.opened.open_bracket(),
         quote: walk.opened.open_quote(),
+        front: front_of(text, walk.lines.as_slice()),
     };
     if let Some(open) = walk.open.last() {
         line.call = calls.get(open.call).map(|call| call.start);
@@ -295,13 +318,13 @@ fn line_with(lines: &[Line], place: usize) -> Option<&Line> {
 fn further_up(line: &Line, place: usize) -> Option<usize> {
     match line.call {
         Some(call) if line.arg_end <= place => Some(call),
-        _ => line.bracket.or(line.quote),
+        _ => line.bracket.or(line.quote).or(line.front),
     }
 }
 
 /// Returns the start of the line above which a comment about the place can be: the line of the
-/// place, or an earlier one if that one is within an argument or quotes. Lines of comment that are
-/// there stay above it.
+/// place, or an earlier one if that one is within an argument or quotes, or if the line before it
+/// goes on with it. Lines of comment that are there stay above it.
 pub(crate) fn comment_line(lines: &[Line], place: usize) -> usize {
     let mut place = place;
     for _ in 0..TRIES {

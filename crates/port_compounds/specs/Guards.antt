@@ -2,7 +2,7 @@
 -- "OR Lists")
 use Rattle.std.specs.Prelude.{◌≡◌, ◌⊎◌, ℕ, ◌+◌, ◌-◌, ◌<◌, ◌≤◌, ◌==◌, ◌||◌, Bool, true, false, List, [], ◌∷◌, length, slice_range, slice_index, codes}
 use Rattle.std.specs.List.{list_any}
-use Rattle.std.specs.Char.{is_ascii_alphanumeric}
+use Rattle.std.specs.Char.{is_ascii_alphabetic}
 use Rattle.m4quote.specs.ItemValue.{Span, ItemValue, call}
 use Rattle.m4quote.specs.Spelling.{IsSpelling}
 use Rattle.port_compounds.specs.Parts.{IsNotEscaped, IsPlainLine}
@@ -18,15 +18,15 @@ may_begin_option b = b == 45 || b == 92 || is_blank b
 abbrev pub IsBeforeOption : List ℕ → ℕ → Type 0
 IsBeforeOption text at = (is_blank (slice_index text at) ≡ true) × (may_begin_option (slice_index text (at + 1)) ≡ true)
 
--- A letter, a digit or `_`. (own)
-abbrev pub is_of_name : ℕ → Bool
-is_of_name b = is_ascii_alphanumeric b || b == 95
+-- A letter or `_`. A digit is none: `$1set` is the word `set` if the first parameter is empty. (own)
+abbrev pub may_begin_name : ℕ → Bool
+may_begin_name b = is_ascii_alphabetic b || b == 95
 
 -- No such byte is right before this offset. (own)
 abbrev pub BeginsName : List ℕ → ℕ → Type 0
-BeginsName text at = (at ≡ 0) ⊎ (is_of_name (slice_index text (at - 1)) ≡ false)
+BeginsName text at = (at ≡ 0) ⊎ (may_begin_name (slice_index text (at - 1)) ≡ false)
 
--- At this offset is `set`, and an option may follow it. With a letter before it, it is the end of another word. (POSIX shell, 2.14 "set")
+-- At this offset is `set`, and an option may follow it. With a letter or `_` before it, it is the end of another word. (POSIX shell, 2.14 "set")
 abbrev pub IsSetAt : List ℕ → ℕ → Type 0
 IsSetAt text at = (slice_range text at (at + 3) ≡ codes "set") × BeginsName text at × IsBeforeOption text (at + 3)
 

@@ -38,19 +38,19 @@ fn is_before_option(text: &[u8], at: usize) -> bool
     after < text.len() && is_blank(text[at]) && may_begin_option(text[after])
 }
 
-/// Returns whether the byte may be in the name of a variable.
-fn is_of_name(byte: u8) -> bool
-    ensures { result ≡ specs.is_of_name byte }
+/// Returns whether the byte may begin the name of a variable. A digit may not: `$1set` may be `set`.
+fn may_begin_name(byte: u8) -> bool
+    ensures { result ≡ specs.may_begin_name byte }
 {
-    byte.is_ascii_alphanumeric() || byte == b'_'
+    byte.is_ascii_alphabetic() || byte == b'_'
 }
 
-/// Returns whether no letter, digit or `_` is right before an offset.
+/// Returns whether no letter and no `_` is right before an offset.
 fn begins_name(text: &[u8], at: usize) -> bool
     requires { at ≤ length text.now }
     ensures { result ≡ false → specs.BeginsName text.now at → ⊥ }
 {
-    at == 0 || !is_of_name(text[at - 1])
+    at == 0 || !may_begin_name(text[at - 1])
 }
 
 /// Returns whether `set` is at an offset, and an option may follow it.

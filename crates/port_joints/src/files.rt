@@ -191,15 +191,30 @@ fn is_file_test(text: &[u8], cut: FileCut) -> bool
         && is_path(text, cut.at.saturating_add(4), cut.from, cut.to, cut.end)
 }
 
+/// Returns the test of a file that is at an offset, if one is there.
+fn file_test_at(text: &[u8], at: usize) -> Option<FileCut>
+    ensures { IfSome result (λ c.
+        specs.IsFileTest text.now c.at c.letter c.from c.to c.end) }
+{
+    if !is_file_operator(text, at, letter_at(text, at)) {
+        return None;
+    }
+    let cut = cut_at(text, at);
+    if is_file_test(text, cut) {
+        return Some(cut);
+    }
+    None
+}
+
 /// Returns the first test of a file in a condition.
 pub fn file_test(text: &[u8]) -> Option<FileCut>
     ensures { IfSome result (λ c.
         specs.IsFileTest text.now c.at c.letter c.from c.to c.end) }
 {
     for at in 0..text.len() {
-        let cut = cut_at(text, at);
-        if is_file_test(text, cut) {
-            return Some(cut);
+        let found = file_test_at(text, at);
+        if found.is_some() {
+            return found;
         }
     }
     None
