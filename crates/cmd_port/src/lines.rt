@@ -1,8 +1,9 @@
 //! Above which line a comment about a place can be.
 
 use ac_calls::{CallAt, Extent};
+use bstr::ByteSlice;
 use lint_all::Scan;
-use lint_text::{after_blanks, first_line, from, without_end_blanks};
+use lint_text::{after_blanks, first_line, first_word, from, without_end_blanks};
 use std::alloc::{AllocError, Global};
 
 /// What a line of comment begins with.
@@ -196,13 +197,20 @@ fn open_argument<'a>(
     }
 }
 
-/// Returns whether the shell takes the next line for a part of the command on this one.
+/// Returns whether a line begins with the condition of an `if`, which doesn't end on it.
+fn begins_condition(line: &[u8]) -> bool {
+    let word = first_word(line);
+    let is_if = word == b"if".as_slice() || word == b"elif".as_slice();
+    is_if && line.find(b"then").is_none()
+}
+
+/// Returns whether the shell takes the next line for a part of the statement on this one.
 fn goes_on(line: &[u8]) -> bool {
     let rest = after_blanks(line);
     let line = without_end_blanks(rest);
     let is_comment = rest.starts_with(b"#") || rest.starts_with(b"dnl");
     let is_joined = line.ends_with(b"&&") || line.ends_with(b"||") || line.ends_with(b"\\");
-    is_joined && !is_comment
+    (is_joined || begins_condition(line)) && !is_comment
 }
 
 /// Returns the offset of the first of these lines, if each of them goes on with the next one.

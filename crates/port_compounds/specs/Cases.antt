@@ -1,7 +1,7 @@
 -- The `case` of a shell between two offsets of a text, and its parts: its word, the patterns and the body of each branch, and the body of
 -- a last branch whose pattern is `*`. (POSIX shell, 2.9.4.3 "Case Conditional Construct")
 use Rattle.std.specs.Prelude.{◌≡◌, ◌⊎◌, ℕ, ◌+◌, ◌<◌, ◌≤◌, true, List, [], ◌∷◌, ◌++◌, slice_range, slice_index, codes}
-use Rattle.port_compounds.specs.Parts.{HasNoHash, HasDnl, IsAtLineStart, IsBeforeSemicolon, IsNotEscaped, IsPlainLine, IsStatement}
+use Rattle.port_compounds.specs.Parts.{HasPlainEnd, IsAtLineStart, IsBeforeSemicolon, IsNotEscaped, IsPlainLine, IsStatement}
 use Rattle.port_compounds.specs.Places.{is_blank, AreBlank, AreSpaces, IsWord}
 
 -- ---- the word
@@ -42,11 +42,10 @@ pub record ArePatterns (text : List ℕ) (start end : ℕ) (patterns : List ℕ)
 
 -- ---- the body of a branch
 
--- Spaces are after a body, which has neither a `#` nor `dnl`, and which doesn't end in a backslash. (own)
+-- Spaces are after a body, whose last line has neither a `#` nor `dnl`, and which doesn't end in a backslash. (own)
 pub record IsBeforeSpaces (text : List ℕ) (from to end : ℕ) : Type 0 where
   pub after : AreSpaces text to end
-  pub no_comment : HasNoHash (slice_range text from to)
-  pub no_dnl : HasDnl (slice_range text from to) → ⊥
+  pub last : HasPlainEnd (slice_range text from to)
   pub not_escaped : IsNotEscaped text to
 
 -- A body before `;;` ends in the newline of its last line, or before spaces.

@@ -1,5 +1,5 @@
 -- What ends a part of a compound statement of a shell. The offsets are those of the text.
-use Rattle.std.specs.Prelude.{◌≡◌, ◌⊎◌, ℕ, ◌-◌, ◌+◌, ◌<◌, ◌≤◌, ◌==◌, Bool, false, List, [], ◌∷◌, slice_range, slice_index, codes}
+use Rattle.std.specs.Prelude.{◌≡◌, ◌⊎◌, ℕ, ◌-◌, ◌+◌, ◌<◌, ◌≤◌, ◌==◌, Bool, false, List, [], ◌∷◌, length, slice_range, slice_index, codes}
 use Rattle.std.specs.List.{list_any}
 use Rattle.m4quote.specs.ItemValue.{bare}
 use Rattle.m4quote.specs.Spelling.{IsSpelling}
@@ -20,6 +20,14 @@ is_newline b = b == 10
 -- The text has `dnl` at some place. (own)
 abbrev pub HasDnl : List ℕ → Type 0
 HasDnl text = (at : ℕ) × (slice_range text at (at + 3) ≡ codes "dnl")
+
+-- From the start of some line on, the text has neither a `#` nor `dnl`. (own)
+pub record HasPlainEnd (text : List ℕ) : Type 0 where
+  pub line : ℕ
+  pub within : line ≤ length text
+  pub begins : (line ≡ 0) ⊎ (slice_index text (line - 1) ≡ 10)
+  pub no_comment : HasNoHash (slice_range text line (length text))
+  pub no_dnl : HasDnl (slice_range text line (length text)) → ⊥
 
 -- No backslash is right before this offset. After one, what follows would be a part of the word. (POSIX shell, 2.2.1)
 abbrev pub IsNotEscaped : List ℕ → ℕ → Type 0
@@ -52,11 +60,10 @@ pub record IsAtLineStart (text : List ℕ) (start end : ℕ) : Type 0 where
   pub not_joined : slice_index text (newline - 1) ≡ 92 → ⊥
   pub spaces : AreSpaces text (newline + 1) end
 
--- A `;` is after a body, which has neither a `#` nor `dnl`. (POSIX shell, 2.9.3)
+-- A `;` is after a body, whose last line has neither a `#` nor `dnl`. (POSIX shell, 2.9.3)
 pub record IsBeforeSemicolon (text : List ℕ) (from to end : ℕ) : Type 0 where
   pub after : IsSemicolon text to end
-  pub no_comment : HasNoHash (slice_range text from to)
-  pub no_dnl : HasDnl (slice_range text from to) → ⊥
+  pub last : HasPlainEnd (slice_range text from to)
 
 -- The text is on one line, and has no `#`. m4 finds neither a macro nor `dnl` in it. (own)
 pub record IsPlainLine (part : List ℕ) : Type 0 where

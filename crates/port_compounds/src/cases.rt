@@ -7,7 +7,7 @@ ghost use Rattle.port_compounds.specs.Cases as specs;
 
 use crate::cut::{CaseBranch, CaseCut};
 use crate::parts::{
-    after_blanks, before_blanks, ends_in_line, ends_in_semicolon, has_dnl, has_hash,
+    after_blanks, before_blanks, ends_in_line, ends_in_semicolon, has_plain_end,
     is_after_backslash, is_plain_line, semicolon_start,
 };
 use crate::places::{
@@ -163,8 +163,8 @@ fn patterns<'a>(
 
 // ---- the body of a branch
 
-/// Returns whether spaces are after a body between two offsets, before a third one. The body has
-/// neither a `#` nor `dnl`, and doesn't end in a backslash.
+/// Returns whether spaces are after a body between two offsets, before a third one. Its last line
+/// has neither a `#` nor `dnl`, and it doesn't end in a backslash.
 fn ends_in_spaces(text: &[u8], from: usize, to: usize, end: usize) -> bool
     ensures { IsTrue result → specs.IsBeforeSpaces text.now from to end }
 {
@@ -172,8 +172,7 @@ fn ends_in_spaces(text: &[u8], from: usize, to: usize, end: usize) -> bool
         && to <= end
         && end <= text.len()
         && are_spaces(&text[to..end])
-        && !has_hash(&text[from..to])
-        && !has_dnl(&text[from..to])
+        && has_plain_end(&text[from..to])
         && !is_after_backslash(text, to)
 }
 

@@ -1,6 +1,6 @@
 //! The parts of a statement: conditions and bodies.
 
-ghost use Rattle.std.specs.Prelude.{◌≡◌, ◌≤◌, ◌+◌, [], ◌∷◌, length, IfOk, IfSome, IsTrue, false, slice_range, codes};
+ghost use Rattle.std.specs.Prelude.{◌≡◌, ◌⊎◌, ◌≤◌, ◌+◌, ◌-◌, [], ◌∷◌, length, IfOk, IfSome, IsTrue, false, slice_index, slice_range, codes};
 ghost use Rattle.std.specs.List.{list_any};
 ghost use Rattle.m4quote.specs.ItemValue.{bare, view, views};
 ghost use Rattle.m4quote.specs.Spelling.{IsSpelling};
@@ -203,6 +203,38 @@ pub fn has_dnl(text: &[u8]) -> bool
     false
 }
 
+/// Returns whether a line begins at an offset.
+fn begins_line(text: &[u8], at: usize) -> bool
+    ensures { IsTrue result → (at ≡ 0) ⊎ (slice_index text.now (at - 1) ≡ 10) }
+{
+    if at == 0 {
+        return true;
+    }
+    at <= text.len() && text[at - 1] == b'\n'
+}
+
+/// Returns whether a line begins at an offset, and the text has neither a `#` nor `dnl` from there
+/// on.
+fn is_plain_from(text: &[u8], line: usize) -> bool
+    ensures { IsTrue result → specs.HasPlainEnd text.now }
+{
+    line <= text.len()
+        && begins_line(text, line)
+        && !has_hash(&text[line..text.len()])
+        && !has_dnl(&text[line..text.len()])
+}
+
+/// Returns whether the last line of a text has neither a `#` nor `dnl`.
+pub(crate) fn has_plain_end(text: &[u8]) -> bool
+    ensures { IsTrue result → specs.HasPlainEnd text.now }
+{
+    let line = match text.iter().rposition(|byte| *byte == b'\n') {
+        Some(newline) => newline.saturating_add(1),
+        None => 0,
+    };
+    is_plain_from(text, line)
+}
+
 /// Returns whether the line before an offset has nothing but spaces after its newline, which is at
 /// another offset.
 fn is_line_start(text: &[u8], start: usize, newline: usize, end: usize) -> bool
@@ -224,8 +256,8 @@ pub(crate) fn ends_in_line(text: &[u8], start: usize, end: usize) -> bool
     is_line_start(text, start, newline, end)
 }
 
-/// Returns whether a `;` is after a body between two offsets, which has neither a `#` nor `dnl`,
-/// before a third one.
+/// Returns whether a `;` is after a body between two offsets, whose last line has neither a `#` nor
+/// `dnl`, before a third one.
 pub(crate) fn ends_in_semicolon(text: &[u8], from: usize, to: usize, end: usize) -> bool
     ensures { IsTrue result → specs.IsBeforeSemicolon text.now from to end }
 {
@@ -233,8 +265,7 @@ pub(crate) fn ends_in_semicolon(text: &[u8], from: usize, to: usize, end: usize)
         && to <= end
         && end <= text.len()
         && is_semicolon(text, to, end)
-        && !has_hash(&text[from..to])
-        && !has_dnl(&text[from..to])
+        && has_plain_end(&text[from..to])
 }
 
 /// Returns the offset of the `;` and of the spaces around it that are before an offset, but not
