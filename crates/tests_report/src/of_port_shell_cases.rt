@@ -41,7 +41,10 @@ AS_CASE([$a], [b], [case $c in d) x=1;; esac]) => AS_CASE([$a], [b], [AS_CASE([$
 AC_CHECK_FUNCS([f], [case $a in b) x=1;; esac]) => AC_CHECK_FUNCS([f], [AS_CASE([$a], [b], [x=1])])
 // comments
 case $a in b) x=1 # c^J;; esac # d => AS_CASE([$a], [b], [x=1 # c^J]) # d
-case $a in b) # c^J x=1;; esac => the same
+case $a in b) # c^J x=1;; esac => AS_CASE([$a], [b], [# c^J x=1])
+case $a in b) dnl c^J x=1;; esac => AS_CASE([$a], [b], [dnl c^J x=1])
+case $a in b) x=1^J x=2 # c;; esac => the same
+case $a in b) x=1^J x=2 dnl c;; esac => the same
 case $a in # c^J b) x=1;; esac => the same
 case $a in b) x=1;; # c^J d) x=2;; esac => the same
 case $a in b) x=1;; dnl c^J d) x=2;; esac => the same

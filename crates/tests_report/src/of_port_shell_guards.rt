@@ -64,6 +64,7 @@ if :; then set -e; fi^Jtest a && x=1 => the same
 ;set -e^Jtest a && x=1 => the same
 AC_MSG_NOTICE([charset  -e, b_set -c])^Jtest a && x=1 => AC_MSG_NOTICE([charset  -e, b_set -c])^JAS_IF([test a], [x=1])
 b;set -e^Jtest a && x=1 => the same
+$1set -e^Jtest a && x=1 => the same
 // other statements
 test a && x=1 && y=2 => the same
 test a && x=1 || y=2 => the same
