@@ -17,7 +17,7 @@ have variables whose names are spelled as those of macros, conditions on several
 of LATER_NAMES; with --idioms also `==`, `-eq`, `-ne`, `exit` and `echo` without words. From number 2000000 on it may also have `!` before what
 `-a` and `-o` join; with --idioms also `+=`, `echo` with `exit`, and such an operator in double quotes, as far as docs/commands.md names them.
 From number 3000000 on it may also have blanks after the arguments of macros that have an exact idiom, more texts of NEWEST_ARGUMENTS, and
-the macros of NEWEST_NAMES.
+the macros of NEWEST_NAMES. From number 4000000 on it also defines macros without parameters, and calls them.
 A difference is allowed if a line `~ ` of macros.txt states it for a macro of the source, or one of the sentences below of docs/differences.md.
 
 With --idioms a source has also calls of the macros that have a line `& `, if Autoconf itself has them, and port is given that switch. If
@@ -715,6 +715,15 @@ NEWER = 2_000_000
 # From this number on also blanks after arguments, NEWEST_ARGUMENTS, and the macros of NEWEST_NAMES.
 NEWEST = 3_000_000
 NEWEST_NAMES = ("AC_TRY_LINK_FUNC(main)",)
+# From this number on also macros without parameters that the source defines, and that it calls on lines of their own.
+DEFINING = 4_000_000
+BODIES_OF_MACROS = (
+    "v1=plain", "\nv1=\"$v1 b\"\n", "AC_DEFINE([{D}], [1], [a text])", "\nif test \"$v1\" = yes; then\n  AC_DEFINE([{D}], 1, [a text])\nfi\n",
+    "\nAC_MSG_CHECKING(for it with ${{CC}})\nAC_CACHE_VAL(fz_cv_{D},\n[\nAC_TRY_COMPILE([#include <time.h>],[struct tm t;],\nfz_cv_{D}=yes,\n"
+    "fz_cv_{D}=no)\n])\nAC_MSG_RESULT($fz_cv_{D})\n", "\nAC_TRY_LINK([], [return foo (1, 2);], [v2=yes], [v2=\"no it is\"])\nAC_SUBST([v2])",
+    "AC_CACHE_CHECK([for {D}], [fz_cv_{D}],\n  [AC_COMPILE_IFELSE([AC_LANG_PROGRAM([], [[char c[3];]])], [fz_cv_{D}=yes], [fz_cv_{D}=no])])\nv1=$fz_cv_{D}",
+    "case $v1 in\n  yes | b) v2=\"a $level\" ;;\nesac", "dnl a note\nlevel=4 # a note\n", "AC_CHECK_HEADERS([zlib.h])\n", "v1=$1", "AC_MSG_NOTICE([v1 is $v1, it's])",
+)
 # What may be after an argument. Autoconf refuses a blank after the name of a variable, and a newline after a program is an error of its script.
 ENDS = ("", "", "", " ", "  ", "\n", "\t", " \n  ")
 OF_PROGRAMS = ("AC_PROGRAM_CHECK", "AC_PROGRAMS_CHECK", "AC_PROGRAM_PATH")
@@ -761,7 +770,7 @@ class Maker:
 
     def __init__(self, number, names=None, switches=()):
         self.at = random.Random(number)
-        self.is_later, self.is_newer, self.is_newest = number >= LATER, number >= NEWER, number >= NEWEST
+        self.is_later, self.is_newer, self.is_newest, self.is_defining = (number >= it for it in (LATER, NEWER, NEWEST, DEFINING))
         self.all_idioms = switches == IDIOMS
         rows = [*(others() * 3 if self.all_idioms else []), *exact()]
         left_out = (*NO_CALLS, *(() if self.is_later else LATER_NAMES), *(() if self.is_newest else NEWEST_NAMES))
@@ -944,6 +953,19 @@ class Maker:
             return f"test {self.test()} {self.one(['&&', '||'])} {self.simple(depth + 1)}"
         return f"AS_IF([{self.condition()}], [{self.body(depth + 1)}]{f', [{self.body(depth + 1)}]' if self.has(0.4) else ''})"
 
+    def with_macros(self, blocks):
+        """Adds definitions of macros without parameters, and calls after them, most of which are alone on a line."""
+        for _ in range(self.at.randint(1, 3)):
+            name, body = self.fresh("MY_M"), self.one(BODIES_OF_MACROS).format(D=self.fresh("D"))
+            title = self.one([name, f"[{name}]"])
+            defined = f"AC_DEFUN({title},{self.one([' ', chr(10), ''])}[{body}]){self.one(['', '', 'dnl', ' # a note'])}"
+            if self.has(0.3):
+                defined = f"dnl {name}\ndnl -----\n{defined}"
+            place = self.at.randint(0, len(blocks))
+            blocks.insert(place, defined)
+            for _ in range(self.at.choice((0, 1, 1, 2))):
+                blocks.insert(self.at.randint(place + 1, len(blocks)), self.one([name, name, f"  {name}", f"{name} # a note", f"if test -n \"$v1\"; then\n  {name}\nfi"]))
+
     def assignment(self):
         return f"{self.one(['v1', 'v2', 'level'])}={self.one(SET)}"
 
@@ -1042,6 +1064,8 @@ class Maker:
                 name = self.fresh("r")
                 blocks.append(f"{name}={self.read()}\nAC_SUBST([{name}])")
         last = self.one(LAST)
+        if self.is_defining:
+            self.with_macros(blocks)
         if self.all_idioms:
             # The stand-in for a compiler looks at no file, so such a test has an operator that stays.
             blocks = [it.replace("test -f configure", "test -L configure") for it in blocks]

@@ -1,5 +1,5 @@
 -- What one step of a pass makes.
-use Rattle.std.proofs.Common.{◌≡◌, ℕ, zero, suc, ◌≤◌, List, ◌++◌, length, Result, Ok, Err, is_ok, OnOk, if◌then◌else◌, slice_range, true, ◌∷◌, sym, subst, ap, ◌∙◌, map, get_or, ◌<◌, ◌+◌, [], append-nil, Option, Some, None, arith}
+use Rattle.std.proofs.Common.{◌≡◌, ℕ, zero, suc, ◌≤◌, List, ◌++◌, length, Result, Ok, Err, is_ok, OnOk, if◌then◌else◌, slice_range, true, false, ◌∷◌, sym, subst, ap, ◌∙◌, map, get_or, ◌<◌, ◌+◌, [], append-nil, Option, Some, None, arith}
 use Rattle.std.specs.Prelude.{Contains, IfSome, codes, slice_get}
 use Rattle.std.specs.List.{list_all}
 use Rattle.std.proofs.lemmas.List.{get_or-map, length-map}
@@ -10,7 +10,9 @@ use Rattle.ac_calls.specs.Calls.{MacroCall, calls_in, macro_call_of}
 use Rattle.port_calls.specs.Rewritten.{IsPass, IsRewritten, HasToGo, IsAround, DeclaresOption, IsOldHelp, JoinsWords, EndsItsLine, AreSpaces, IsBare, IsBareAlone, in_brackets, DoesArgument, NamesVariable, SetsGnu, AreMessages, messages_first}
 use Rattle.port_calls.specs.Rewritten as specs
 use Rattle.port_calls.specs.Making.{IsMade}
-use Rattle.port_calls.specs.Put.{MayPut, is_space, difference, below}
+use Rattle.port_calls.specs.Defined.{Defines, HasParameter, IsNameAt, IsUnused}
+use Rattle.port_idioms.specs.Filled.{text_of}
+use Rattle.port_calls.specs.Put.{MayPut, arg_text, is_space, difference, below}
 use Rattle.lint_macros.specs.Entries.{entry_of}
 use Rattle.lint_macros.specs.declared.text.TheConstants.{TABLE}
 use Rattle.port_idioms.specs.Rows.{put_by, Differs}
@@ -30,6 +32,8 @@ pass_bound idioms text at out (specs.IsPass.named c before is names to) = to
 pass_bound idioms text at out (specs.IsPass.checked c put before is all compiler sets to) = to
 pass_bound idioms text at out (specs.IsPass.turned c start end before is all output around messages) = omega arith
 pass_bound idioms text at out (specs.IsPass.made c put before is all made to) = to
+pass_bound idioms text at out (specs.IsPass.written d name body before defined defines after here to) = to
+pass_bound idioms text at out (specs.IsPass.forgotten d name body before defined defines unused to) = to
 
 -- What follows from what an `Ok` says holds of the `Ok`.
 pub on_ok : {T E P Q : Type 0} → (P → Q) → (r : Result T E) → OnOk r P → OnOk r Q
@@ -94,6 +98,27 @@ pub made_step : (idioms : Idioms) (text : List ℕ) (at : ℕ) (out : List ℕ) 
 made_step idioms text at out c put new_at new before is all made from order to (at_is, new_is) =
     let copied = specs.IsPass.copied c.start before from (omega (arith, order, to)) in
     subst (λ a. IsPass idioms text a new) (sym at_is) (subst (IsPass idioms text c.end) (sym new_is) (specs.IsPass.made c put copied is all made to))
+
+pub write_step : (idioms : Idioms) (text : List ℕ) (read : ℕ) (out : List ℕ) (d : MacroCall) (name body : List ℕ) (at new_at : ℕ) (new : List ℕ)
+    → IsPass idioms text read out → Contains (calls_in text) d → Defines text d name body → d.end ≤ at → IsNameAt text at name → read ≤ at → at + length name ≤ length text
+    → (new_at ≡ at + length name) × (new ≡ (out ++ slice_range text read at) ++ body) → IsPass idioms text new_at new
+write_step idioms text read out d name body at new_at new before defined defines after here from to (at_is, new_is) =
+    let copied = specs.IsPass.copied at before from (omega (arith, to)) in
+    subst (λ a. IsPass idioms text a new) (sym at_is) (subst (IsPass idioms text (at + length name)) (sym new_is) (specs.IsPass.written d name body copied defined defines after here to))
+
+pub forget_step : (idioms : Idioms) (text : List ℕ) (at : ℕ) (out : List ℕ) (d : MacroCall) (name body : List ℕ) (new_at : ℕ) (new : List ℕ)
+    → IsPass idioms text at out → Contains (calls_in text) d → Defines text d name body → IsUnused text d.end name → at ≤ d.start → d.start ≤ d.end → d.end ≤ length text
+    → (new_at ≡ d.end) × (new ≡ (out ++ slice_range text at d.start) ++ []) → IsPass idioms text new_at new
+forget_step idioms text at out d name body new_at new before is defines unused from order to (at_is, new_is) =
+    let copied = specs.IsPass.copied d.start before from (omega (arith, order, to)) in
+    subst (λ a. IsPass idioms text a new) (sym at_is)
+    (subst (IsPass idioms text d.end) (sym (new_is ∙ append-nil (out ++ slice_range text at d.start))) (specs.IsPass.forgotten d name body copied is defines unused to))
+
+-- What a definition is made of.
+pub defines : (text : List ℕ) (d : MacroCall) (title what : Extent) (name body : List ℕ) → slice_range text d.start d.name_end ≡ codes "AC_DEFUN" → slice_get d.args 0 ≡ Some title
+    → slice_get d.args 1 ≡ Some what → length d.args ≡ 2 → name ≡ text_of (Some (arg_text text title)) → body ≡ text_of (Some (arg_text text what)) → (HasParameter body → ⊥) → Defines text d name body
+defines text d title what name body macro first second two name_is body_is plain =
+    record { macro = macro; title = title; first = first; what = what; second = second; two = two; name_is = name_is; body_is = body_is; plain = plain }
 
 -- What is put after AC_PROG_CC sets GCC.
 pub sets_gnu : (put it said indent : List ℕ) → put_by (entry_of (codes "GCC") TABLE.now) ≡ Some it → Differs (codes "GCC") 0 said → list_all is_space indent ≡ true

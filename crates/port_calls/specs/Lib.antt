@@ -1,3 +1,4 @@
 pub mod Making
 pub mod Put
 pub mod Rewritten
+pub mod Defined

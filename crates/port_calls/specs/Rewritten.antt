@@ -11,6 +11,7 @@ use Rattle.lint_macros.specs.Entries.{entry_of}
 use Rattle.lint_macros.specs.declared.text.TheConstants.{TABLE}
 use Rattle.port_idioms.specs.Rows.{put_by, Differs}
 use Rattle.port_idioms.specs.declared.idioms.Idioms.TheVariants.{Exact, All}
+use Rattle.port_calls.specs.Defined.{Defines, IsNameAt, IsUnused}
 use Rattle.port_calls.specs.Making.{IsMade, LacksVersion, is_name_byte}
 use Rattle.port_calls.specs.Put.{MayPut, arg_text, is_space, difference, below}
 use Rattle.port_idioms.specs.declared.idioms.Idioms.{Idioms}
@@ -235,11 +236,12 @@ before_output = codes "dnl acrun: in place of what is printed after AC_OUTPUT: i
 abbrev pub messages_first : List ℕ → List ℕ → List ℕ
 messages_first messages call = ((((before_output ++ 10 ∷ []) ++ messages) ++ 10 ∷ []) ++ call) ++ 10 ∷ []
 
--- One pass over the calls of a text has read so much of it, and written this. Everything is copied, with ten exceptions: a call that has
+-- One pass over the calls of a text has read so much of it, and written this. Everything is copied, with twelve exceptions: a call that has
 -- to go, with blanks around it, may be replaced by what may be put in its place; in a call that declares an option the old name of
 -- AS_HELP_STRING may become the name; a backslash that joins two lines of a list of words may go; after a call that ends its line a newline
 -- and an indent may be put in place of the spaces; an argument of a macro that acrun reads, which has no brackets outside the calls in it,
--- may get a pair; so may an argument of another macro that does what it says, and the name of a variable that is spelled as a macro; and if all idioms are wanted, the lines that set GCC may be put
+-- may get a pair; so may an argument of another macro that does what it says, and the name of a variable that is spelled as a macro; in the place of the name
+-- of a macro without parameters that the source defines before may be put its body, and the definition of one whose name is nowhere after it may go; and if all idioms are wanted, the lines that set GCC may be put
 -- after AC_PROG_CC, messages after AC_OUTPUT may be put before it, if nothing else is there, and in the place of AC_INIT and of AC_EGREP_CPP may be put what
 -- is made of the text of another call or of a program.
 pub data IsPass (idioms : Idioms) (text : List ℕ) : ℕ → List ℕ → Type 0 where
@@ -264,6 +266,10 @@ pub data IsPass (idioms : Idioms) (text : List ℕ) : ℕ → List ℕ → Type 
       → IsPass idioms text (length text) (out ++ messages_first (slice_range text start end) (slice_range text c.start c.end))
   made : {out : List ℕ} (c : MacroCall) (put : List ℕ) → IsPass idioms text c.start out → Contains (calls_in text) c → idioms ≡ All → IsMade text c put → c.end ≤ length text
       → IsPass idioms text c.end (out ++ put)
+  written : {at : ℕ} {out : List ℕ} (d : MacroCall) (name body : List ℕ) → IsPass idioms text at out → Contains (calls_in text) d → Defines text d name body → d.end ≤ at → IsNameAt text at name
+      → at + length name ≤ length text → IsPass idioms text (at + length name) (out ++ body)
+  forgotten : {out : List ℕ} (d : MacroCall) (name body : List ℕ) → IsPass idioms text d.start out → Contains (calls_in text) d → Defines text d name body → IsUnused text d.end name
+      → d.end ≤ length text → IsPass idioms text d.end out
 
 -- The one text becomes the other by passes over its calls, each of which reads what the one before it wrote.
 pub data IsRewritten (idioms : Idioms) : List ℕ → List ℕ → Type 0 where

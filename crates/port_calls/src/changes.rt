@@ -11,6 +11,7 @@ use crate::around::{
     space_len,
 };
 use crate::bare::bare_in;
+use crate::definitions::{Written, written_in};
 use crate::gnu::compiler_in;
 use crate::names::defined_in;
 use crate::noted::noted_change;
@@ -53,6 +54,8 @@ pub(crate) struct Known {
     after_compiler: Option<usize>,
     /// Where AC_INIT is to get a name and a version, if it is.
     pub at_title: Option<TitleSpot>,
+    /// The definitions of macros that are written out.
+    pub written: Written,
 }
 
 /// Marks an offset.
@@ -103,6 +106,7 @@ pub(crate) fn known_of(alloc: Global, text: &[u8], calls: &[CallAt]) -> Result<K
     let at_compiler = compiler_in(text, calls);
     let after_compiler = after_compiler(text, calls);
     let at_title = title_in(text, calls);
+    let written = written_in(alloc, &index, text, calls, &defined, after_compiler)?;
     Ok(Known {
         index,
         borders,
@@ -112,6 +116,7 @@ pub(crate) fn known_of(alloc: Global, text: &[u8], calls: &[CallAt]) -> Result<K
         has_compiler,
         after_compiler,
         at_title,
+        written,
     })
 }
 

@@ -5,7 +5,8 @@
 //! comment that says in what. What a call says to readers alone becomes a comment. The old name of
 //! AS_HELP_STRING is replaced too, a backslash that joins two lines of a list of words goes, a
 //! statement after AC_DEFINE gets a line of its own, and an argument with a compound statement of a
-//! shell gets brackets, and so does the name of a variable that is spelled as a macro. If all
+//! shell gets brackets, and so does the name of a variable that is spelled as a macro. A macro
+//! without parameters that the source defines is written out where it is called. If all
 //! idioms are wanted, GCC is set after AC_PROG_CC, messages after AC_OUTPUT come before it, AC_INIT
 //! gets the name and the version of AM_INIT_AUTOMAKE, and AC_EGREP_CPP of a word in a condition
 //! becomes AC_PREPROC_IFELSE. All else is copied to the byte.
@@ -23,7 +24,7 @@
 //! call is, and what is before and after it), `rows` and `types` (its name in the table), `changes`,
 //! `readers`, `keeping`, `noted` and `noting` (what a call becomes), `making`, `package` and
 //! `seeking` (what it becomes by another call or by a program), `passing` (one pass over the
-//! calls) with `joints`, `lines`, `brackets`, `names`, `gnu` and
+//! calls) with `joints`, `definitions`, `lines`, `brackets`, `names`, `gnu` and
 //! `output`, and then `passes`. The time of a pass is in
 //! proportion to the length of the text. A call fails only if memory runs out. "own" marks a rule
 //! that no manual gives.
@@ -33,6 +34,7 @@ mod around;
 mod bare;
 mod brackets;
 mod changes;
+mod definitions;
 mod gnu;
 mod joints;
 mod keeping;

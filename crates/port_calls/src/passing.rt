@@ -8,6 +8,7 @@ ghost use Rattle.port_calls.specs.Rewritten as specs;
 use crate::around::{are_blank, blank_len};
 use crate::brackets::pass_arguments;
 use crate::changes::{Change, Known, change_of, known_of};
+use crate::definitions::{pass_defined, pass_spots};
 use crate::gnu::pass_compiler;
 use crate::joints::{first_argument, pass_words};
 use crate::lines::pass_line;
@@ -281,9 +282,10 @@ fn pass_whole(
     pass_line(alloc, idioms, text, spot, call, pass)
 }
 
-/// Drops backslashes of a list of words, puts arguments in brackets, or otherwise replaces the call
-/// if it has to go. AC_INIT may get the name of AM_INIT_AUTOMAKE. After AC_PROG_CC GCC may be set,
-/// and what is after AC_OUTPUT may come before it.
+/// Drops backslashes of a list of words, leaves out a definition that isn't needed, puts arguments
+/// in brackets, or otherwise replaces the call if it has to go. AC_INIT may get the name of
+/// AM_INIT_AUTOMAKE. After AC_PROG_CC GCC may be set, and what is after AC_OUTPUT may come before
+/// it.
 fn pass_call(
     alloc: Global,
     idioms: Idioms,
@@ -301,6 +303,7 @@ fn pass_call(
     ensures { OnOk result (specs.IsPass idioms text.now pass.new.at pass.new.out.items) }
 {
     pass_words(idioms, text, call, pass)?;
+    pass_defined(idioms, known, text, first, call, pass)?;
     pass_title(alloc, idioms, known, text, calls, spot, call, pass)?;
     pass_search(alloc, idioms, known, text, spot, call, pass)?;
     pass_whole(alloc, idioms, known, text, spot, call, pass)?;
@@ -330,6 +333,27 @@ fn pass_calls(
     Ok(())
 }
 
+/// Writes out macros that the source defines, or, if there is none to be written out, goes over the
+/// calls of a text.
+fn pass_text(
+    alloc: Global,
+    idioms: Idioms,
+    known: &Known,
+    text: &[u8],
+    calls: &[CallAt],
+    pass: &mut Pass,
+) -> Result<(), AllocError>
+    requires calls { map macro_call_of calls.now ≡ calls_in text.now }
+    requires begun { specs.IsPass idioms text.now pass.old.at pass.old.out.items }
+    ensures { OnOk result (specs.IsPass idioms text.now pass.new.at pass.new.out.items) }
+{
+    pass_spots(idioms, text, calls, known.written.uses.as_slice(), pass)?;
+    if pass.has_changed {
+        return Ok(());
+    }
+    pass_calls(alloc, idioms, known, text, calls, pass)
+}
+
 /// Copies the rest of a text.
 fn finish(idioms: Idioms, text: &[u8], pass: &mut Pass) -> Result<(), AllocError>
     requires begun { specs.IsPass idioms text.now pass.old.at pass.old.out.items }
@@ -355,7 +379,7 @@ pub(crate) fn replaced_once(
         has_changed: false,
     };
     let known = known_of(alloc, text, calls.as_slice())?;
-    pass_calls(alloc, idioms, &known, text, calls.as_slice(), &mut pass)?;
+    pass_text(alloc, idioms, &known, text, calls.as_slice(), &mut pass)?;
     finish(idioms, text, &mut pass)?;
     let Pass {
         out,

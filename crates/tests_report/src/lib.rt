@@ -30,6 +30,8 @@ mod of_lint_text;
 #[cfg(test)]
 mod of_lint_warnings;
 #[cfg(test)]
+mod of_port_calls;
+#[cfg(test)]
 mod of_port_shell;
 #[cfg(test)]
 mod of_port_shell_cases;
