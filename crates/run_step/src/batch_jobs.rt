@@ -1,6 +1,6 @@
 //! Which entries of a batch ask for a child, and their jobs.
 
-ghost use Rattle.std.specs.Prelude.{◌≡◌, ◌≤◌, ◌||◌, [], IfOk, length};
+ghost use Rattle.std.specs.Prelude.{◌≡◌, ◌≤◌, ◌||◌, [], true, IfOk, length};
 ghost use Rattle.std.specs.Prelude.{◌++◌, OnOk, bytes_eq, option_to_list};
 ghost use Rattle.meaning.specs.Batches.{is_known};
 ghost use Rattle.form_rows.specs.Batches.{listed_form};
