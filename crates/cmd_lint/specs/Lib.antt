@@ -1,3 +1,4 @@
+pub mod Colours
 pub mod Differing
 pub mod Missing
 pub mod Refusals

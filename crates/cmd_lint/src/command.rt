@@ -4,6 +4,7 @@ ghost use Rattle.std.specs.Prelude.{◌≡◌, ◌≢◌, ◌⊎◌, ◌≤◌, 
 ghost use Rattle.std.specs.List.{list_any, filter};
 ghost use Rattle.cmd_call.specs.Calls as calls;
 ghost use Rattle.cmd_call.specs.Lines.{AreSaid, IsTold, error_line};
+ghost use Rattle.cmd_lint.specs.Colours as colours;
 ghost use Rattle.cmd_lint.specs.Refusals.{AreSaidOf, IsSaidOf};
 ghost use Rattle.cmd_lint.specs.Status as specs;
 
@@ -261,13 +262,17 @@ pub fn run_lint<D: Disk, R: Read, W: Write, E: Hears>(
     lint_all(alloc, disk, form, words, input, output, errors)
 }
 
-/// Returns whether the entry is a NO_COLOR that isn't empty.
-fn forbids_colour(entry: &(Bytes, Bytes)) -> bool {
-    entry.0.as_slice() == b"NO_COLOR".as_slice() && !entry.1.as_slice().is_empty()
+/// Returns whether an entry of the environment is a NO_COLOR that isn't empty.
+fn forbids_colour(name: &[u8], value: &[u8]) -> bool
+    ensures { result ≡ colours.forbids_colour (name.now, value.now) }
+{
+    name == b"NO_COLOR".as_slice() && !value.is_empty()
 }
 
 /// Returns whether what is printed may have colours: standard output is a terminal, and the
 /// environment has no NO_COLOR, or an empty one (no-color.org).
-pub fn may_colour(env: &[(Bytes, Bytes)], is_terminal: bool) -> bool {
-    is_terminal && !env.iter().any(forbids_colour)
+pub fn may_colour(env: &[(Bytes, Bytes)], is_terminal: bool) -> bool
+    ensures { result ≡ colours.may_colour env.now is_terminal }
+{
+    is_terminal && !env.iter().any(|entry| forbids_colour(entry.0.as_slice(), entry.1.as_slice()))
 }

@@ -8,7 +8,7 @@ use crate::noting::draws;
 use ac_calls::calls_of;
 use deftable::Bytes;
 use lint_errors::errors_of;
-use lint_text::{before, first_name, from, is_word_byte, part};
+use lint_text::{after_blanks, before, first_name, from, is_word_byte, part};
 use port_compounds::{CaseCut, GuardCut, IfBranch, IfCut, case_parts, guard_parts, if_parts};
 use port_joints::joined_texts;
 use std::alloc::{AllocError, Global};
@@ -339,11 +339,92 @@ fn reason_of_kept(
     }
 }
 
+// ---- comments of port
+
+/// What a comment of `acrun port` begins with.
+const COMMENT: &[u8] = b"dnl acrun: ";
+
+/// A text without comments of `acrun port`, and where they were.
+#[derive(Drop)]
+struct Bare {
+    text: Vec<u8>,
+    /// Offsets of the text before which comments were, in order, and how many bytes all comments
+    /// before each have.
+    cuts: Vec<(usize, usize)>,
+}
+
+/// Returns the length of the line that begins at an offset, with its newline.
+fn line_len(text: &[u8], at: usize) -> usize {
+    let rest = from(text, at);
+    match rest.iter().position(|byte| *byte == b'\n') {
+        Some(len) => len.saturating_add(1),
+        None => rest.len(),
+    }
+}
+
+/// Returns whether the line that begins at an offset is a comment of `acrun port`.
+fn is_comment_line(text: &[u8], at: usize) -> bool {
+    after_blanks(from(text, at)).starts_with(COMMENT)
+}
+
+/// Adds that a comment of so many bytes was before the end of a text.
+fn add_cut(len: usize, bare: &mut Bare) -> Result<(), AllocError> {
+    let at = bare.text.len();
+    let (last, removed) = bare.cuts.pop().unwrap_or((0, 0));
+    if last != at {
+        bare.cuts.push((last, removed))?;
+    }
+    bare.cuts.push((at, removed.saturating_add(len)))?;
+    Ok(())
+}
+
+/// Returns a text without comments of `acrun port`. Autoconf and acrun read the same in it.
+fn without_comments(alloc: Global, text: &[u8]) -> Result<Bare, AllocError> {
+    let mut bare = Bare {
+        text: Vec::new(alloc),
+        cuts: Vec::new(alloc),
+    };
+    let mut at: usize = 0;
+    for _ in 0..text.len() {
+        let len = line_len(text, at);
+        if is_comment_line(text, at) {
+            add_cut(len, &mut bare)?;
+        } else {
+            bare.text
+                .extend_from_slice(part(text, at, at.saturating_add(len)))?;
+        }
+        at = at.saturating_add(len);
+        if at >= text.len() {
+            break;
+        }
+    }
+    Ok(bare)
+}
+
+/// Returns the offset in the whole text of an offset in the text without comments.
+fn whole_offset(cuts: &[(usize, usize)], at: usize) -> usize {
+    let removed = match cuts.binary_search_by(|cut| cut.0.cmp(&at)) {
+        Ok(index) => cuts.get(index),
+        Err(0) => None,
+        Err(index) => cuts.get(index.saturating_sub(1)),
+    };
+    at.saturating_add(removed.map_or(0, |cut| cut.1))
+}
+
+// ---- the whole
+
 /// Appends a statement that stays.
-fn push_staying(cut: &Cut, reason: Reason, out: &mut Vec<Staying>) -> Result<(), AllocError> {
+fn push_staying(
+    bare: &Bare,
+    cut: &Cut,
+    reason: Reason,
+    out: &mut Vec<Staying>,
+) -> Result<(), AllocError> {
+    let cuts = bare.cuts.as_slice();
+    let last = cut.end().saturating_sub(1);
     out.push(Staying {
-        start: cut.start(),
-        end: cut.end(),
+        start: whole_offset(cuts, cut.start()),
+        end: whole_offset(cuts, last).saturating_add(1),
         reason,
     })?;
     Ok(())
@@ -352,25 +433,27 @@ fn push_staying(cut: &Cut, reason: Reason, out: &mut Vec<Staying>) -> Result<(),
 /// Returns the statements of a source that stay: those for which acrun would not accept the call,
 /// those in which a call makes Autoconf check something before it, and each `if` and `case` that is
 /// not rewritten whatever its parts are. They are in order of their offsets, and one comes before
-/// those in it.
+/// those in it. Comments that `acrun port` wrote count for nothing.
 ///
 /// # Errors
 ///
 /// Fails only if memory runs out.
 pub fn kept_statements(alloc: Global, text: &[u8]) -> Result<Vec<Staying>, AllocError> {
+    let bare = without_comments(alloc, text)?;
+    let text = bare.text.as_slice();
     let calls = calls_of(alloc, text)?;
     let drawing = drawing_in(alloc, text, calls.as_slice())?;
     let found = statements_in(alloc, text, calls.as_slice())?;
     let mut out = Vec::new(alloc);
     for cut in &found.cuts {
         if let Some(reason) = reason_of(alloc, drawing.as_slice(), text, cut)? {
-            push_staying(cut, reason, &mut out)?;
+            push_staying(&bare, cut, reason, &mut out)?;
         }
     }
     let mut left = text.len().saturating_mul(OFTEN).saturating_add(LEAST);
     for kept in &found.kept {
         let reason = reason_of_kept(alloc, text, kept, &mut left)?;
-        push_staying(&kept.cut, reason, &mut out)?;
+        push_staying(&bare, &kept.cut, reason, &mut out)?;
     }
     out.sort_by_key(|staying| staying.start)?;
     Ok(out)

@@ -6,6 +6,7 @@ use Rattle.meaning.specs.State.{State}
 use Rattle.meaning.specs.Asking.{Attempt}
 use Rattle.meaning.specs.Tests.{Row, by_attempts}
 use Rattle.form_rows.specs.Forms.{FormTest, Table, form_attempts, form_name, form_used, may_start, value_in}
+use Rattle.test_forms.specs.declared.form.TestForm.{TestForm}
 use Rattle.run_forms.specs.declared.course.FormCourse.{FormCourse}
 use Rattle.run_forms.specs.declared.opening.Opening.{Opening}
 
@@ -13,9 +14,13 @@ use Rattle.run_forms.specs.declared.opening.Opening.{Opening}
 abbrev pub course_of : FormTest → State → FormCourse
 course_of t st = record { form = t.form; given = value_in t.given st; name = form_name t.form }
 
+-- The course of a form without the value that the test was given. (own)
+abbrev pub bare_course : TestForm → FormCourse
+bare_course form = record { form = form; given = None; name = form_name form }
+
 -- The course of a test whose name is set: it needs none of the values that attempts are made of. (own)
 abbrev pub bare_of : FormTest → FormCourse
-bare_of t = record { form = t.form; given = None; name = form_name t.form }
+bare_of t = bare_course t.form
 
 -- The course of a test, by the value of its name. (own)
 abbrev pub course_by : Option (List ℕ) → FormTest → State → FormCourse

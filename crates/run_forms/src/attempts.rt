@@ -1,10 +1,10 @@
 //! Attempts, each made when its turn comes (Autoconf's manual, "Generic Headers" to "Library
 //! Files").
 
-ghost use Rattle.std.specs.Prelude.{◌≡◌, ◌++◌, IfOk, map, unwrap_or, [], codes};
-ghost use Rattle.form_rows.specs.Batches.{first_job, test_job};
+ghost use Rattle.std.specs.Prelude.{◌≡◌, IfOk, unwrap_or, []};
+ghost use Rattle.form_rows.specs.Batches.{test_job};
 ghost use Rattle.form_rows.specs.Forms.{after_in, attempt_of_try, includes_in, libs_with, snippet_job};
-ghost use Rattle.run_forms.specs.Attempts.{IsAt, IsAttempt, IsMade};
+ghost use Rattle.run_forms.specs.Attempts.{IsAttempt, IsMade};
 
 use crate::course::FormCourse;
 use crate::opening::value_in;
@@ -133,28 +133,9 @@ fn made(
     })
 }
 
-/// Makes the attempt of a form at this place, if there is one.
-#[tactic(auto, using(crate::proofs::Places::get_there, crate::proofs::Places::get_past))]
-fn form_at(
-    alloc: Global,
-    store: &Store,
-    form: &TestForm,
-    given: &Option<Bytes>,
-    tries: &[TryForm],
-    place: usize,
-) -> Result<Option<Attempt>, AllocError>
-    ensures { IfOk result (
-        IsAt (map (attempt_of_try form.now.entry given.now store.now.vars store.now.defs) tries.now) place) }
-{
-    if place >= tries.len() {
-        return Ok(None);
-    }
-    let attempt = made(alloc, store, form, given, &tries[place])?;
-    Ok(Some(attempt))
-}
-
 /// Makes the attempt of a test at this place, from 0, if there is one. The attempt has no job if
 /// there is no compiler.
+#[tactic(auto, using(crate::proofs::Places::none_there))]
 pub fn attempt_at(
     alloc: Global,
     store: &Store,
@@ -164,36 +145,16 @@ pub fn attempt_at(
     ensures { IfOk result (IsAttempt course.now store.now place) }
 {
     let form = &course.form;
-    form_at(
-        alloc,
-        store,
-        form,
-        &course.given,
-        form.tries.as_slice(),
-        place,
-    )
-}
-
-/// Makes the job of the first of these tries, if there is one.
-fn first_job(
-    alloc: Global,
-    store: &Store,
-    tries: &[TryForm],
-    entry: &[u8],
-    given: &Option<Bytes>,
-    number: u64,
-) -> Result<Option<Job>, AllocError>
-    ensures { IfOk result (λ j.
-        j ≡ first_job tries.now entry.now given.now number store.now.vars store.now.defs) }
-{
-    match tries.first() {
-        Some(first) => snippet_job(alloc, store, &first.snippet, entry, given, number),
-        None => Ok(None),
-    }
+    let Some(from) = form.tries.get(alloc, place)? else {
+        return Ok(None);
+    };
+    let attempt = made(alloc, store, form, &course.given, &from)?;
+    Ok(Some(attempt))
 }
 
 /// Returns the job of a test's first try, with its number, or `None` if there is no compiler. The
 /// test was given these includes or other libraries.
+#[tactic(auto, using(crate::proofs::Places::first_none, crate::proofs::Places::first_some))]
 pub fn test_job(
     alloc: Global,
     store: &Store,
@@ -204,11 +165,14 @@ pub fn test_job(
     ensures { IfOk result (λ j.
         j ≡ test_job (record { form = form.now; given = given.now }) number store.now) }
 {
+    let Some(first) = form.tries.get(alloc, 0)? else {
+        return Ok(None);
+    };
     let given = value_in(alloc, store, given)?;
-    first_job(
+    snippet_job(
         alloc,
         store,
-        form.tries.as_slice(),
+        &first.snippet,
         form.entry.as_slice(),
         &given,
         number,

@@ -31,8 +31,8 @@ mod values;
 pub use attempts::{Attempt, attempt_at, test_job};
 pub use course::FormCourse;
 pub use ends::{begin_form, end_form, end_heard, end_known};
-pub use loan::Loan;
-pub use opening::{Opening, open_form};
+pub use loan::{Loan, lent};
+pub use opening::{Opening, bare_course, open_form, value_in};
 pub use values::{is_found, use_value};
 
 /// A course has the row of its form, as many attempts as the form has tries, and leaves its name

@@ -20,7 +20,7 @@ impl<'a> Model for Loan<'a> {
 }
 
 /// Lends a text, if there is one.
-fn lent(text: &Option<Bytes>) -> Option<&[u8]>
+pub fn lent(text: &Option<Bytes>) -> Option<&[u8]>
     ensures { option_map (λ t. t.now) result ≡ text.now }
 {
     match text {

@@ -2,7 +2,7 @@
 
 ghost use Rattle.std.specs.Prelude.{◌≡◌, IfOk};
 ghost use Rattle.form_rows.specs.Forms.{form_name, value_in};
-ghost use Rattle.run_forms.specs.Courses.{Opens, value_unless};
+ghost use Rattle.run_forms.specs.Courses.{Opens, bare_course, value_unless};
 
 use crate::course::FormCourse;
 use deftable::Bytes;
@@ -29,7 +29,7 @@ fn form_name(alloc: Global, form: &TestForm) -> Result<Bytes, AllocError>
 }
 
 /// Returns the value of a text, if there is one.
-pub(crate) fn value_in(
+pub fn value_in(
     alloc: Global,
     store: &Store,
     text: &Option<HereText>,
@@ -57,6 +57,18 @@ fn value_unless(
         return Ok(None);
     }
     value_in(alloc, store, text)
+}
+
+/// Returns the course of a test without the value that it was given.
+pub fn bare_course(alloc: Global, form: TestForm) -> Result<FormCourse, AllocError>
+    ensures { IfOk result (λ c. c ≡ bare_course form) }
+{
+    let name = form_name(alloc, &form)?;
+    Ok(FormCourse {
+        form,
+        given: None,
+        name,
+    })
 }
 
 /// Opens the test of a form, which was given these includes or other libraries.

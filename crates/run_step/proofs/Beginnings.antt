@@ -1,52 +1,60 @@
 -- The beginning of a batch, from what its parts give.
 use Rattle.std.proofs.Common.{◌≡◌, ℕ, ◌<◌, ◌≤◌, Vec, Global, List, [], length, sym, ap, ◌∙◌, subst, arith}
+use Rattle.std.specs.Prelude.{Option}
 use Rattle.crew_jobs.specs.declared.job.Job.{Job}
+use Rattle.shellword.specs.declared.part.Part.{Part}
+use Rattle.ac_tree.specs.declared.listed.Listed.{Listed}
+use Rattle.meaning.specs.Batches.{batched}
 use Rattle.meaning.specs.State.{State, Run, Asks, then_run}
-use Rattle.meaning.specs.Batches.{Batch, asking, jobs_in, batched}
 use Rattle.plan.specs.Broken.{guarded_all}
 use Rattle.run_test.specs.Waits.{Awaits, Suits}
 use Rattle.run_test.specs.Batched.{after_entries, at_once, batch_end, is_refused}
 use Rattle.run_test.specs.declared.wait.Waiting as waiting
 use Rattle.run_test.specs.declared.wait.Wait.TheVariants as wait
-use Rattle.run_step.specs.Waiting.{fronted, jobs_of, waiting_for}
-use Rattle.run_step.proofs.Committing.{at_once_is, batch_asks, batch_now, few_jobs, few_waiting, jobs_are}
+use Rattle.run_step.specs.BatchRuns.{batch_of}
+use Rattle.run_step.specs.Waiting.{forms_in, fronted, jobs_of, waiting_for}
+use Rattle.run_step.proofs.Committing.{at_once_is, batch_asks, batch_now, entries_are, few_jobs, few_waiting, forms_length, jobs_are, jobs_for, list_is}
 
--- The tests and the jobs of a batch.
-pub record Made (batch : Batch) (entries : List waiting.Waiting) (jobs : List Job) (st : State) : Type 0 where
-  pub tests : entries ≡ waiting_for batch.listed [] batch.entries st
-  pub jobs_is : jobs ≡ jobs_in (asking batch 1 [] batch.entries st)
+-- The tests and the jobs of a list.
+pub record Made (what : Listed) (list : List (List ℕ)) (given : Option (List Part)) (entries : List waiting.Waiting) (jobs : List Job) (st : State) : Type 0 where
+  pub tests : entries ≡ waiting_for [] (forms_in what list) st
+  pub jobs_is : jobs ≡ jobs_for given (forms_in what list) st
 
-pub made : (batch : Batch) (list : List (List ℕ)) (entries view : List waiting.Waiting) (jobs : List Job) (st : State) → list ≡ batch.entries → entries ≡ waiting_for batch.listed [] list st → view ≡ entries
-    → jobs ≡ jobs_of batch.listed batch.includes 1 view st → Made batch entries jobs st
-made batch list entries view jobs st l e v j =
-    let tests = e ∙ ap (λ x. waiting_for batch.listed [] x st) l in
-    record { tests = tests; jobs_is = j ∙ ap (λ x. jobs_of batch.listed batch.includes 1 x st) (v ∙ tests) ∙ jobs_are batch 1 [] batch.entries st }
+pub made : (what : Listed) (whole list : List (List ℕ)) (given : Option (List Part)) (entries view : List waiting.Waiting) (jobs : List Job) (st : State) → list ≡ whole → entries ≡ waiting_for [] (forms_in what list) st → view ≡ entries
+    → jobs ≡ jobs_of given 1 view st → Made what whole given entries jobs st
+made what whole list given entries view jobs st l e v j =
+    let tests = e ∙ ap (λ x. waiting_for [] (forms_in what x) st) l in
+    record { tests = tests; jobs_is = j ∙ ap (λ x. jobs_of given 1 x st) (v ∙ tests) ∙ jobs_are given 1 [] (forms_in what whole) st }
 
-pub begins_now : (batch : Batch) (entries view : List waiting.Waiting) (jobs : List Job) (st : State) (tests : List (List ℕ)) (next : State → Run) → Made batch entries jobs st → view ≡ entries → jobs ≡ []
-    → fronted tests view next st ≡ then_run (guarded_all tests (batched batch st)) next
-begins_now batch entries view jobs st tests next m v none =
-    ap (λ l. fronted tests l next st) (v ∙ m.tests) ∙ sym (batch_now batch tests st next (sym m.jobs_is ∙ none))
+pub begins_now : (what : Listed) (list : List (List ℕ)) (given : Option (List Part)) (entries view : List waiting.Waiting) (jobs : List Job) (st : State) (tests : List (List ℕ)) (next : State → Run) → Made what list given entries jobs st → view ≡ entries → jobs ≡ []
+    → fronted tests view next st ≡ then_run (guarded_all tests (batched (batch_of what list given) st)) next
+begins_now what list given entries view jobs st tests next m v none =
+    ap (λ l. fronted tests l next st) (v ∙ m.tests) ∙ sym (batch_now given (forms_in what list) tests st next (entries_are what list) (sym m.jobs_is ∙ none))
+    ∙ sym (ap (λ r. then_run (guarded_all tests r) next) (list_is what list given st))
 
-some_jobs : (batch : Batch) (entries : List waiting.Waiting) (jobs : List Job) (st : State) → Made batch entries jobs st → 0 < length jobs → 0 < length (jobs_in (asking batch 1 [] batch.entries st))
-some_jobs batch entries jobs st m some = subst (λ l. 0 < length l) m.jobs_is some
+some_jobs : (what : Listed) (list : List (List ℕ)) (given : Option (List Part)) (entries : List waiting.Waiting) (jobs : List Job) (st : State) → Made what list given entries jobs st → 0 < length jobs → 0 < length (jobs_for given (forms_in what list) st)
+some_jobs what list given entries jobs st m some = subst (λ l. 0 < length l) m.jobs_is some
 
-pub begins_asking : (batch : Batch) (entries : List waiting.Waiting) (jobs : List Job) (st : State) (tests : List (List ℕ)) (next : State → Run) → Made batch entries jobs st → 0 < length jobs
-    → then_run (guarded_all tests (batched batch st)) next ≡ Asks jobs (λ replies. batch_end tests (is_refused entries replies) next (after_entries entries jobs replies st))
-begins_asking batch entries jobs st tests next m some =
-    batch_asks batch tests st next (some_jobs batch entries jobs st m some)
-    ∙ ap (λ js. Asks js (λ replies. batch_end tests (is_refused (waiting_for batch.listed [] batch.entries st) replies) next (after_entries (waiting_for batch.listed [] batch.entries st) js replies st))) (sym m.jobs_is)
+pub begins_asking : (what : Listed) (list : List (List ℕ)) (given : Option (List Part)) (entries : List waiting.Waiting) (jobs : List Job) (st : State) (tests : List (List ℕ)) (next : State → Run) → Made what list given entries jobs st → 0 < length jobs
+    → then_run (guarded_all tests (batched (batch_of what list given) st)) next ≡ Asks jobs (λ replies. batch_end tests (is_refused entries replies) next (after_entries entries jobs replies st))
+begins_asking what list given entries jobs st tests next m some =
+    let forms = forms_in what list in
+    ap (λ r. then_run (guarded_all tests r) next) (list_is what list given st)
+    ∙ batch_asks given forms tests st next (entries_are what list) (some_jobs what list given entries jobs st m some)
+    ∙ ap (λ js. Asks js (λ replies. batch_end tests (is_refused (waiting_for [] forms st) replies) next (after_entries (waiting_for [] forms st) js replies st))) (sym m.jobs_is)
     ∙ ap (λ es. Asks jobs (λ replies. batch_end tests (is_refused es replies) next (after_entries es jobs replies st))) (sym m.tests)
 
-pub few_asked : (batch : Batch) (entries : List waiting.Waiting) (jobs : List Job) (st : State) → Made batch entries jobs st → 0 < length jobs → length jobs ≤ length batch.entries
-few_asked batch entries jobs st m some = omega (arith, ap length m.jobs_is, few_jobs batch st (some_jobs batch entries jobs st m some))
+pub few_asked : (what : Listed) (list : List (List ℕ)) (given : Option (List Part)) (entries : List waiting.Waiting) (jobs : List Job) (st : State) → Made what list given entries jobs st → 0 < length jobs → length jobs ≤ length list
+few_asked what list given entries jobs st m some =
+    omega (arith, ap length m.jobs_is, few_jobs given (forms_in what list) st (entries_are what list) (some_jobs what list given entries jobs st m some), forms_length what list)
 
-pub few_made : (batch : Batch) (entries : List waiting.Waiting) (jobs : List Job) (st : State) → Made batch entries jobs st → length entries ≡ length batch.entries
-few_made batch entries jobs st m = ap length m.tests ∙ few_waiting batch.listed batch.entries st
+pub few_made : (what : Listed) (list : List (List ℕ)) (given : Option (List Part)) (entries : List waiting.Waiting) (jobs : List Job) (st : State) → Made what list given entries jobs st → length entries ≡ length list
+few_made what list given entries jobs st m = ap length m.tests ∙ few_waiting what list st
 
-pub batch_awaits : (batch : Batch) (entries : Vec waiting.Waiting Global) (jobs : List Job) (st : State) → Made batch entries.items jobs st → 0 < length jobs → length batch.entries ≤ 256 → Awaits (wait.Batch entries) jobs
+pub batch_awaits : (what : Listed) (list : List (List ℕ)) (given : Option (List Part)) (entries : Vec waiting.Waiting Global) (jobs : List Job) (st : State) → Made what list given entries.items jobs st → 0 < length jobs → length list ≤ 256 → Awaits (wait.Batch entries) jobs
 unfolding Suits
-batch_awaits batch entries jobs st m some few = record {
+batch_awaits what list given entries jobs st m some few = record {
   some = some;
-  few = omega (arith, few, few_asked batch entries.items jobs st m some);
-  fit = ap length m.jobs_is ∙ at_once_is batch st (some_jobs batch entries.items jobs st m some) ∙ ap at_once (sym m.tests);
+  few = omega (arith, few, few_asked what list given entries.items jobs st m some);
+  fit = ap length m.jobs_is ∙ at_once_is given (forms_in what list) st (entries_are what list) (some_jobs what list given entries.items jobs st m some) ∙ ap at_once (sym m.tests);
 }

@@ -1,5 +1,5 @@
--- The entries of a batch, one after the other: what the meaning says, and what the machine does.
-use Rattle.std.proofs.Common.{◌≡◌, ℕ, suc, ◌<◌, ◌≤◌, Option, Some, None, List, [], ◌∷◌, ◌++◌, codes, Bool, true, false, cond, ◌⊎◌, inl, inr, refl, sym, ap, ◌∙◌, subst, ⊎_elim, length, arith}
+-- The tests of a batch, one after the other: what the meaning says, and what the machine does.
+use Rattle.std.proofs.Common.{◌≡◌, ℕ, suc, ◌<◌, ◌≤◌, Option, Some, None, map, List, [], ◌∷◌, ◌++◌, codes, Bool, true, false, cond, ◌⊎◌, inl, inr, refl, sym, ap, ◌∙◌, subst, ⊎_elim, length, arith}
 use Rattle.std.specs.Prelude.{◌||◌, ◌==◌, not, bytes_eq, is_some, unwrap_or, option_to_list, drop}
 use Rattle.std.specs.List.{list_any}
 use Rattle.std.proofs.lemmas.Bool.{cases_Bool}
@@ -10,27 +10,42 @@ use Rattle.crew_trait.specs.declared.reply.Reply.{Reply}
 use Rattle.deftable.specs.Table.{value_of, with_entry}
 use Rattle.deftable.specs.declared.note.Stream.TheVariants as streams
 use Rattle.shellword.specs.declared.part.Part.{Part}
+use Rattle.text_cut.specs.Cuts.{fields}
 use Rattle.ac_tree.specs.declared.listed.Listed.{Listed}
-use Rattle.ac_tree.specs.declared.listed.Listed.TheVariants.{Header, Function, Declaration}
-use Rattle.ac_tree.specs.declared.listed.Sought.TheVariants.{ListEntry}
+use Rattle.ac_tree.specs.declared.listed.Listed.TheVariants as kinds
 use Rattle.meaning.specs.State.{State, with_note, with_child, with_variable, How, Goes_on, Stopped, Cut, Run, Ends, Asks, then_run, as_is}
 use Rattle.meaning.specs.Asking.{success, only_reply, after_child, no_compiler, without_compiler}
-use Rattle.meaning.specs.Batches.{Batch, is_known, job_for, asking, jobs_in, asks_all, with_body, yes_or_no, replied, commits, committed, batched}
-use Rattle.meaning.specs.Rows.{Single, entry_name, entry_job, is_yes, row_of}
+use Rattle.meaning.specs.Batches.{asks_all, batched, commits, is_known, replied, with_body, yes_or_no}
+use Rattle.meaning.specs.Rows.{defined_if, is_yes}
 use Rattle.meaning.specs.Tests.{guarded, checking, with_result, Row, may_begin, test_by, tested, tested_by}
 use Rattle.plan.specs.Broken.{broken_all, guarded_all}
 use Rattle.meaning.proofs.Values.{same_text, value_here, value_there, without_unset}
-use Rattle.run_test.proofs.Rows.{entry_vars}
-use Rattle.run_test.specs.Courses.{entry_test}
-use Rattle.run_test.specs.Entries.{after_entry_message, heard_end, known, known_end}
-use Rattle.run_test.specs.Batched.{after_entries, at_once, batch_end, is_refused, refuses}
+use Rattle.test_forms.specs.declared.form.Snippet.{Snippet}
+use Rattle.test_forms.specs.declared.form.Snippet.TheVariants.{Header, Function, Library, Body}
+use Rattle.test_forms.specs.declared.form.TestForm.{TestForm}
+use Rattle.test_forms.specs.declared.form.TryForm.{TryForm}
+use Rattle.form_rows.specs.Batches.{asking, committed, first_job, forms_batched, job_for, jobs_in, listed_form, test_job, tests_of}
+use Rattle.form_rows.specs.Forms.{FormTest, Table, attempt_of_try, form_name, form_used, libs_with, may_start, row_of, snippet_job, value_in}
+use Rattle.form_rows.proofs.Lists.{lists_are}
+use Rattle.run_forms.specs.Courses.{bare_course}
+use Rattle.run_forms.specs.Ends.{heard_end}
+use Rattle.run_test.specs.Batched.{after_entries, at_once, batch_end, is_refused, known_end, refuses}
 use Rattle.run_test.specs.declared.wait.Waiting as waiting
-use Rattle.run_step.specs.Waiting.{any_asks, front_end, fronted, job_at, jobs_of, waiting_at, waiting_for}
+use Rattle.run_step.specs.BatchRuns.{batch_of}
+use Rattle.run_step.specs.Waiting.{any_asks, forms_in, front_end, fronted, job_at, jobs_of, waiting_at, waiting_for}
+
+-- The test of a form that was given this text.
+abbrev pub test_of : Option (List Part) → TestForm → FormTest
+test_of given form = record { form = form; given = given }
+
+-- The tests of forms.
+abbrev pub tests_with : Option (List Part) → List TestForm → List FormTest
+tests_with given forms = map (test_of given) forms
 
 -- ---- one entry
 
-abbrev row_at : Batch → List ℕ → Option Job → Reply → State → Row
-row_at batch entry job reply st = with_body (replied (entry_name batch.listed entry) job reply) (row_of (Single batch.listed entry batch.includes true) st)
+abbrev row_at : Option (List Part) → TestForm → Option Job → Reply → State → Row
+row_at given form job reply st = with_body (replied (form_name form) job reply) (row_of (test_of given form) st)
 
 abbrev how_if : Bool → How
 how_if true = Cut
@@ -44,25 +59,25 @@ abbrev is_missing : Option (List ℕ) → Bool
 is_missing None = true
 is_missing (Some value) = false
 
-quiet_by : (batch : Batch) (entry : List ℕ) (reply : Reply) (first now : State) (o : Option (List ℕ)) → value_of now.vars (entry_name batch.listed entry) ≡ o → (o ≡ None → (row_at batch entry None reply first).ready ≡ true)
-    → tested (row_at batch entry None reply first) now ≡ Ends (how_if (is_missing o)) (known_end o (entry_test (ListEntry batch.listed) entry true) (after_entry_message (entry_test (ListEntry batch.listed) entry true) now))
-quiet_by batch entry reply first now None e ready =
-    let r = row_at batch entry None reply first in
+quiet_by : (given : Option (List Part)) (form : TestForm) (reply : Reply) (first now : State) (o : Option (List ℕ)) → value_of now.vars (form_name form) ≡ o → (o ≡ None → (row_at given form None reply first).ready ≡ true)
+    → tested (row_at given form None reply first) now ≡ Ends (how_if (is_missing o)) (known_end o (bare_course form) (checking form.message now))
+quiet_by given form reply first now None e ready =
+    let r = row_at given form None reply first in
     ap (λ o. tested_by (may_begin o r.ready) r now) e
     ∙ ap (λ b. tested_by b r now) (ready refl)
     ∙ ap (λ o. then_run (test_by o r.test (checking r.test.message now)) (λ later. Ends Goes_on (r.after (value_of later.vars r.test.name) later))) e
-quiet_by batch entry reply first now (Some value) e ready =
-    let r = row_at batch entry None reply first in
+quiet_by given form reply first now (Some value) e ready =
+    let r = row_at given form None reply first in
     let last = with_result (codes "(cached) " ++ value) (checking r.test.message now) in
     ap (λ o. tested_by (may_begin o r.ready) r now) e
     ∙ ap (λ o. then_run (test_by o r.test (checking r.test.message now)) (λ later. Ends Goes_on (r.after (value_of later.vars r.test.name) later))) e
     ∙ ap (λ o. Ends Goes_on (r.after o last)) e
 
-asked_by : (batch : Batch) (entry : List ℕ) (job : Job) (reply : Reply) (first now : State) (s : Option Bool) → success reply ≡ s → value_of now.vars (entry_name batch.listed entry) ≡ None → (row_at batch entry (Some job) reply first).ready ≡ true
-    → tested (row_at batch entry (Some job) reply first) now ≡ Ends (how_if (refuses s)) (heard_end s (entry_test (ListEntry batch.listed) entry true) (with_child job reply (after_entry_message (entry_test (ListEntry batch.listed) entry true) now)))
-asked_by batch entry job reply first now s h e ready =
-    let r = row_at batch entry (Some job) reply first in
-    let name = entry_name batch.listed entry in
+asked_by : (given : Option (List Part)) (form : TestForm) (job : Job) (reply : Reply) (first now : State) (s : Option Bool) → success reply ≡ s → value_of now.vars (form_name form) ≡ None → (row_at given form (Some job) reply first).ready ≡ true
+    → tested (row_at given form (Some job) reply first) now ≡ Ends (how_if (refuses s)) (heard_end s (bare_course form) (with_child job reply (checking form.message now)))
+asked_by given form job reply first now s h e ready =
+    let r = row_at given form (Some job) reply first in
+    let name = form_name form in
     let st = with_child job reply (checking r.test.message now) in
     ap (λ o. tested_by (may_begin o r.ready) r now) e
     ∙ ap (λ b. tested_by b r now) ready
@@ -71,13 +86,13 @@ asked_by batch entry job reply first now s h e ready =
     ∙ ends s
   where
     ends : (s : Option Bool)
-        → (let name = entry_name batch.listed entry in let r = row_at batch entry (Some job) reply first in let st = with_child job reply (checking r.test.message now) in
+        → (let name = form_name form in let r = row_at given form (Some job) reply first in let st = with_child job reply (checking r.test.message now) in
         then_run (then_run (guarded name (after_child as_is s st (λ found later. Ends Goes_on (with_variable name (yes_or_no found) later)))) (λ later. Ends Goes_on (with_result (r.test.shown (value_of later.vars name)) later))) (λ later. Ends Goes_on (r.after (value_of later.vars name) later)))
-        ≡ Ends (how_if (refuses s)) (heard_end s (entry_test (ListEntry batch.listed) entry true) (with_child job reply (after_entry_message (entry_test (ListEntry batch.listed) entry true) now)))
+        ≡ Ends (how_if (refuses s)) (heard_end s (bare_course form) (with_child job reply (checking form.message now)))
     ends None = refl
     ends (Some b) =
-        let name = entry_name batch.listed entry in
-        let r = row_at batch entry (Some job) reply first in
+        let name = form_name form in
+        let r = row_at given form (Some job) reply first in
         let set = with_variable name (yes_or_no b) (with_child job reply (checking r.test.message now)) in
         let here : value_of set.vars name ≡ Some (yes_or_no b) = value_here now.vars name (yes_or_no b) in
         ap (λ o. Ends Goes_on (r.after o (with_result (unwrap_or (value_of set.vars name) []) set))) here
@@ -89,48 +104,114 @@ commit_one false refused run s rest e = ap (λ r. commits r refused rest) e
 
 -- ---- jobs
 
--- With a compiler each entry has a job, and without one none has.
+-- With a compiler each test has a job, and without one none has.
 if_some : (b : Bool) (job : Job) → b ≡ false → (j : Job) × (cond b None (Some job) ≡ Some j)
 if_some b job e = (job, ap (λ c. cond c None (Some job)) e)
 
 if_none : (b : Bool) (job : Job) → b ≡ true → cond b None (Some job) ≡ None
 if_none b job e = ap (λ c. cond c None (Some job)) e
 
-some_job : (listed : Listed) (entry : List ℕ) (includes : Option (List Part)) (number : ℕ) (st : State) → lacks st ≡ false → (job : Job) × (entry_job listed entry includes number st ≡ Some job)
-unfolding job_of
-some_job Header entry includes number st e = if_some (lacks st) _ e
-some_job Function entry includes number st e = if_some (lacks st) _ e
-some_job Declaration entry includes number st e = if_some (lacks st) _ e
+abbrev lacks_in : Table → Bool
+lacks_in vars = length (words_of vars (codes "CC")) == 0
 
-no_job : (listed : Listed) (entry : List ℕ) (includes : Option (List Part)) (number : ℕ) (st : State) → lacks st ≡ true → entry_job listed entry includes number st ≡ None
-unfolding job_of
-no_job Header entry includes number st e = if_none (lacks st) _ e
-no_job Function entry includes number st e = if_none (lacks st) _ e
-no_job Declaration entry includes number st e = if_none (lacks st) _ e
+-- The value of LIBS doesn't count.
+with_libs : (vars : Table) (libs : List ℕ) (b : Bool) → lacks_in vars ≡ b → lacks_in (with_entry vars (codes "LIBS") libs) ≡ b
+unfolding words_of
+with_libs vars libs b e = ap (λ o. length (fields (unwrap_or o [])) == 0) (value_there vars (codes "LIBS") libs (codes "CC") refl) ∙ e
 
-is_ready : (batch : Batch) (entry : List ℕ) (job : Option Job) (reply : Reply) (first : State) → lacks first ≡ false → (row_at batch entry job reply first).ready ≡ true
-is_ready batch entry job reply first e = ap is_some (some_job batch.listed entry batch.includes 0 first e).1
+snippet_some : (s : Snippet) (entry : List ℕ) (given : Option (List ℕ)) (number : ℕ) (vars defs : Table) → lacks_in vars ≡ false → (job : Job) × (snippet_job s entry given number vars defs ≡ Some job)
+unfolding job_of
+snippet_some Header entry given number vars defs e = if_some (lacks_in vars) _ e
+snippet_some Function entry given number vars defs e = if_some (lacks_in vars) _ e
+snippet_some (Library library) entry given number vars defs e =
+    let libs = libs_with library given vars in
+    if_some (lacks_in (with_entry vars (codes "LIBS") libs)) _ (with_libs vars libs false e)
+snippet_some (Body text) entry given number vars defs e = if_some (lacks_in vars) _ e
+
+snippet_none : (s : Snippet) (entry : List ℕ) (given : Option (List ℕ)) (number : ℕ) (vars defs : Table) → lacks_in vars ≡ true → snippet_job s entry given number vars defs ≡ None
+unfolding job_of
+snippet_none Header entry given number vars defs e = if_none (lacks_in vars) _ e
+snippet_none Function entry given number vars defs e = if_none (lacks_in vars) _ e
+snippet_none (Library library) entry given number vars defs e =
+    let libs = libs_with library given vars in
+    if_none (lacks_in (with_entry vars (codes "LIBS") libs)) _ (with_libs vars libs true e)
+snippet_none (Body text) entry given number vars defs e = if_none (lacks_in vars) _ e
+
+-- A test that may be in a batch has a first try, and what is done with its value sets no variable.
+pub record IsBatched (form : TestForm) : Type 0 where
+  pub first : TryForm
+  pub more : List TryForm
+  pub is : form.tries ≡ first ∷ more
+  pub vars : (value : Option (List ℕ)) (st : State) → (form_used form value st).vars ≡ st.vars
+
+-- So are all of these.
+abbrev pub AreBatched : List TestForm → Type 0
+AreBatched [] = Unit {0}
+AreBatched (form ∷ more) = IsBatched form × AreBatched more
+
+defined_vars : (found : Bool) (name : List ℕ) (st : State) → (defined_if found name st).vars ≡ st.vars
+defined_vars true name st = refl
+defined_vars false name st = refl
+
+-- The tests of entries are.
+entry_is : (what : Listed) (entry : List ℕ) → IsBatched (listed_form what entry true)
+entry_is kinds.Header entry = record { first = _; more = _; is = refl; vars = λ value st. defined_vars (is_yes value) _ st }
+entry_is kinds.Function entry = record { first = _; more = _; is = refl; vars = λ value st. defined_vars (is_yes value) _ st }
+entry_is kinds.Declaration entry = record { first = _; more = _; is = refl; vars = λ value st. refl }
+
+pub entries_are : (what : Listed) (entries : List (List ℕ)) → AreBatched (forms_in what entries)
+entries_are what [] = _
+entries_are what (entry ∷ more) = (entry_is what entry, entries_are what more)
+
+-- The tests of a list are those of its forms.
+pub list_is : (what : Listed) (entries : List (List ℕ)) (includes : Option (List Part)) (st : State) → batched (batch_of what entries includes) st ≡ forms_batched (tests_with includes (forms_in what entries)) st
+list_is what entries includes st = lists_are (batch_of what entries includes) st ∙ ap (λ tests. forms_batched tests st) (same entries)
+  where
+    same : (l : List (List ℕ)) → tests_of (batch_of what l includes) ≡ tests_with includes (forms_in what l)
+    same [] = refl
+    same (entry ∷ more) = ap (λ tests. test_of includes (listed_form what entry true) ∷ tests) (same more)
+
+first_is : (given : Option (List Part)) (form : TestForm) (number : ℕ) (st : State) (h : IsBatched form) → test_job (test_of given form) number st ≡ snippet_job h.first.snippet form.entry (value_in given st) number st.vars st.defs
+first_is given form number st h = ap (λ tries. first_job tries form.entry (value_in given st) number st.vars st.defs) h.is
+
+some_job : (given : Option (List Part)) (form : TestForm) (number : ℕ) (st : State) → IsBatched form → lacks st ≡ false → (job : Job) × (test_job (test_of given form) number st ≡ Some job)
+some_job given form number st h e =
+    let j = snippet_some h.first.snippet form.entry (value_in given st) number st.vars st.defs e in
+    (j.0, first_is given form number st h ∙ j.1)
+
+no_job : (given : Option (List Part)) (form : TestForm) (number : ℕ) (st : State) → IsBatched form → lacks st ≡ true → test_job (test_of given form) number st ≡ None
+no_job given form number st h e = first_is given form number st h ∙ snippet_none h.first.snippet form.entry (value_in given st) number st.vars st.defs e
+
+-- A test is ready if its first try has a job.
+ready_is : (given : Option (List Part)) (form : TestForm) (st : State) → IsBatched form → (row_of (test_of given form) st).ready ≡ is_some (test_job (test_of given form) 0 st)
+ready_is given form st h =
+    ap (λ tries. may_start (map (attempt_of_try form.entry (value_in given st) st.vars st.defs) tries)) h.is
+    ∙ sym (ap is_some (first_is given form 0 st h))
+
+is_ready : (given : Option (List Part)) (form : TestForm) (job : Option Job) (reply : Reply) (first : State) → IsBatched form → lacks first ≡ false → (row_at given form job reply first).ready ≡ true
+is_ready given form job reply first h e = ready_is given form first h ∙ ap is_some (some_job given form 0 first h e).1
 
 -- The jobs of the tests are those that the meaning asks for.
-at_place : (batch : Batch) (place : ℕ) (earlier : List (List ℕ)) (entry : List ℕ) (st : State)
-    → job_at batch.listed batch.includes place (waiting_at batch.listed earlier entry st) st ≡ job_for batch place earlier entry st
-at_place batch place earlier entry st = flipped (is_known (entry_name batch.listed entry) earlier st)
+at_place : (given : Option (List Part)) (place : ℕ) (earlier : List (List ℕ)) (form : TestForm) (st : State)
+    → job_at given place (waiting_at earlier form st) st ≡ job_for (test_of given form) place earlier st
+at_place given place earlier form st = flipped (is_known (form_name form) earlier st)
   where
-    flipped : (b : Bool) → cond (not b) (entry_job batch.listed entry batch.includes place st) None ≡ cond b None (entry_job batch.listed entry batch.includes place st)
+    flipped : (b : Bool) → cond (not b) (test_job (test_of given form) place st) None ≡ cond b None (test_job (test_of given form) place st)
     flipped true = refl
     flipped false = refl
 
-jobs_first : (entry : List ℕ) (job : Option Job) (more : List (List ℕ × Option Job)) → jobs_in ((entry, job) ∷ more) ≡ option_to_list job ++ jobs_in more
-jobs_first entry None more = refl
-jobs_first entry (Some job) more = refl
+jobs_first : (t : FormTest) (job : Option Job) (more : List (FormTest × Option Job)) → jobs_in ((t, job) ∷ more) ≡ option_to_list job ++ jobs_in more
+jobs_first t None more = refl
+jobs_first t (Some job) more = refl
 
-pub jobs_are : (batch : Batch) (place : ℕ) (earlier : List (List ℕ)) (entries : List (List ℕ)) (st : State)
-    → jobs_of batch.listed batch.includes place (waiting_for batch.listed earlier entries st) st ≡ jobs_in (asking batch place earlier entries st)
-jobs_are batch place earlier [] st = refl
-jobs_are batch place earlier (entry ∷ more) st =
-    ap (λ j. option_to_list j ++ jobs_of batch.listed batch.includes (suc place) (waiting_for batch.listed (entry_name batch.listed entry ∷ earlier) more st) st) (at_place batch place earlier entry st)
-    ∙ ap (λ js. option_to_list (job_for batch place earlier entry st) ++ js) (jobs_are batch (suc place) (entry_name batch.listed entry ∷ earlier) more st)
-    ∙ sym (jobs_first entry (job_for batch place earlier entry st) (asking batch (suc place) (entry_name batch.listed entry ∷ earlier) more st))
+pub jobs_are : (given : Option (List Part)) (place : ℕ) (earlier : List (List ℕ)) (forms : List TestForm) (st : State)
+    → jobs_of given place (waiting_for earlier forms st) st ≡ jobs_in (asking place earlier (tests_with given forms) st)
+jobs_are given place earlier [] st = refl
+jobs_are given place earlier (form ∷ more) st =
+    let t = test_of given form in
+    ap (λ j. option_to_list j ++ jobs_of given (suc place) (waiting_for (form_name form ∷ earlier) more st) st) (at_place given place earlier form st)
+    ∙ ap (λ js. option_to_list (job_for t place earlier st) ++ js) (jobs_are given (suc place) (form_name form ∷ earlier) more st)
+    ∙ sym (jobs_first t (job_for t place earlier st) (asking (suc place) (form_name form ∷ earlier) (tests_with given more) st))
 
 -- ---- what is known at an entry
 
@@ -182,22 +263,21 @@ unknown name earlier refused first now s k =
     let p = or_false (is_some (value_of first.vars name)) (list_any (bytes_eq name) earlier) k in
     s.others name p.1 ∙ none_set (value_of first.vars name) p.0
 
--- The variables after an entry.
-quiet_vars : (listed : Listed) (entry : List ℕ) (now : State) (o : Option (List ℕ)) → value_of now.vars (entry_name listed entry) ≡ o
-    → (known_end o (entry_test (ListEntry listed) entry true) (after_entry_message (entry_test (ListEntry listed) entry true) now)).vars ≡ now.vars
-quiet_vars listed entry now None e = without_unset now.vars (entry_name listed entry) e
-quiet_vars listed entry now (Some value) e = entry_vars true (ListEntry listed) entry (is_yes (Some value)) (with_result (codes "(cached) " ++ value) (after_entry_message (entry_test (ListEntry listed) entry true) now))
+-- The variables after a test.
+quiet_vars : (form : TestForm) (now : State) (o : Option (List ℕ)) → IsBatched form → value_of now.vars (form_name form) ≡ o
+    → (known_end o (bare_course form) (checking form.message now)).vars ≡ now.vars
+quiet_vars form now None h e = without_unset now.vars (form_name form) e
+quiet_vars form now (Some value) h e = h.vars (Some value) (with_result (codes "(cached) " ++ value) (checking form.message now))
 
 abbrev set_by : Option Bool → List ℕ → List (List ℕ × List ℕ) → List (List ℕ × List ℕ)
 set_by None name vars = vars
 set_by (Some b) name vars = with_entry vars name (yes_or_no b)
 
-heard_vars : (listed : Listed) (entry : List ℕ) (job : Job) (reply : Reply) (now : State) (s : Option Bool) → value_of now.vars (entry_name listed entry) ≡ None
-    → (heard_end s (entry_test (ListEntry listed) entry true) (with_child job reply (after_entry_message (entry_test (ListEntry listed) entry true) now))).vars ≡ set_by s (entry_name listed entry) now.vars
-heard_vars listed entry job reply now None e = without_unset now.vars (entry_name listed entry) e
-heard_vars listed entry job reply now (Some b) e =
-    let t = entry_test (ListEntry listed) entry true in
-    entry_vars true (ListEntry listed) entry (is_yes (Some (yes_or_no b))) (with_result (yes_or_no b) (with_variable t.name (yes_or_no b) (with_child job reply (after_entry_message t now))))
+heard_vars : (form : TestForm) (job : Job) (reply : Reply) (now : State) (s : Option Bool) → IsBatched form → value_of now.vars (form_name form) ≡ None
+    → (heard_end s (bare_course form) (with_child job reply (checking form.message now))).vars ≡ set_by s (form_name form) now.vars
+heard_vars form job reply now None h e = without_unset now.vars (form_name form) e
+heard_vars form job reply now (Some b) h e =
+    h.vars (Some (yes_or_no b)) (with_result (yes_or_no b) (with_variable (form_name form) (yes_or_no b) (with_child job reply (checking form.message now))))
 
 after_quiet : (name : List ℕ) (earlier : List (List ℕ)) (refused : Bool) (first now s : State) → Stands earlier refused first now → is_known name earlier first ≡ true → s.vars ≡ now.vars → Stands (name ∷ earlier) refused first s
 after_quiet name earlier refused first now s stands k same = record {
@@ -254,142 +334,146 @@ after_heard name earlier refused first now s succeeded stands k is = record {
         (λ f. f)
         (cases_Bool (bytes_eq n name))
 
--- ---- the entries, if there is a compiler
+-- ---- the tests, if there is a compiler
 
 missing_flag : (o : Option (List ℕ)) (refused : Bool) → (o ≡ None → refused ≡ true) → is_missing o || refused ≡ refused
 missing_flag None refused h = sym (h refl)
 missing_flag (Some v) refused h = refl
 
--- An entry of a batch, and whether it asks.
-abbrev waiting_if : Batch → List ℕ → Bool → waiting.Waiting
-waiting_if batch entry asks = record { test = entry_test (ListEntry batch.listed) entry true; asks = asks }
+-- A test of a batch, and whether it asks.
+abbrev waiting_if : TestForm → Bool → waiting.Waiting
+waiting_if form asks = record { test = bare_course form; asks = asks }
 
--- What holds of the entry without a job if it is known, and with its own otherwise, holds of it as the batch has it.
-by_known : (batch : Batch) (first : State) (place : ℕ) (earlier : List (List ℕ)) (entry : List ℕ) (tail : List (List ℕ × Option Job)) (more : List waiting.Waiting) (Holds : List (List ℕ × Option Job) → List waiting.Waiting → Type 0)
-    → (is_known (entry_name batch.listed entry) earlier first ≡ true → Holds ((entry, None) ∷ tail) (waiting_if batch entry false ∷ more))
-    → (is_known (entry_name batch.listed entry) earlier first ≡ false → Holds ((entry, entry_job batch.listed entry batch.includes place first) ∷ tail) (waiting_if batch entry true ∷ more))
-    → Holds ((entry, job_for batch place earlier entry first) ∷ tail) (waiting_if batch entry (not (is_known (entry_name batch.listed entry) earlier first)) ∷ more)
-by_known batch first place earlier entry tail more Holds quiet asked =
-    ⊎_elim (λ t. subst at (sym t) (quiet t)) (λ f. subst at (sym f) (asked f)) (cases_Bool (is_known (entry_name batch.listed entry) earlier first))
+-- What holds of the test without a job if it is known, and with its own otherwise, holds of it as the batch has it.
+by_known : (given : Option (List Part)) (first : State) (place : ℕ) (earlier : List (List ℕ)) (form : TestForm) (tail : List (FormTest × Option Job)) (more : List waiting.Waiting) (Holds : List (FormTest × Option Job) → List waiting.Waiting → Type 0)
+    → (is_known (form_name form) earlier first ≡ true → Holds ((test_of given form, None) ∷ tail) (waiting_if form false ∷ more))
+    → (is_known (form_name form) earlier first ≡ false → Holds ((test_of given form, test_job (test_of given form) place first) ∷ tail) (waiting_if form true ∷ more))
+    → Holds ((test_of given form, job_for (test_of given form) place earlier first) ∷ tail) (waiting_if form (not (is_known (form_name form) earlier first)) ∷ more)
+by_known given first place earlier form tail more Holds quiet asked =
+    ⊎_elim (λ t. subst at (sym t) (quiet t)) (λ f. subst at (sym f) (asked f)) (cases_Bool (is_known (form_name form) earlier first))
   where
     at : Bool → Type 0
-    at b = Holds ((entry, cond b None (entry_job batch.listed entry batch.includes place first)) ∷ tail) (waiting_if batch entry (not b) ∷ more)
+    at b = Holds ((test_of given form, cond b None (test_job (test_of given form) place first)) ∷ tail) (waiting_if form (not b) ∷ more)
 
--- A known entry, and what follows it.
-quiet_commits : (batch : Batch) (entry : List ℕ) (tail : List (List ℕ × Option Job)) (replies : List Reply) (refused : Bool) (first now : State) (ends : State → Run)
-    → (value_of now.vars (entry_name batch.listed entry) ≡ None → (row_at batch entry None (only_reply replies) first).ready ≡ true)
-    → (value_of now.vars (entry_name batch.listed entry) ≡ None → refused ≡ true)
-    → ((s : State) → s.vars ≡ now.vars → committed batch first tail replies refused s ≡ ends s)
-    → committed batch first ((entry, None) ∷ tail) replies refused now
-    ≡ ends (known_end (value_of now.vars (entry_name batch.listed entry)) (entry_test (ListEntry batch.listed) entry true) (after_entry_message (entry_test (ListEntry batch.listed) entry true) now))
-quiet_commits batch entry tail replies refused first now ends ready known rest =
-    let o = value_of now.vars (entry_name batch.listed entry) in
-    let t = entry_test (ListEntry batch.listed) entry true in
-    let s = known_end o t (after_entry_message t now) in
-    commit_one (is_missing o) refused _ s (committed batch first tail replies) (quiet_by batch entry (only_reply replies) first now o refl ready)
-    ∙ ap (λ b. committed batch first tail replies b s) (missing_flag o refused known)
-    ∙ rest s (quiet_vars batch.listed entry now o refl)
+-- A known test, and what follows it.
+quiet_commits : (given : Option (List Part)) (form : TestForm) (tail : List (FormTest × Option Job)) (replies : List Reply) (refused : Bool) (first now : State) (ends : State → Run) → IsBatched form
+    → (value_of now.vars (form_name form) ≡ None → (row_at given form None (only_reply replies) first).ready ≡ true)
+    → (value_of now.vars (form_name form) ≡ None → refused ≡ true)
+    → ((s : State) → s.vars ≡ now.vars → committed first tail replies refused s ≡ ends s)
+    → committed first ((test_of given form, None) ∷ tail) replies refused now
+    ≡ ends (known_end (value_of now.vars (form_name form)) (bare_course form) (checking form.message now))
+quiet_commits given form tail replies refused first now ends h ready known rest =
+    let o = value_of now.vars (form_name form) in
+    let s = known_end o (bare_course form) (checking form.message now) in
+    commit_one (is_missing o) refused _ s (committed first tail replies) (quiet_by given form (only_reply replies) first now o refl ready)
+    ∙ ap (λ b. committed first tail replies b s) (missing_flag o refused known)
+    ∙ rest s (quiet_vars form now o h refl)
 
-no_entries : (batch : Batch) (first : State) (replies : List Reply) (refused : Bool) (now : State) → committed batch first [] replies refused now ≡ Ends (how_if (refused || false)) now
-no_entries batch first replies true now = refl
-no_entries batch first replies false now = refl
+no_tests : (first : State) (replies : List Reply) (refused : Bool) (now : State) → committed first [] replies refused now ≡ Ends (how_if (refused || false)) now
+no_tests first replies true now = refl
+no_tests first replies false now = refl
 
--- The end of these entries, as the machine has it.
-abbrev Comes : Batch → State → List (List ℕ × Option Job) → List waiting.Waiting → List Reply → Bool → State → Type 0
-Comes batch first asks entries replies refused now =
-    committed batch first asks replies refused now ≡ Ends (how_if (refused || is_refused entries replies)) (after_entries entries (jobs_in asks) replies now)
+-- The end of these tests, as the machine has it.
+abbrev Comes : State → List (FormTest × Option Job) → List waiting.Waiting → List Reply → Bool → State → Type 0
+Comes first asks entries replies refused now =
+    committed first asks replies refused now ≡ Ends (how_if (refused || is_refused entries replies)) (after_entries entries (jobs_in asks) replies now)
 
-asked_comes : (batch : Batch) (entry : List ℕ) (job : Job) (tail : List (List ℕ × Option Job)) (more : List waiting.Waiting) (replies : List Reply) (refused : Bool) (first now : State) → lacks first ≡ false
-    → value_of now.vars (entry_name batch.listed entry) ≡ None
-    → ((s : State) → s.vars ≡ set_by (success (only_reply replies)) (entry_name batch.listed entry) now.vars → Comes batch first tail more (drop 1 replies) (refuses (success (only_reply replies)) || refused) s)
-    → Comes batch first ((entry, Some job) ∷ tail) (waiting_if batch entry true ∷ more) replies refused now
-asked_comes batch entry job tail more replies refused first now has unset rest =
+asked_comes : (given : Option (List Part)) (form : TestForm) (job : Job) (tail : List (FormTest × Option Job)) (more : List waiting.Waiting) (replies : List Reply) (refused : Bool) (first now : State) → IsBatched form → lacks first ≡ false
+    → value_of now.vars (form_name form) ≡ None
+    → ((s : State) → s.vars ≡ set_by (success (only_reply replies)) (form_name form) now.vars → Comes first tail more (drop 1 replies) (refuses (success (only_reply replies)) || refused) s)
+    → Comes first ((test_of given form, Some job) ∷ tail) (waiting_if form true ∷ more) replies refused now
+asked_comes given form job tail more replies refused first now h has unset rest =
     let reply = only_reply replies in
-    let t = entry_test (ListEntry batch.listed) entry true in
-    let s = heard_end (success reply) t (with_child job reply (after_entry_message t now)) in
-    commit_one (refuses (success reply)) refused _ s (committed batch first tail (drop 1 replies)) (asked_by batch entry job reply first now (success reply) refl unset (is_ready batch entry (Some job) reply first has))
-    ∙ rest s (heard_vars batch.listed entry job reply now (success reply) unset)
+    let s = heard_end (success reply) (bare_course form) (with_child job reply (checking form.message now)) in
+    commit_one (refuses (success reply)) refused _ s (committed first tail (drop 1 replies)) (asked_by given form job reply first now (success reply) refl unset (is_ready given form (Some job) reply first h has))
+    ∙ rest s (heard_vars form job reply now (success reply) h unset)
     ∙ ap (λ b. Ends (how_if b) (after_entries more (jobs_in tail) (drop 1 replies) s)) (or_swap (refuses (success reply)) refused (is_refused more (drop 1 replies)))
 
-comes : (batch : Batch) (first : State) → lacks first ≡ false → (entries : List (List ℕ)) (place : ℕ) (earlier : List (List ℕ)) (replies : List Reply) (refused : Bool) (now : State) → Stands earlier refused first now
-    → Comes batch first (asking batch place earlier entries first) (waiting_for batch.listed earlier entries first) replies refused now
-comes batch first has [] place earlier replies refused now stands = no_entries batch first replies refused now
-comes batch first has (entry ∷ more) place earlier replies refused now stands =
-    let name = entry_name batch.listed entry in
-    let tail = asking batch (suc place) (name ∷ earlier) more first in
-    let later = waiting_for batch.listed (name ∷ earlier) more first in
-    by_known batch first place earlier entry tail later (λ asks entries. Comes batch first asks entries replies refused now)
+comes : (given : Option (List Part)) (first : State) → lacks first ≡ false → (forms : List TestForm) → AreBatched forms → (place : ℕ) (earlier : List (List ℕ)) (replies : List Reply) (refused : Bool) (now : State) → Stands earlier refused first now
+    → Comes first (asking place earlier (tests_with given forms) first) (waiting_for earlier forms first) replies refused now
+comes given first has [] all place earlier replies refused now stands = no_tests first replies refused now
+comes given first has (form ∷ more) all place earlier replies refused now stands =
+    let name = form_name form in
+    let tail = asking (suc place) (name ∷ earlier) (tests_with given more) first in
+    let later = waiting_for (name ∷ earlier) more first in
+    by_known given first place earlier form tail later (λ asks entries. Comes first asks entries replies refused now)
     (λ t.
-    quiet_commits batch entry tail replies refused first now (λ s. Ends (how_if (refused || is_refused later replies)) (after_entries later (jobs_in tail) replies s))
-    (λ _. is_ready batch entry None (only_reply replies) first has) (missing name earlier refused first now stands t)
-    (λ s same. comes batch first has more (suc place) (name ∷ earlier) replies refused s (after_quiet name earlier refused first now s stands t same)))
-    (λ f. subst (λ job. Comes batch first ((entry, job) ∷ tail) (waiting_if batch entry true ∷ later) replies refused now) (sym (some_job batch.listed entry batch.includes place first has).1)
-    (asked_comes batch entry _ tail later replies refused first now has (unknown name earlier refused first now stands f)
-    (λ s is. comes batch first has more (suc place) (name ∷ earlier) (drop 1 replies) _ s (after_heard name earlier refused first now s (success (only_reply replies)) stands f is))))
+    quiet_commits given form tail replies refused first now (λ s. Ends (how_if (refused || is_refused later replies)) (after_entries later (jobs_in tail) replies s)) all.0
+    (λ _. is_ready given form None (only_reply replies) first all.0 has) (missing name earlier refused first now stands t)
+    (λ s same. comes given first has more all.1 (suc place) (name ∷ earlier) replies refused s (after_quiet name earlier refused first now s stands t same)))
+    (λ f. subst (λ job. Comes first ((test_of given form, job) ∷ tail) (waiting_if form true ∷ later) replies refused now) (sym (some_job given form place first all.0 has).1)
+    (asked_comes given form _ tail later replies refused first now all.0 has (unknown name earlier refused first now stands f)
+    (λ s is. comes given first has more all.1 (suc place) (name ∷ earlier) (drop 1 replies) _ s (after_heard name earlier refused first now s (success (only_reply replies)) stands f is))))
 
--- ---- the entries, if there is nothing to ask for
+-- ---- the tests, if there is nothing to ask for
 
 begins_stands : (first : State) → Stands [] false first first
 begins_stands first = record { early = λ n h e. absurd cc; kept = λ n v h. h; others = λ n h. refl }
 
-no_more : (entry : List ℕ) (job : Option Job) (more : List (List ℕ × Option Job)) → jobs_in ((entry, job) ∷ more) ≡ [] → (job ≡ None) × (jobs_in more ≡ [])
-no_more entry None more e = (refl, e)
-no_more entry (Some job) more e = absurd (let z : job ∷ jobs_in more ≡ [] = e in cc)
+no_more : (t : FormTest) (job : Option Job) (more : List (FormTest × Option Job)) → jobs_in ((t, job) ∷ more) ≡ [] → (job ≡ None) × (jobs_in more ≡ [])
+no_more t None more e = (refl, e)
+no_more t (Some job) more e = absurd (let z : job ∷ jobs_in more ≡ [] = e in cc)
 
 abbrev fronts : Bool → State → Run
 fronts true st = without_compiler as_is st
 fronts false st = Ends Goes_on st
 
-abbrev Fronts : Batch → State → List (List ℕ × Option Job) → List waiting.Waiting → State → Type 0
-Fronts batch first asks entries now = committed batch first asks [] false now ≡ fronts (any_asks entries) (front_end entries now)
+abbrev Fronts : State → List (FormTest × Option Job) → List waiting.Waiting → State → Type 0
+Fronts first asks entries now = committed first asks [] false now ≡ fronts (any_asks entries) (front_end entries now)
 
-stops : (batch : Batch) (entry : List ℕ) (first now : State) → lacks first ≡ true → value_of now.vars (entry_name batch.listed entry) ≡ None
-    → tested (row_at batch entry None (only_reply []) first) now ≡ without_compiler as_is now
-stops batch entry first now has unset =
-    let r = row_at batch entry None (only_reply []) first in
+stops : (given : Option (List Part)) (form : TestForm) (first now : State) → IsBatched form → lacks first ≡ true → value_of now.vars (form_name form) ≡ None
+    → tested (row_at given form None (only_reply []) first) now ≡ without_compiler as_is now
+stops given form first now h has unset =
+    let r = row_at given form None (only_reply []) first in
     ap (λ o. tested_by (may_begin o r.ready) r now) unset
-    ∙ ap (λ b. tested_by b r now) (ap is_some (no_job batch.listed entry batch.includes 0 first has))
+    ∙ ap (λ b. tested_by b r now) (ready_is given form first h ∙ ap is_some (no_job given form 0 first h has))
 
-fronts_all : (batch : Batch) (first : State) (entries : List (List ℕ)) (place : ℕ) (earlier : List (List ℕ)) (now : State) → jobs_in (asking batch place earlier entries first) ≡ [] → Stands earlier false first now
-    → Fronts batch first (asking batch place earlier entries first) (waiting_for batch.listed earlier entries first) now
-fronts_all batch first [] place earlier now quiet stands = refl
-fronts_all batch first (entry ∷ more) place earlier now quiet stands =
-    let name = entry_name batch.listed entry in
-    let tail = asking batch (suc place) (name ∷ earlier) more first in
-    let later = waiting_for batch.listed (name ∷ earlier) more first in
-    by_known batch first place earlier entry tail later (λ asks entries. Fronts batch first asks entries now)
-    (λ t.
-    let known : value_of now.vars name ≡ None → ⊥ = (λ e. let z : false ≡ true = missing name earlier false first now stands t e in cc) in
-    quiet_commits batch entry tail [] false first now (λ s. fronts (any_asks later) (front_end later s)) (λ e. absurd (known e)) (λ e. absurd (known e))
-    (λ s same. fronts_all batch first more (suc place) (name ∷ earlier) s (no_more entry _ tail quiet).1 (after_quiet name earlier false first now s stands t same)))
+-- A test without a job has no compiler.
+lacking : (given : Option (List Part)) (form : TestForm) (place : ℕ) (first : State) → IsBatched form → test_job (test_of given form) place first ≡ None → lacks first ≡ true
+lacking given form place first h none =
+    ⊎_elim (λ t. t)
+    (λ f. let j = some_job given form place first h f in absurd (let z : Some j.0 ≡ None = sym j.1 ∙ none in cc))
+    (cases_Bool (lacks first))
+
+fronts_all : (given : Option (List Part)) (first : State) (forms : List TestForm) → AreBatched forms → (place : ℕ) (earlier : List (List ℕ)) (now : State) → jobs_in (asking place earlier (tests_with given forms) first) ≡ [] → Stands earlier false first now
+    → Fronts first (asking place earlier (tests_with given forms) first) (waiting_for earlier forms first) now
+fronts_all given first [] all place earlier now quiet stands = refl
+fronts_all given first (form ∷ more) all place earlier now quiet stands =
+    let name = form_name form in
+    let t = test_of given form in
+    let tail = asking (suc place) (name ∷ earlier) (tests_with given more) first in
+    let later = waiting_for (name ∷ earlier) more first in
+    by_known given first place earlier form tail later (λ asks entries. Fronts first asks entries now)
+    (λ k.
+    let known : value_of now.vars name ≡ None → ⊥ = (λ e. let z : false ≡ true = missing name earlier false first now stands k e in cc) in
+    quiet_commits given form tail [] false first now (λ s. fronts (any_asks later) (front_end later s)) all.0 (λ e. absurd (known e)) (λ e. absurd (known e))
+    (λ s same. fronts_all given first more all.1 (suc place) (name ∷ earlier) s (no_more t _ tail quiet).1 (after_quiet name earlier false first now s stands k same)))
     (λ f.
-    let none : entry_job batch.listed entry batch.includes place first ≡ None = sym (ap (λ b. cond b None (entry_job batch.listed entry batch.includes place first)) f) ∙ (no_more entry _ tail quiet).0 in
-    subst (λ job. Fronts batch first ((entry, job) ∷ tail) (waiting_if batch entry true ∷ later) now) (sym none)
-    (ap (λ r. commits r false (committed batch first tail [])) (stops batch entry first now (lacking none) (unknown name earlier false first now stands f))))
-  where
-    lacking : entry_job batch.listed entry batch.includes place first ≡ None → lacks first ≡ true
-    lacking none =
-        ⊎_elim (λ t. t)
-        (λ f. let j = some_job batch.listed entry batch.includes place first f in absurd (let z : Some j.0 ≡ None = sym j.1 ∙ none in cc))
-        (cases_Bool (lacks first))
+    let none : test_job t place first ≡ None = sym (ap (λ b. cond b None (test_job t place first)) f) ∙ (no_more t _ tail quiet).0 in
+    subst (λ job. Fronts first ((t, job) ∷ tail) (waiting_if form true ∷ later) now) (sym none)
+    (ap (λ r. commits r false (committed first tail [])) (stops given form first now all.0 (lacking given form place first all.0 none) (unknown name earlier false first now stands f))))
 
 -- ---- a batch inside tests
 
-asks_nothing : (batch : Batch) (first : State) → lacks first ≡ true → (entries : List (List ℕ)) (place : ℕ) (earlier : List (List ℕ)) → jobs_in (asking batch place earlier entries first) ≡ []
-asks_nothing batch first has [] place earlier = refl
-asks_nothing batch first has (entry ∷ more) place earlier =
-    jobs_first entry (job_for batch place earlier entry first) (asking batch (suc place) (entry_name batch.listed entry ∷ earlier) more first)
-    ∙ ap (λ j. option_to_list j ++ jobs_in (asking batch (suc place) (entry_name batch.listed entry ∷ earlier) more first))
-    (either (is_known (entry_name batch.listed entry) earlier first) (no_job batch.listed entry batch.includes place first has))
-    ∙ asks_nothing batch first has more (suc place) (entry_name batch.listed entry ∷ earlier)
+asks_nothing : (given : Option (List Part)) (first : State) → lacks first ≡ true → (forms : List TestForm) → AreBatched forms → (place : ℕ) (earlier : List (List ℕ)) → jobs_in (asking place earlier (tests_with given forms) first) ≡ []
+asks_nothing given first has [] all place earlier = refl
+asks_nothing given first has (form ∷ more) all place earlier =
+    let rest = asking (suc place) (form_name form ∷ earlier) (tests_with given more) first in
+    jobs_first (test_of given form) (job_for (test_of given form) place earlier first) rest
+    ∙ ap (λ j. option_to_list j ++ jobs_in rest) (either (is_known (form_name form) earlier first) (no_job given form place first all.0 has))
+    ∙ asks_nothing given first has more all.1 (suc place) (form_name form ∷ earlier)
   where
     either : (b : Bool) {j : Option Job} → j ≡ None → cond b None j ≡ None
     either true e = refl
     either false e = e
 
-has_compiler : (batch : Batch) (st : State) → 0 < length (jobs_in (asking batch 1 [] batch.entries st)) → lacks st ≡ false
-has_compiler batch st some =
-    ⊎_elim (λ t. absurd (omega (arith, some, ap length (asks_nothing batch st t batch.entries 1 [])))) (λ f. f) (cases_Bool (lacks st))
+-- The jobs of a batch.
+abbrev pub jobs_for : Option (List Part) → List TestForm → State → List Job
+jobs_for given forms st = jobs_in (asking 1 [] (tests_with given forms) st)
+
+has_compiler : (given : Option (List Part)) (forms : List TestForm) (st : State) → AreBatched forms → 0 < length (jobs_for given forms st) → lacks st ≡ false
+has_compiler given forms st all some =
+    ⊎_elim (λ t. absurd (omega (arith, some, ap length (asks_nothing given st t forms all 1 [])))) (λ f. f) (cases_Bool (lacks st))
 
 asks_some : (jobs : List Job) (next : List Reply → Run) → 0 < length jobs → asks_all jobs next ≡ Asks jobs next
 asks_some [] next some = absurd (omega (arith, some))
@@ -399,15 +483,15 @@ ends_as : (tests : List (List ℕ)) (refused : Bool) (st : State) (next : State 
 ends_as tests true st next = refl
 ends_as tests false st next = refl
 
-pub batch_asks : (batch : Batch) (tests : List (List ℕ)) (st : State) (next : State → Run) → 0 < length (jobs_in (asking batch 1 [] batch.entries st))
-    → (let entries = waiting_for batch.listed [] batch.entries st in let jobs = jobs_in (asking batch 1 [] batch.entries st) in
-    then_run (guarded_all tests (batched batch st)) next ≡ Asks jobs (λ replies. batch_end tests (is_refused entries replies) next (after_entries entries jobs replies st)))
-batch_asks batch tests st next some =
-    let entries = waiting_for batch.listed [] batch.entries st in
-    let asks = asking batch 1 [] batch.entries st in
-    ap (λ r. then_run (guarded_all tests r) next) (asks_some (jobs_in asks) (λ replies. committed batch st asks replies false st) some)
+pub batch_asks : (given : Option (List Part)) (forms : List TestForm) (tests : List (List ℕ)) (st : State) (next : State → Run) → AreBatched forms → 0 < length (jobs_for given forms st)
+    → (let entries = waiting_for [] forms st in let jobs = jobs_for given forms st in
+    then_run (guarded_all tests (forms_batched (tests_with given forms) st)) next ≡ Asks jobs (λ replies. batch_end tests (is_refused entries replies) next (after_entries entries jobs replies st)))
+batch_asks given forms tests st next all some =
+    let entries = waiting_for [] forms st in
+    let asks = asking 1 [] (tests_with given forms) st in
+    ap (λ r. then_run (guarded_all tests r) next) (asks_some (jobs_in asks) (λ replies. committed st asks replies false st) some)
     ∙ ap (Asks (jobs_in asks)) (fun_ext (λ replies.
-    ap (λ r. then_run (guarded_all tests r) next) (comes batch st (has_compiler batch st some) batch.entries 1 [] replies false st (begins_stands st))
+    ap (λ r. then_run (guarded_all tests r) next) (comes given st (has_compiler given forms st all some) forms all 1 [] replies false st (begins_stands st))
     ∙ ends_as tests (is_refused entries replies) (after_entries entries (jobs_in asks) replies st) next))
 
 fronted_as : (tests : List (List ℕ)) (asks : Bool) (st : State) (next : State → Run)
@@ -415,31 +499,31 @@ fronted_as : (tests : List (List ℕ)) (asks : Bool) (st : State) (next : State 
 fronted_as tests true st next = refl
 fronted_as tests false st next = refl
 
-pub batch_now : (batch : Batch) (tests : List (List ℕ)) (st : State) (next : State → Run) → jobs_in (asking batch 1 [] batch.entries st) ≡ []
-    → then_run (guarded_all tests (batched batch st)) next ≡ fronted tests (waiting_for batch.listed [] batch.entries st) next st
-batch_now batch tests st next none =
-    let entries = waiting_for batch.listed [] batch.entries st in
-    let asks = asking batch 1 [] batch.entries st in
-    ap (λ js. then_run (guarded_all tests (asks_all js (λ replies. committed batch st asks replies false st))) next) none
-    ∙ ap (λ r. then_run (guarded_all tests r) next) (fronts_all batch st batch.entries 1 [] st none (begins_stands st))
+pub batch_now : (given : Option (List Part)) (forms : List TestForm) (tests : List (List ℕ)) (st : State) (next : State → Run) → AreBatched forms → jobs_for given forms st ≡ []
+    → then_run (guarded_all tests (forms_batched (tests_with given forms) st)) next ≡ fronted tests (waiting_for [] forms st) next st
+batch_now given forms tests st next all none =
+    let entries = waiting_for [] forms st in
+    let asks = asking 1 [] (tests_with given forms) st in
+    ap (λ js. then_run (guarded_all tests (asks_all js (λ replies. committed st asks replies false st))) next) none
+    ∙ ap (λ r. then_run (guarded_all tests r) next) (fronts_all given st forms all 1 [] st none (begins_stands st))
     ∙ fronted_as tests (any_asks entries) (front_end entries st) next
 
 -- ---- how many
 
-at_once_of : (batch : Batch) (first : State) → lacks first ≡ false → (entries : List (List ℕ)) (place : ℕ) (earlier : List (List ℕ))
-    → length (jobs_in (asking batch place earlier entries first)) ≡ at_once (waiting_for batch.listed earlier entries first)
-at_once_of batch first has [] place earlier = refl
-at_once_of batch first has (entry ∷ more) place earlier =
-    ap length (jobs_first entry (job_for batch place earlier entry first) (asking batch (suc place) (entry_name batch.listed entry ∷ earlier) more first))
-    ∙ counted (is_known (entry_name batch.listed entry) earlier first) _ (some_job batch.listed entry batch.includes place first has).1
-    ∙ ap (λ n. cond (not (is_known (entry_name batch.listed entry) earlier first)) (suc n) n) (at_once_of batch first has more (suc place) (entry_name batch.listed entry ∷ earlier))
+at_once_of : (given : Option (List Part)) (first : State) → lacks first ≡ false → (forms : List TestForm) → AreBatched forms → (place : ℕ) (earlier : List (List ℕ))
+    → length (jobs_in (asking place earlier (tests_with given forms) first)) ≡ at_once (waiting_for earlier forms first)
+at_once_of given first has [] all place earlier = refl
+at_once_of given first has (form ∷ more) all place earlier =
+    ap length (jobs_first (test_of given form) (job_for (test_of given form) place earlier first) (asking (suc place) (form_name form ∷ earlier) (tests_with given more) first))
+    ∙ counted (is_known (form_name form) earlier first) _ (some_job given form place first all.0 has).1
+    ∙ ap (λ n. cond (not (is_known (form_name form) earlier first)) (suc n) n) (at_once_of given first has more all.1 (suc place) (form_name form ∷ earlier))
   where
     counted : (b : Bool) {j : Option Job} {job : Job} (tail : List Job) → j ≡ Some job → length (option_to_list (cond b None j) ++ tail) ≡ cond (not b) (suc (length tail)) (length tail)
     counted true tail e = refl
     counted false tail e = ap (λ o. length (option_to_list o ++ tail)) e
 
-pub at_once_is : (batch : Batch) (st : State) → 0 < length (jobs_in (asking batch 1 [] batch.entries st)) → length (jobs_in (asking batch 1 [] batch.entries st)) ≡ at_once (waiting_for batch.listed [] batch.entries st)
-at_once_is batch st some = at_once_of batch st (has_compiler batch st some) batch.entries 1 []
+pub at_once_is : (given : Option (List Part)) (forms : List TestForm) (st : State) → AreBatched forms → 0 < length (jobs_for given forms st) → length (jobs_for given forms st) ≡ at_once (waiting_for [] forms st)
+at_once_is given forms st all some = at_once_of given st (has_compiler given forms st all some) forms all 1 []
 
 at_once_few : (entries : List waiting.Waiting) → at_once entries ≤ length entries
 at_once_few [] = omega arith
@@ -449,13 +533,17 @@ at_once_few (e ∷ more) = by e.asks (at_once_few more)
     by true h = omega (arith, h)
     by false h = omega (arith, h)
 
-waiting_length : (listed : Listed) (earlier entries : List (List ℕ)) (st : State) → length (waiting_for listed earlier entries st) ≡ length entries
-waiting_length listed earlier [] st = refl
-waiting_length listed earlier (entry ∷ more) st = ap suc (waiting_length listed (entry_name listed entry ∷ earlier) more st)
+pub waiting_length : (earlier : List (List ℕ)) (forms : List TestForm) (st : State) → length (waiting_for earlier forms st) ≡ length forms
+waiting_length earlier [] st = refl
+waiting_length earlier (form ∷ more) st = ap suc (waiting_length (form_name form ∷ earlier) more st)
 
-pub few_waiting : (listed : Listed) (entries : List (List ℕ)) (st : State) → length (waiting_for listed [] entries st) ≡ length entries
-few_waiting listed entries st = waiting_length listed [] entries st
+pub forms_length : (what : Listed) (entries : List (List ℕ)) → length (forms_in what entries) ≡ length entries
+forms_length what [] = refl
+forms_length what (entry ∷ more) = ap suc (forms_length what more)
 
-pub few_jobs : (batch : Batch) (st : State) → 0 < length (jobs_in (asking batch 1 [] batch.entries st)) → length (jobs_in (asking batch 1 [] batch.entries st)) ≤ length batch.entries
-few_jobs batch st some =
-    omega (arith, at_once_is batch st some, at_once_few (waiting_for batch.listed [] batch.entries st), waiting_length batch.listed [] batch.entries st)
+pub few_waiting : (what : Listed) (entries : List (List ℕ)) (st : State) → length (waiting_for [] (forms_in what entries) st) ≡ length entries
+few_waiting what entries st = waiting_length [] (forms_in what entries) st ∙ forms_length what entries
+
+pub few_jobs : (given : Option (List Part)) (forms : List TestForm) (st : State) → AreBatched forms → 0 < length (jobs_for given forms st) → length (jobs_for given forms st) ≤ length forms
+few_jobs given forms st all some =
+    omega (arith, at_once_is given forms st all some, at_once_few (waiting_for [] forms st), waiting_length [] forms st)

@@ -10,22 +10,23 @@ use Rattle.crew_trait.specs.declared.reply.Reply.{Reply}
 use Rattle.crew_trait.specs.declared.reply.Reply.TheVariants.{StartRefused}
 use Rattle.shellword.specs.declared.part.Part.{Part}
 use Rattle.ac_tree.specs.declared.listed.Listed.{Listed}
-use Rattle.ac_tree.specs.declared.listed.Sought.TheVariants.{ListEntry}
 use Rattle.deftable.specs.Table.{value_of}
 use Rattle.meaning.specs.State.{State, with_child, Cut, Run, Ends}
 use Rattle.plan.specs.Broken.{broken_all}
 use Rattle.meaning.specs.Asking.{success}
 use Rattle.meaning.specs.Batches.{is_known}
 use Rattle.meaning.specs.Play.{refused_here, first_refused}
-use Rattle.meaning.specs.Rows.{entry_name}
-use Rattle.run_test.specs.Courses.{entry_test}
-use Rattle.run_test.specs.Entries.{after_entry_message, known_end, heard_end}
+use Rattle.meaning.specs.Tests.{checking}
+use Rattle.form_rows.specs.Batches.{listed_form}
+use Rattle.form_rows.specs.Forms.{form_name}
+use Rattle.run_forms.specs.Courses.{bare_course}
+use Rattle.run_forms.specs.Ends.{heard_end}
+use Rattle.run_forms.specs.declared.course.FormCourse.{FormCourse}
 use Rattle.run_test.specs.Waits.{all_replies}
-use Rattle.run_test.specs.Batched.{after_entries, at_once, batch_end, entry_end, entry_refused, is_refused, refuses, rest_after, with_asked}
-use Rattle.run_test.specs.declared.course.EntryTest.{EntryTest}
+use Rattle.run_test.specs.Batched.{after_entries, at_once, batch_end, entry_end, entry_refused, is_refused, known_end, refuses, rest_after, with_asked}
 use Rattle.run_test.specs.declared.wait.Waiting as waiting
 use Rattle.run_step.specs.Taking.{Takes, TakesReply}
-use Rattle.run_step.specs.Waiting.{any_asks, front_end, is_named, job_at, jobs_of, names_before, waiting_at, waiting_for}
+use Rattle.run_step.specs.Waiting.{any_asks, forms_in, front_end, is_named, job_at, jobs_of, names_before, waiting_at, waiting_for}
 
 -- ---- names
 
@@ -47,38 +48,38 @@ names_more entries e = ap reverse (names_map entries (e ∷ [])) ∙ reverse-app
 
 -- ---- the tests and their jobs
 
-pub waiting_more : (listed : Listed) (all : List waiting.Waiting) (entries : List (List ℕ)) (i : ℕ) (entry : List ℕ) (st : State) (test : EntryTest) (asks : Bool) (whole : List waiting.Waiting) → i < length entries
-    → entry ≡ get_or entries i entry → test ≡ entry_test (ListEntry listed) entry true → asks ≡ not (is_known test.name (names_before all) st)
-    → all ++ waiting_for listed (names_before all) (drop i entries) st ≡ whole
-    → (all ++ record { test = test; asks = asks } ∷ []) ++ waiting_for listed (names_before (all ++ record { test = test; asks = asks } ∷ [])) (drop (i + 1) entries) st ≡ whole
-waiting_more listed all entries i entry st test asks whole lt is t a so_far =
+pub waiting_more : (what : Listed) (all : List waiting.Waiting) (entries : List (List ℕ)) (i : ℕ) (entry : List ℕ) (st : State) (test : FormCourse) (asks : Bool) (whole : List waiting.Waiting) → i < length entries
+    → entry ≡ get_or entries i entry → test ≡ bare_course (listed_form what entry true) → asks ≡ not (is_known test.name (names_before all) st)
+    → all ++ waiting_for (names_before all) (forms_in what (drop i entries)) st ≡ whole
+    → (all ++ record { test = test; asks = asks } ∷ []) ++ waiting_for (names_before (all ++ record { test = test; asks = asks } ∷ [])) (forms_in what (drop (i + 1) entries)) st ≡ whole
+waiting_more what all entries i entry st test asks whole lt is t a so_far =
     let w : waiting.Waiting = record { test = test; asks = asks } in
-    let name = entry_name listed entry in
-    let asks_is : asks ≡ not (is_known name (names_before all) st) = a ∙ ap (λ (x : EntryTest). not (is_known x.name (names_before all) st)) t in
-    let w_is : w ≡ waiting_at listed (names_before all) entry st = ap (λ (x : EntryTest). the_waiting x asks) t ∙ ap (the_waiting (entry_test (ListEntry listed) entry true)) asks_is in
-    let rest = drop (i + 1) entries in
-    append_assoc all (w ∷ []) (waiting_for listed (names_before (all ++ w ∷ [])) rest st)
-    ∙ ap (λ names. all ++ w ∷ waiting_for listed names rest st) (names_more all w)
-    ∙ ap (λ (x : waiting.Waiting). all ++ x ∷ waiting_for listed (x.test.name ∷ names_before all) rest st) w_is
-    ∙ ap (λ e. all ++ waiting_for listed (names_before all) (e ∷ rest) st) is
-    ∙ ap (λ l. all ++ waiting_for listed (names_before all) l st) (sym (drop_more entries i entry lt))
+    let form = listed_form what entry true in
+    let asks_is : asks ≡ not (is_known (form_name form) (names_before all) st) = a ∙ ap (λ (x : FormCourse). not (is_known x.name (names_before all) st)) t in
+    let w_is : w ≡ waiting_at (names_before all) form st = ap (λ (x : FormCourse). the_waiting x asks) t ∙ ap (the_waiting (bare_course form)) asks_is in
+    let rest = forms_in what (drop (i + 1) entries) in
+    append_assoc all (w ∷ []) (waiting_for (names_before (all ++ w ∷ [])) rest st)
+    ∙ ap (λ names. all ++ w ∷ waiting_for names rest st) (names_more all w)
+    ∙ ap (λ (x : waiting.Waiting). all ++ x ∷ waiting_for (x.test.name ∷ names_before all) rest st) w_is
+    ∙ ap (λ e. all ++ waiting_for (names_before all) (listed_form what e true ∷ rest) st) is
+    ∙ ap (λ l. all ++ waiting_for (names_before all) (forms_in what l) st) (sym (drop_more entries i entry lt))
     ∙ so_far
   where
-    the_waiting : EntryTest → Bool → waiting.Waiting
+    the_waiting : FormCourse → Bool → waiting.Waiting
     the_waiting t b = record { test = t; asks = b }
 
-pub jobs_more : (listed : Listed) (includes : Option (List Part)) (jobs new : List Job) (entries : List waiting.Waiting) (i number : ℕ) (e : waiting.Waiting) (st : State) (job : Option Job) (whole : List Job) → i < length entries
-    → e ≡ get_or entries i e → number ≡ i + 1 → job ≡ job_at listed includes number e st → new ≡ jobs ++ option_to_list job
-    → jobs ++ jobs_of listed includes (i + 1) (drop i entries) st ≡ whole
-    → new ++ jobs_of listed includes (i + 1 + 1) (drop (i + 1) entries) st ≡ whole
-jobs_more listed includes jobs new entries i number e st job whole lt is n j made so_far =
+pub jobs_more : (includes : Option (List Part)) (jobs new : List Job) (entries : List waiting.Waiting) (i number : ℕ) (e : waiting.Waiting) (st : State) (job : Option Job) (whole : List Job) → i < length entries
+    → e ≡ get_or entries i e → number ≡ i + 1 → job ≡ job_at includes number e st → new ≡ jobs ++ option_to_list job
+    → jobs ++ jobs_of includes (i + 1) (drop i entries) st ≡ whole
+    → new ++ jobs_of includes (i + 1 + 1) (drop (i + 1) entries) st ≡ whole
+jobs_more includes jobs new entries i number e st job whole lt is n j made so_far =
     let rest = drop (i + 1) entries in
-    ap (λ l. l ++ jobs_of listed includes (i + 1 + 1) rest st) made
-    ∙ append_assoc jobs (option_to_list job) (jobs_of listed includes (i + 1 + 1) rest st)
-    ∙ ap (λ o. jobs ++ (option_to_list o ++ jobs_of listed includes (i + 1 + 1) rest st)) (j ∙ ap (λ k. job_at listed includes k e st) n)
-    ∙ ap (λ k. jobs ++ (option_to_list (job_at listed includes (i + 1) e st) ++ jobs_of listed includes k rest st)) (next (i + 1))
-    ∙ ap (λ (x : waiting.Waiting). jobs ++ jobs_of listed includes (i + 1) (x ∷ rest) st) is
-    ∙ ap (λ l. jobs ++ jobs_of listed includes (i + 1) l st) (sym (drop_more entries i e lt))
+    ap (λ l. l ++ jobs_of includes (i + 1 + 1) rest st) made
+    ∙ append_assoc jobs (option_to_list job) (jobs_of includes (i + 1 + 1) rest st)
+    ∙ ap (λ o. jobs ++ (option_to_list o ++ jobs_of includes (i + 1 + 1) rest st)) (j ∙ ap (λ k. job_at includes k e st) n)
+    ∙ ap (λ k. jobs ++ (option_to_list (job_at includes (i + 1) e st) ++ jobs_of includes k rest st)) (next (i + 1))
+    ∙ ap (λ (x : waiting.Waiting). jobs ++ jobs_of includes (i + 1) (x ∷ rest) st) is
+    ∙ ap (λ l. jobs ++ jobs_of includes (i + 1) l st) (sym (drop_more entries i e lt))
     ∙ so_far
   where
     next : (k : ℕ) → k + 1 ≡ suc k
@@ -87,7 +88,7 @@ jobs_more listed includes jobs new entries i number e st job whole lt is n j mad
 -- ---- the front
 
 pub front_more : (entries : List waiting.Waiting) (i : ℕ) (e : waiting.Waiting) (st now last : State) (asks : Bool) → i < length entries → e ≡ get_or entries i e → e.asks ≡ false
-    → now ≡ known_end (value_of st.vars e.test.name) e.test (after_entry_message e.test st)
+    → now ≡ known_end (value_of st.vars e.test.name) e.test (checking e.test.form.message st)
     → (any_asks (drop i entries) ≡ asks) × (front_end (drop i entries) st ≡ last)
     → (any_asks (drop (i + 1) entries) ≡ asks) × (front_end (drop (i + 1) entries) now ≡ last)
 front_more entries i e st now last asks lt is no_ask moved so_far =
@@ -95,7 +96,7 @@ front_more entries i e st now last asks lt is no_ask moved so_far =
     let here : drop i entries ≡ e ∷ rest = drop_more entries i e lt ∙ ap (λ (x : waiting.Waiting). x ∷ rest) (sym is) in (
       ap (λ b. b || any_asks rest) (sym no_ask) ∙ ap any_asks (sym here) ∙ so_far.0,
       ap (front_end rest) moved
-          ∙ ap (λ b. cond b st (front_end rest (known_end (value_of st.vars e.test.name) e.test (after_entry_message e.test st)))) (sym no_ask)
+          ∙ ap (λ b. cond b st (front_end rest (known_end (value_of st.vars e.test.name) e.test (checking e.test.form.message st)))) (sym no_ask)
           ∙ ap (λ l. front_end l st) (sym here) ∙ so_far.1,
     )
 
@@ -105,18 +106,18 @@ front_asks entries i e st last asks lt is ask so_far =
     let rest = drop (i + 1) entries in
     let here : drop i entries ≡ e ∷ rest = drop_more entries i e lt ∙ ap (λ (x : waiting.Waiting). x ∷ rest) (sym is) in (
       ap (λ b. b || any_asks rest) (sym ask) ∙ ap any_asks (sym here) ∙ so_far.0,
-      ap (λ b. cond b st (front_end rest (known_end (value_of st.vars e.test.name) e.test (after_entry_message e.test st)))) (sym ask)
+      ap (λ b. cond b st (front_end rest (known_end (value_of st.vars e.test.name) e.test (checking e.test.form.message st)))) (sym ask)
           ∙ ap (λ l. front_end l st) (sym here) ∙ so_far.1,
     )
 
 -- ---- the replies
 
-entry_by : (asks : Bool) (t : EntryTest) (jobs left taken : List Job) (replies rest : List Reply) (reply : Reply) (st : State) → Takes asks jobs left taken → TakesReply asks replies rest reply
+entry_by : (asks : Bool) (t : FormCourse) (jobs left taken : List Job) (replies rest : List Reply) (reply : Reply) (st : State) → Takes asks jobs left taken → TakesReply asks replies rest reply
     → (entry_end asks t taken (reply ∷ []) st ≡ entry_end asks t jobs replies st) × (left ≡ rest_after asks jobs) × (rest ≡ rest_after asks replies)
 entry_by true t [] left taken replies rest reply st job r =
-    (ap (λ (x : List Job). heard_end (success reply) t (with_asked x (reply ∷ []) (after_entry_message t st))) job.0 ∙ ap (λ (x : Reply). heard_end (success x) t (after_entry_message t st)) r.0, job.1, r.1)
+    (ap (λ (x : List Job). heard_end (success reply) t (with_asked x (reply ∷ []) (checking t.form.message st))) job.0 ∙ ap (λ (x : Reply). heard_end (success x) t (checking t.form.message st)) r.0, job.1, r.1)
 entry_by true t (j ∷ js) left taken replies rest reply st job r =
-    (ap (λ (x : List Job). heard_end (success reply) t (with_asked x (reply ∷ []) (after_entry_message t st))) job.0 ∙ ap (λ (x : Reply). heard_end (success x) t (with_child j x (after_entry_message t st))) r.0, job.1, r.1)
+    (ap (λ (x : List Job). heard_end (success reply) t (with_asked x (reply ∷ []) (checking t.form.message st))) job.0 ∙ ap (λ (x : Reply). heard_end (success x) t (with_child j x (checking t.form.message st))) r.0, job.1, r.1)
 entry_by false t jobs left taken replies rest reply st job r = (refl, job.1, r.1)
 
 pub entries_more : (entries : List waiting.Waiting) (i : ℕ) (e : waiting.Waiting) (jobs left taken : List Job) (replies rest : List Reply) (reply : Reply) (st now last : State) → i < length entries → e ≡ get_or entries i e

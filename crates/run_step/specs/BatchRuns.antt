@@ -9,11 +9,11 @@ use Rattle.ac_tree.specs.declared.listed.Listed.{Listed}
 use Rattle.meaning.specs.Batches.{Batch, batched}
 use Rattle.meaning.specs.State.{State, Scope, then_run}
 use Rattle.plan.specs.Broken.{guarded_all}
-use Rattle.run_test.specs.declared.course.EntryTest.{EntryTest}
+use Rattle.run_forms.specs.declared.course.FormCourse.{FormCourse}
 use Rattle.run_test.specs.declared.wait.Waiting as waiting
 use Rattle.run_test.specs.declared.wait.Wait.TheVariants as wait
-use Rattle.run_test.specs.Batched.{after_entries, entry_end}
-use Rattle.run_test.specs.Entries.{after_entry_message, known_end}
+use Rattle.meaning.specs.Tests.{checking}
+use Rattle.run_test.specs.Batched.{after_entries, entry_end, known_end}
 use Rattle.run_test.specs.Flows.{Inside}
 use Rattle.run_test.specs.Waits.{all_replies, resumed}
 use Rattle.run_step.specs.Waiting.{any_asks, front_end, fronted}
@@ -36,11 +36,11 @@ end_run batch jobs replies scope st tests next =
     resumed tests (wait.Batch batch) jobs (all_replies replies) (next 0) scope st
 
 -- The state after an entry that asked for no child. (own)
-abbrev pub quiet_end : EntryTest → State → State
-quiet_end test st = known_end (value_of st.vars test.name) test (after_entry_message test st)
+abbrev pub quiet_end : FormCourse → State → State
+quiet_end test st = known_end (value_of st.vars test.name) test (checking test.form.message st)
 
 -- The state after an entry that asked for this job and got this reply. (own)
-abbrev pub asked_end : EntryTest → Option Job → Reply → State → State
+abbrev pub asked_end : FormCourse → Option Job → Reply → State → State
 asked_end test job reply st = entry_end true test (option_to_list job) (reply ∷ []) st
 
 -- The state after an entry; it asked for this job, if it asked. (own)

@@ -10,7 +10,7 @@ use Rattle.meaning.specs.Meaning.{check_prog, has_value, is_full_name}
 use Rattle.meaning.specs.Rows.{TestKind, Search, kind_for, value_or_empty}
 use Rattle.meaning.specs.State.{State}
 use Rattle.run_test.specs.declared.trying.Opening.{Opening}
-use Rattle.run_test.specs.Courses.{value_in}
+use Rattle.form_rows.specs.Forms.{value_in}
 use Rattle.run_test.specs.Starts.{Opens, program_kind}
 
 -- The value that a variable gets if its program is found; none stands for the full name of the program. (Autoconf's

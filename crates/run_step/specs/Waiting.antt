@@ -6,14 +6,16 @@ use Rattle.deftable.specs.Table.{value_of}
 use Rattle.deftable.specs.declared.note.Stream.TheVariants as streams
 use Rattle.shellword.specs.declared.part.Part.{Part}
 use Rattle.ac_tree.specs.declared.listed.Listed.{Listed}
-use Rattle.ac_tree.specs.declared.listed.Sought.TheVariants.{ListEntry}
 use Rattle.meaning.specs.State.{State, Run, Ends, Stopped, with_note}
 use Rattle.meaning.specs.Asking.{no_compiler}
 use Rattle.meaning.specs.Batches.{is_known}
-use Rattle.meaning.specs.Rows.{entry_job, entry_name}
+use Rattle.meaning.specs.Tests.{checking}
 use Rattle.plan.specs.Broken.{broken_all}
-use Rattle.run_test.specs.Courses.{entry_test}
-use Rattle.run_test.specs.Entries.{after_entry_message, known_end}
+use Rattle.test_forms.specs.declared.form.TestForm.{TestForm}
+use Rattle.form_rows.specs.Batches.{listed_form, test_job}
+use Rattle.form_rows.specs.Forms.{form_name}
+use Rattle.run_forms.specs.Courses.{bare_course}
+use Rattle.run_test.specs.Batched.{known_end}
 use Rattle.run_test.specs.declared.wait.Waiting as waiting
 
 -- One of the entries has this cached name. (own)
@@ -24,25 +26,27 @@ is_named name entries = list_any (λ e. bytes_eq name e.test.name) entries
 abbrev pub names_before : List waiting.Waiting → List (List ℕ)
 names_before entries = reverse (map (λ e. e.test.name) entries)
 
--- The test of an entry, given the names of earlier ones. (own)
-abbrev pub waiting_at : Listed → List (List ℕ) → List ℕ → State → waiting.Waiting
-waiting_at listed earlier entry st =
-    record { test = entry_test (ListEntry listed) entry true; asks = not (is_known (entry_name listed entry) earlier st) }
+-- The forms of the entries of a list. (own)
+abbrev pub forms_in : Listed → List (List ℕ) → List TestForm
+forms_in listed entries = map (λ entry. listed_form listed entry true) entries
 
--- The tests of entries, of which each asks for a child if its name is unset, and is not that of an earlier one. (own)
-abbrev pub waiting_for : Listed → List (List ℕ) → List (List ℕ) → State → List waiting.Waiting
-waiting_for listed earlier [] st = []
-waiting_for listed earlier (entry ∷ more) st =
-    waiting_at listed earlier entry st ∷ waiting_for listed (entry_name listed entry ∷ earlier) more st
+-- The test of a form, given the names of earlier ones. (own)
+abbrev pub waiting_at : List (List ℕ) → TestForm → State → waiting.Waiting
+waiting_at earlier form st = record { test = bare_course form; asks = not (is_known (form_name form) earlier st) }
 
--- The job of an entry that asks; its place in the list, from 1, is its number. (own)
-abbrev pub job_at : Listed → Option (List Part) → ℕ → waiting.Waiting → State → Option Job
-job_at listed includes place e st = if e.asks then entry_job listed e.test.entry includes place st else None
+-- The tests of forms, of which each asks for a child if its name is unset, and is not that of an earlier one. (own)
+abbrev pub waiting_for : List (List ℕ) → List TestForm → State → List waiting.Waiting
+waiting_for earlier [] st = []
+waiting_for earlier (form ∷ more) st = waiting_at earlier form st ∷ waiting_for (form_name form ∷ earlier) more st
 
--- The jobs of these entries. (own)
-abbrev pub jobs_of : Listed → Option (List Part) → ℕ → List waiting.Waiting → State → List Job
-jobs_of listed includes place [] st = []
-jobs_of listed includes place (e ∷ more) st = option_to_list (job_at listed includes place e st) ++ jobs_of listed includes (suc place) more st
+-- The job of a test that asks, and was given these includes; its place in the list, from 1, is its number. (own)
+abbrev pub job_at : Option (List Part) → ℕ → waiting.Waiting → State → Option Job
+job_at includes place e st = if e.asks then test_job (record { form = e.test.form; given = includes }) place st else None
+
+-- The jobs of these tests. (own)
+abbrev pub jobs_of : Option (List Part) → ℕ → List waiting.Waiting → State → List Job
+jobs_of includes place [] st = []
+jobs_of includes place (e ∷ more) st = option_to_list (job_at includes place e st) ++ jobs_of includes (suc place) more st
 
 -- An entry asks for a child. (own)
 abbrev pub any_asks : List waiting.Waiting → Bool
@@ -52,7 +56,7 @@ any_asks (e ∷ more) = e.asks || any_asks more
 -- The state after the entries before the first that asks for a child. (own)
 abbrev pub front_end : List waiting.Waiting → State → State
 front_end [] st = st
-front_end (e ∷ more) st = if e.asks then st else front_end more (known_end (value_of st.vars e.test.name) e.test (after_entry_message e.test st))
+front_end (e ∷ more) st = if e.asks then st else front_end more (known_end (value_of st.vars e.test.name) e.test (checking e.test.form.message st))
 
 -- What follows inside these tests if nothing is asked for: an entry that asks for a child stops the run, since there is no
 -- compiler. (Autoconf's manual, "Running the Compiler")

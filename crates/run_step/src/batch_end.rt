@@ -13,10 +13,10 @@ ghost use Rattle.run_step.specs.Taking.{Takes, TakesReply};
 use crate::batch_start::end_quiet;
 use crew_jobs::Job;
 use crew_trait::Reply;
+use run_forms::{FormCourse, begin_form, end_heard};
 use run_state::Store;
-use run_test::entries::{begin_entry, end_heard};
 use run_test::replies::{log_asked, success};
-use run_test::{EntryTest, Flow, Waiting};
+use run_test::{Flow, Waiting};
 use std::alloc::{AllocError, Global};
 
 /// Takes the next job, if the entry asked for one. The next one is last.
@@ -44,14 +44,14 @@ fn take_reply(replies: &mut Vec<Option<Reply>>, asks: bool) -> Reply
 fn end_asked(
     alloc: Global,
     store: &mut Store,
-    test: &EntryTest,
+    test: &FormCourse,
     job: Option<Job>,
     reply: Reply,
 ) -> Result<(), AllocError>
     ensures { OnOk result (store.new ≡ asked_end test.now job reply store.old) }
 {
     let heard = success(&reply);
-    begin_entry(alloc, store, test)?;
+    begin_form(alloc, store, test)?;
     log_asked(store, job, reply)?;
     end_heard(alloc, store, test, heard)
 }

@@ -1,16 +1,18 @@
 //! Which entries of a batch ask for a child, and their jobs.
 
-ghost use Rattle.std.specs.Prelude.{◌≡◌, ◌≤◌, ◌||◌, [], IfOk, length};
+ghost use Rattle.std.specs.Prelude.{◌≡◌, ◌≤◌, ◌||◌, [], true, IfOk, length};
 ghost use Rattle.std.specs.Prelude.{◌++◌, OnOk, bytes_eq, option_to_list};
 ghost use Rattle.meaning.specs.Batches.{is_known};
-ghost use Rattle.run_step.specs.Waiting.{is_named, job_at, jobs_of, names_before, waiting_for};
+ghost use Rattle.form_rows.specs.Batches.{listed_form};
+ghost use Rattle.run_forms.specs.Courses.{bare_course};
+ghost use Rattle.run_step.specs.Waiting.{forms_in, is_named, job_at, jobs_of, names_before, waiting_for};
 
-use ac_tree::{Listed, Sought};
+use ac_tree::Listed;
 use crew_jobs::Job;
 use deftable::Bytes;
+use run_forms::{FormCourse, bare_course, test_job};
 use run_state::Store;
-use run_test::Waiting;
-use run_test::entries::{entry_job, entry_test};
+use run_test::{Waiting, listed_form};
 use shellword::HereText;
 use std::alloc::{AllocError, Global};
 
@@ -41,6 +43,14 @@ fn is_known(store: &Store, earlier: &[Waiting], name: &[u8]) -> bool
     store.get(name).is_some() || is_named(earlier, name)
 }
 
+/// Returns the test of an entry.
+fn entry_course(alloc: Global, listed: Listed, entry: &Bytes) -> Result<FormCourse, AllocError>
+    ensures { IfOk result (λ c. c ≡ bare_course (listed_form listed entry.now true)) }
+{
+    let form = listed_form(alloc, listed, entry.as_slice(), true)?;
+    bare_course(alloc, form)
+}
+
 /// Returns the tests of the entries. An entry asks for a child if its name is unset, and is not
 /// that of an earlier entry.
 pub(crate) fn waiting_for(
@@ -49,11 +59,11 @@ pub(crate) fn waiting_for(
     listed: Listed,
     entries: &[Bytes],
 ) -> Result<Vec<Waiting>, AllocError>
-    ensures { IfOk result (λ v. v.items ≡ waiting_for listed [] entries.now store.now) }
+    ensures { IfOk result (λ v. v.items ≡ waiting_for [] (forms_in listed entries.now) store.now) }
 {
     let mut all = Vec::new(alloc);
     for i in 0..entries.len() {
-        let test = entry_test(alloc, Sought::ListEntry(listed), &entries[i], true)?;
+        let test = entry_course(alloc, listed, &entries[i])?;
         let asks = !is_known(store, all.as_slice(), test.name.as_slice());
         all.push(Waiting { test, asks })?;
     }
@@ -64,24 +74,16 @@ pub(crate) fn waiting_for(
 fn job_of(
     alloc: Global,
     store: &Store,
-    listed: Listed,
     includes: &Option<HereText>,
     number: u64,
     entry: &Waiting,
 ) -> Result<Option<Job>, AllocError>
-    ensures { IfOk result (λ job. job ≡ job_at listed includes.now number entry.now store.now) }
+    ensures { IfOk result (λ job. job ≡ job_at includes.now number entry.now store.now) }
 {
     if !entry.asks {
         return Ok(None);
     }
-    entry_job(
-        alloc,
-        store,
-        listed,
-        entry.test.entry.as_slice(),
-        includes,
-        number,
-    )
+    test_job(alloc, store, &entry.test.form, includes, number)
 }
 
 /// Adds a job to a list, if there is one.
@@ -102,16 +104,15 @@ fn put_job(jobs: &mut Vec<Job>, job: Option<Job>) -> Result<(), AllocError>
 pub(crate) fn jobs_of(
     alloc: Global,
     store: &Store,
-    listed: Listed,
     includes: &Option<HereText>,
     entries: &[Waiting],
 ) -> Result<Vec<Job>, AllocError>
     requires { length entries.now ≤ 256 }
-    ensures { IfOk result (λ v. v.items ≡ jobs_of listed includes.now 1 entries.now store.now) }
+    ensures { IfOk result (λ v. v.items ≡ jobs_of includes.now 1 entries.now store.now) }
 {
     let mut jobs = Vec::new(alloc);
     for i in 0..entries.len() {
-        let job = job_of(alloc, store, listed, includes, i as u64 + 1, &entries[i])?;
+        let job = job_of(alloc, store, includes, i as u64 + 1, &entries[i])?;
         put_job(&mut jobs, job)?;
     }
     Ok(jobs)

@@ -6,11 +6,11 @@ ghost use Rattle.run_step.specs.BatchRuns.{IsFronted, front_run, list_run, quiet
 
 use crate::batch_jobs::{jobs_of, waiting_for};
 use ac_tree::{Entries, Listed};
+use run_forms::{FormCourse, begin_form, end_known};
 use run_state::Store;
 use run_state::pieces::break_test;
 use run_test::compiler::stop_without_compiler;
-use run_test::entries::{begin_entry, end_known};
-use run_test::{EntryTest, Flow, Wait, Waiting};
+use run_test::{Flow, Wait, Waiting};
 use shellword::HereText;
 use std::alloc::{AllocError, Global};
 
@@ -19,12 +19,12 @@ use std::alloc::{AllocError, Global};
 pub(crate) fn end_quiet(
     alloc: Global,
     store: &mut Store,
-    test: &EntryTest,
+    test: &FormCourse,
 ) -> Result<(), AllocError>
     ensures { OnOk result (store.new ≡ quiet_end test.now store.old) }
 {
     let value = store.value_of(alloc, test.name.as_slice())?;
-    begin_entry(alloc, store, test)?;
+    begin_form(alloc, store, test)?;
     match value {
         Some(value) => end_known(alloc, store, test, value.as_slice()),
         None => break_test(alloc, store, test.name.as_slice()),
@@ -68,7 +68,7 @@ pub fn begin_batch(
     ensures leads { LedOn result (list_run listed entries.now includes.now) store.old store.new }
 {
     let waiting = waiting_for(alloc, store, listed, entries.as_slice())?;
-    let jobs = jobs_of(alloc, store, listed, includes, waiting.as_slice())?;
+    let jobs = jobs_of(alloc, store, includes, waiting.as_slice())?;
     if jobs.is_empty() {
         // for the proof only: the flow has a name
         let flow = end_now(alloc, store, waiting.as_slice())?;

@@ -10,7 +10,7 @@
 //! ```
 //!
 //! Read the crate `run_test` first: it says what a step waits for and what follows it, and has the
-//! tests of programs, entries, types and libraries. Then read `stepping`: one step. `statements`
+//! tests of programs and those that have a form. Then read `stepping`: one step. `statements`
 //! does what statements do, and `programs` opens the tests of programs. `asking` begins the
 //! choices: a question that is a test becomes a course there. `checks` begins and ends
 //! AC_CACHE_CHECK. `replying` continues with the replies to the jobs of a step. The crate

@@ -7,8 +7,8 @@ ghost use Rattle.run_test.specs.Starts.{Opens};
 use ac_tree::ProgramValue;
 use ac_tree::test_names::{program_name, search_name};
 use deftable::{Bytes, Name};
+use run_forms::value_in;
 use run_state::Store;
-use run_test::entries::value_of;
 use run_test::{Opening, Search, open_program};
 use shellword::HereText;
 use std::alloc::{AllocError, Global};
@@ -80,7 +80,7 @@ pub(crate) fn open_search(
     let variable = variable.as_slice();
     let name = search_name(alloc, value, variable)?;
     let found = found_in(alloc, store, value)?;
-    let otherwise = value_of(alloc, store, otherwise)?;
+    let otherwise = value_in(alloc, store, otherwise)?;
     let search = search(alloc, variable, name, program, found, otherwise)?;
     open_program(alloc, store, search, counts_for(store, value, variable))
 }

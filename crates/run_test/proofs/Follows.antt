@@ -12,13 +12,15 @@ use Rattle.meaning.specs.Asking.{child, compiled, attempted, same, after_child, 
 use Rattle.plan.specs.Broken.{broken_all}
 use Rattle.run_test.specs.declared.course.Course.{Course}
 use Rattle.run_test.specs.declared.course.Trial.{Trial}
-use Rattle.run_test.specs.declared.attempts.Attempt.{Attempt}
+use Rattle.run_forms.specs.declared.attempts.Attempt.{Attempt}
 use Rattle.run_test.specs.declared.flow.Flow.{Flow}
 use Rattle.run_test.specs.declared.flow.Flow.TheVariants as flow
-use Rattle.run_test.specs.Attempts.{IsAttempt, attempt_of, lacks_job}
+use Rattle.run_forms.specs.Attempts.{attempt_of}
+use Rattle.run_test.specs.Attempts.{IsAttempt, lacks_job}
 use Rattle.run_test.specs.Flows.{Leads, Led}
 use Rattle.run_test.specs.Runs.{begun_run, trying_run}
-use Rattle.run_test.specs.Courses.{name_in, message_in, attempts_in, count_in, otherwise_in, may_start}
+use Rattle.form_rows.specs.Forms.{may_start}
+use Rattle.run_test.specs.Courses.{name_in, message_in, attempts_in, count_in, otherwise_in}
 use Rattle.run_test.specs.Trying.{test_end, trying, after_attempt, moved, scope_otherwise, state_otherwise, stopped_in}
 use Rattle.run_test.proofs.Rows.{count_is}
 

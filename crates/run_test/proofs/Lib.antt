@@ -1,5 +1,4 @@
 pub mod Places
-pub mod GivenIncludes
 pub mod Rows
 pub mod Ends
 pub mod Starts

@@ -5,10 +5,16 @@ use Rattle.crew_trait.specs.declared.reply.Reply.{Reply}
 use Rattle.deftable.specs.Table.{value_of}
 use Rattle.meaning.specs.State.{State, with_child, Cut, Run, Ends}
 use Rattle.meaning.specs.Asking.{success, only_reply}
+use Rattle.meaning.specs.Tests.{broken, checking}
 use Rattle.plan.specs.Broken.{broken_all}
-use Rattle.run_test.specs.declared.course.EntryTest.{EntryTest}
 use Rattle.run_test.specs.declared.wait.Waiting as waiting
-use Rattle.run_test.specs.Entries.{after_entry_message, heard_end, known_end}
+use Rattle.run_forms.specs.Ends.{heard_end, known}
+use Rattle.run_forms.specs.declared.course.FormCourse.{FormCourse}
+
+-- The test ends with the value of its name; if there is none, its child was refused before. (own)
+abbrev pub known_end : Option (List ℕ) → FormCourse → State → State
+known_end None c st = broken c.name Cut st
+known_end (Some value) c st = known c value st
 
 -- The log gets the job that was asked for, with its reply. (own)
 abbrev pub with_asked : List Job → List Reply → State → State
@@ -21,9 +27,9 @@ rest_after true xs = drop 1 xs
 rest_after false xs = xs
 
 -- The end of an entry of a batch: it asked for the first of these jobs, or for none. (own)
-abbrev pub entry_end : Bool → EntryTest → List Job → List Reply → State → State
-entry_end true t jobs replies st = heard_end (success (only_reply replies)) t (with_asked jobs replies (after_entry_message t st))
-entry_end false t jobs replies st = known_end (value_of st.vars t.name) t (after_entry_message t st)
+abbrev pub entry_end : Bool → FormCourse → List Job → List Reply → State → State
+entry_end true c jobs replies st = heard_end (success (only_reply replies)) c (with_asked jobs replies (checking c.form.message st))
+entry_end false c jobs replies st = known_end (value_of st.vars c.name) c (checking c.form.message st)
 
 -- The state after the entries of a batch, in the order of the list. (own)
 abbrev pub after_entries : List waiting.Waiting → List Job → List Reply → State → State

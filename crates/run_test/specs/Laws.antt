@@ -4,7 +4,8 @@ use Rattle.meaning.specs.State.{State, Scope, answered}
 use Rattle.meaning.specs.Rows as rows
 use Rattle.meaning.specs.Rows.{TestKind, is_found, row_of}
 use Rattle.run_test.specs.declared.course.Course.{Course}
-use Rattle.run_test.specs.Courses.{Table, attempts_in, count_in, course_of, row_in, scope_in}
+use Rattle.form_rows.specs.Forms.{Table}
+use Rattle.run_test.specs.Courses.{attempts_in, count_in, course_of, row_in, scope_in}
 
 -- The test of a kind is that of its course: name, message, attempts, the value if none of them ends the test, what is shown,
 -- whether it can begin, and what is done with the value. (own)

@@ -1,6 +1,5 @@
 pub mod Courses
 pub mod Attempts
-pub mod Entries
 pub mod Trying
 pub mod Batched
 pub mod Waits

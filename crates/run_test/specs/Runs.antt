@@ -10,7 +10,8 @@ use Rattle.plan.specs.Broken.{broken_all, guarded_all}
 use Rattle.run_test.specs.declared.course.Course.{Course}
 use Rattle.run_test.specs.declared.course.Trial.{Trial}
 use Rattle.run_test.specs.declared.wait.Wait.{Wait}
-use Rattle.run_test.specs.Courses.{name_in, message_in, attempts_in, scope_in, course_of, may_start}
+use Rattle.form_rows.specs.Forms.{may_start}
+use Rattle.run_test.specs.Courses.{name_in, message_in, attempts_in, scope_in, course_of}
 use Rattle.run_test.specs.Flows.{Inside}
 use Rattle.run_test.specs.Trying.{known_in, trying, after_attempt}
 use Rattle.run_test.specs.Waits.{after_reply}

@@ -1,17 +1,19 @@
 -- The tests that a plan's steps begin.
-use Rattle.std.specs.Prelude.{◌≡◌, ◌+◌, ℕ, Bool, List, [], Option, None, Some, Result, IfOk, length, if◌then◌else◌}
+use Rattle.std.specs.Prelude.{◌≡◌, ◌+◌, ℕ, Bool, None, Some, Result, IfOk, length}
 use Rattle.deftable.specs.Table.{value_of}
-use Rattle.shellword.specs.declared.part.Part.{Part}
 use Rattle.std.specs.declared.alloc.AllocError.{AllocError}
 use Rattle.meaning.specs.State.{State, Scope}
-use Rattle.meaning.specs.Rows.{TestKind, Search, Program, Single, Sized, Library, Libraries, name_of, libraries_after, value_if, value_or_empty}
+use Rattle.meaning.specs.Rows.{TestKind, Search, Program, Single, Sized, Library, Libraries, name_of, value_if, value_or_empty}
 use Rattle.plan.specs.Inside.{most_directories}
+use Rattle.form_rows.specs.Forms.{FormTest, form_name}
+use Rattle.run_forms.specs.Courses as forms
 use Rattle.run_test.specs.declared.course.Course.{Course}
+use Rattle.run_test.specs.declared.course.Course.TheVariants.{Formed}
 use Rattle.run_test.specs.declared.trying.Opening.{Opening}
 use Rattle.run_test.specs.declared.flow.Flow.{Flow}
 use Rattle.run_test.specs.Flows.{IsStep, Led}
 use Rattle.run_test.specs.Runs.{kind_run}
-use Rattle.run_test.specs.Courses.{course_by, course_of, value_in}
+use Rattle.run_test.specs.Courses.{course_by, course_of}
 
 -- An opening is that of a kind: it has the value of the test's name, and the test's course by that value. (own)
 pub record Opens (kind : TestKind) (st : State) (o : Opening) : Type 0 where
@@ -46,10 +48,7 @@ path_course s st = course_of (Program s None) st
 abbrev pub own_course : Search → State → Course
 own_course s st = course_of (Program s (Some (value_or_empty st s.variable))) st
 
--- A text's value, unless the name of the test is set. (own)
-abbrev pub value_unless : Bool → Option (List Part) → State → Option (List ℕ)
-value_unless known text st = if known then None else value_in text st
-
--- What is linked after a library, unless the name of the test is set. (own)
-abbrev pub after_unless : Bool → Option (List Part) → State → List ℕ
-after_unless known others st = if known then [] else libraries_after others st
+-- An opening is that of the test of a form, which the definitions of forms have. (own)
+pub record OpensFormed (t : FormTest) (st : State) (o : Opening) : Type 0 where
+  pub value : o.value ≡ value_of st.vars (form_name t.form)
+  pub course : o.course ≡ Formed (forms.course_by o.value t st)

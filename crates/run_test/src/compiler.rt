@@ -1,17 +1,16 @@
 //! Jobs that need a compiler.
 
-ghost use Rattle.std.specs.Prelude.{◌≡◌, ◌++◌, IfOk, OnOk, codes};
+ghost use Rattle.std.specs.Prelude.{◌≡◌, IfOk, OnOk};
 ghost use Rattle.deftable.specs.declared.note.Stream.TheVariants as streams;
 ghost use Rattle.meaning.specs.Asking.{no_compiler};
 ghost use Rattle.meaning.specs.State.{with_note};
-ghost use Rattle.run_test.specs.Attempts.{job_with, tried_job};
+ghost use Rattle.run_test.specs.Attempts.{tried_job};
 ghost use Rattle.run_test.specs.declared.flow.Flow.TheVariants.{Stop};
 
 use crate::flow::Flow;
 use ac_tree::Try;
-use conftest::{JobFault, compile_job, link_job, link_job_with, preproc_job};
+use conftest::{JobFault, compile_job, link_job, preproc_job};
 use crew_jobs::Job;
-use deftable::Bytes;
 use run_state::Store;
 use run_state::pieces::report_no_compiler;
 use std::alloc::{AllocError, Global};
@@ -32,40 +31,6 @@ pub fn job_to_try(
         Try::Link | Try::Run => link_job(alloc, store.vars(), store.defs(), source, number),
         Try::Preproc => preproc_job(alloc, store.vars(), store.defs(), source, number),
     };
-    match job {
-        Ok(job) => Ok(Some(job)),
-        Err(JobFault::NoCompiler) => Ok(None),
-        Err(JobFault::OutOfMemory) => Err(AllocError),
-    }
-}
-
-/// Returns the value of LIBS under which a library is tested. `after` is linked after it.
-fn libs_with(alloc: Global, library: &[u8], after: &[u8]) -> Result<Bytes, AllocError>
-    ensures { IfOk result (λ v. v ≡ codes "-l" ++ library.now ++ codes " " ++ after.now) }
-{
-    Bytes::concat(alloc, &[b"-l", library, b" ", after])
-}
-
-/// Returns the job that links a program with a library, or `None` if there is no compiler. `after`
-/// is linked after the library.
-pub(crate) fn job_with(
-    alloc: Global,
-    store: &Store,
-    source: &[u8],
-    library: &[u8],
-    after: &[u8],
-) -> Result<Option<Job>, AllocError>
-    ensures { IfOk result (λ job. job ≡ job_with source.now library.now after.now store.now) }
-{
-    let libs = libs_with(alloc, library, after)?;
-    let job = link_job_with(
-        alloc,
-        store.vars(),
-        libs.as_slice(),
-        store.defs(),
-        source,
-        0,
-    );
     match job {
         Ok(job) => Ok(Some(job)),
         Err(JobFault::NoCompiler) => Ok(None),

@@ -2,8 +2,8 @@
 
 ghost use Rattle.std.specs.Prelude.{◌≡◌, ◌+◌, ◌<◌, ◌^◌, Some};
 
-use ac_tree::Sought;
 use deftable::{Bytes, Texts};
+use run_forms::FormCourse;
 use std::marker::Model;
 
 /// A search for a program, which sets a variable. Contracts see it as `meaning` defines it.
@@ -60,57 +60,13 @@ impl Search {
     }
 }
 
-/// A test of a header, a function, a declaration or a type.
-pub struct EntryTest {
-    pub sought: Sought,
-    pub entry: Bytes,
-    /// The cached name.
-    pub name: Bytes,
-    /// Whether the result is defined.
-    pub defines: bool,
-}
-
-impl Drop for EntryTest {
-    fn drop(self) {
-        let EntryTest {
-            sought: _sought,
-            entry: _entry,
-            name: _name,
-            defines: _defines,
-        } = self;
-    }
-}
-
 /// A test, with the values that it was begun with.
 #[derive(Drop)]
 pub enum Course {
     /// A program is looked for in these directories.
-    Program {
-        search: Search,
-        directories: Texts,
-    },
-    /// An entry or a type. Without includes the default ones count.
-    Entry {
-        test: EntryTest,
-        includes: Option<Bytes>,
-    },
-    /// A function is looked for in a library. `after` is linked after it.
-    Library {
-        name: Bytes,
-        function: Bytes,
-        library: Bytes,
-        after: Bytes,
-        /// Whether the library is defined and added to LIBS.
-        adds: bool,
-    },
-    /// A function is looked for in none of these libraries, and then in each. `after` is linked
-    /// after each.
-    Libraries {
-        name: Bytes,
-        function: Bytes,
-        after: Bytes,
-        libraries: Texts,
-    },
+    Program { search: Search, directories: Texts },
+    /// Any other test.
+    Formed { course: FormCourse },
 }
 
 /// A test that has begun, and the place of its next attempt, from 0.

@@ -4,16 +4,16 @@
 //! [`open_program`] finds that the name of the test is unset, and [`start`] asks for a child that
 //! tests `/usr/local/bin/cc`. If that is no program, [`take_answer`] asks for `/usr/bin/cc`.
 //!
-//! Read `specs/Courses` first. A test that has begun is a course: a search for a program, an entry
-//! or a type, a library, or several libraries. Each has a row in each column: its name, what it
-//! checks, its attempts, the value if none of them ends it, what is shown, what is done with the
+//! Read `specs/Courses` first. A test that has begun is a course: a search for a program, or the
+//! course of a form, which the crate `run_forms` has. Each has a row in each column: its name, what
+//! it checks, its attempts, the value if none of them ends it, what is shown, what is done with the
 //! value, and what is answered. `specs/Trying` and `specs/Runs` have the rest of a test, and
 //! `specs/Flows` what it means that a run continues as a flow says.
 //!
 //! In `src`, read `course`, `wait` and `flow`, which have the types. `values` has the columns, and
 //! `attempts` makes an attempt when its turn comes. `trying` begins any test, takes the answers to
-//! its attempts and ends it. `starting` makes the course of a test: a new kind of test adds a row
-//! to each column, and a start. `entries` has what batches need of an entry's test, too.
+//! its attempts and ends it. `starting` makes the course of a test: a new kind of test adds a start,
+//! and its form.
 //!
 //! The theorem is that the test of each kind, with what follows it, continues as the flow says,
 //! whatever the tests around it.
@@ -25,9 +25,7 @@ mod attempts;
 pub mod compiler;
 pub mod course;
 mod directories;
-pub mod entries;
 pub mod flow;
-mod loan;
 pub mod questions;
 pub mod replies;
 mod starting;
@@ -35,9 +33,9 @@ pub mod trying;
 pub mod values;
 pub mod wait;
 
-pub use course::{Course, EntryTest, Search, Trial};
+pub use course::{Course, Search, Trial};
 pub use flow::Flow;
-pub use starting::{open_entry, open_libraries, open_library, open_program};
+pub use starting::{listed_form, open_entry, open_libraries, open_library, open_program};
 pub use trying::{Opening, break_off, start, take_answer};
 pub use wait::{Wait, Waiting};
 

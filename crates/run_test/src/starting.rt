@@ -1,20 +1,23 @@
 //! Where a step of a plan becomes a course: the tests of programs, entries, types and libraries.
 
-ghost use Rattle.std.specs.Prelude.{◌≡◌, [], IfOk, if◌then◌else◌};
-ghost use Rattle.meaning.specs.Rows.{Libraries, Library, kind_for, libraries_after, others_text};
-ghost use Rattle.run_test.specs.Courses.{course_of};
-ghost use Rattle.run_test.specs.Starts.{Opens, after_unless, own_course, path_course, program_kind, value_unless};
+ghost use Rattle.std.specs.Prelude.{◌≡◌, IfOk};
+ghost use Rattle.form_rows.specs.Batches.{listed_form};
+ghost use Rattle.meaning.specs.Rows.{Libraries, Library, kind_for};
+ghost use Rattle.run_test.specs.Courses.{course_of, sought_form};
+ghost use Rattle.run_test.specs.Starts.{Opens, OpensFormed, own_course, path_course, program_kind};
 
 use crate::course::{Course, Search};
 use crate::directories::path_directories;
-use crate::entries::{entry_test, value_of};
 use crate::trying::Opening;
-use ac_tree::Sought;
-use ac_tree::test_names::{libraries_name, library_name};
+use ac_tree::{Listed, Sought};
 use deftable::{Bytes, Texts};
+use run_forms::open_form;
 use run_state::Store;
 use shellword::HereText;
 use std::alloc::{AllocError, Global};
+use test_forms::{
+    TestForm, declaration_form, function_form, header_form, library_form, search_form, type_form,
+};
 
 /// Returns the course of a search in the directories of PATH.
 fn path_course(alloc: Global, store: &Store, search: Search) -> Result<Course, AllocError>
@@ -76,23 +79,55 @@ pub fn open_program(
     Ok(Opening { course, value })
 }
 
-/// Returns the value of a text, if there is one. If `known` is true, the name of the test is set,
-/// and none is needed.
-fn value_unless(
+/// Opens the test of a form, which was given these includes or other libraries.
+fn open_formed(
     alloc: Global,
     store: &Store,
-    text: &Option<HereText>,
-    known: bool,
-) -> Result<Option<Bytes>, AllocError>
-    ensures { IfOk result (λ v. v ≡ value_unless known text.now store.now) }
+    form: TestForm,
+    given: &Option<HereText>,
+) -> Result<Opening, AllocError>
+    ensures { IfOk result (OpensFormed (record { form = form; given = given.now }) store.now) }
 {
-    if known {
-        return Ok(None);
+    let run_forms::Opening { course, value } = open_form(alloc, store, form, given)?;
+    Ok(Opening {
+        course: Course::Formed { course },
+        value,
+    })
+}
+
+/// Returns the form of the test of an entry.
+pub fn listed_form(
+    alloc: Global,
+    listed: Listed,
+    entry: &[u8],
+    defines: bool,
+) -> Result<TestForm, AllocError>
+    ensures { IfOk result (λ f. f ≡ listed_form listed entry.now defines) }
+{
+    match listed {
+        Listed::Header => header_form(alloc, entry, defines),
+        Listed::Function => function_form(alloc, entry, defines),
+        Listed::Declaration => declaration_form(alloc, entry, defines),
     }
-    value_of(alloc, store, text)
+}
+
+/// Returns the form of the test of an entry or a type.
+fn sought_form(
+    alloc: Global,
+    sought: Sought,
+    entry: &[u8],
+    defines: bool,
+) -> Result<TestForm, AllocError>
+    ensures { IfOk result (λ f. f ≡ sought_form sought entry.now defines) }
+{
+    match sought {
+        Sought::ListEntry(listed) => listed_form(alloc, listed, entry, defines),
+        Sought::Type => type_form(alloc, entry, defines),
+    }
 }
 
 /// Opens the test of an entry or a type.
+#[tactic(auto, using(crate::proofs::Rows::entry_opens))]
 pub fn open_entry(
     alloc: Global,
     store: &Store,
@@ -103,53 +138,12 @@ pub fn open_entry(
 ) -> Result<Opening, AllocError>
     ensures { IfOk result (Opens (kind_for sought entry.now includes.now defines) store.now) }
 {
-    let test = entry_test(alloc, sought, entry, defines)?;
-    let value = store.value_of(alloc, test.name.as_slice())?;
-    let includes = value_unless(alloc, store, includes, value.is_some())?;
-    let course = Course::Entry { test, includes };
-    Ok(Opening { course, value })
-}
-
-/// Returns what is linked after a library: the other libraries, if there are any, and LIBS.
-fn libraries_after(
-    alloc: Global,
-    store: &Store,
-    others: &Option<HereText>,
-) -> Result<Bytes, AllocError>
-    ensures { IfOk result (λ text. text ≡ libraries_after others.now store.now) }
-{
-    let others = others_text(alloc, store, others)?;
-    let libs = store.value_or_empty(alloc, b"LIBS")?;
-    Bytes::concat(alloc, &[others.as_slice(), b" ", libs.as_slice()])
-}
-
-/// Returns the value of the other libraries, or no text if there are none.
-fn others_text(alloc: Global, store: &Store, others: &Option<HereText>) -> Result<Bytes, AllocError>
-    ensures { IfOk result (λ text. text ≡ others_text others.now store.now.vars) }
-{
-    match others {
-        Some(others) => store.here_text(alloc, others),
-        None => Ok(Bytes::new(alloc)),
-    }
-}
-
-/// Returns what is linked after a library. If `known` is true, the name of the test is set, and
-/// none is needed.
-fn after_unless(
-    alloc: Global,
-    store: &Store,
-    others: &Option<HereText>,
-    known: bool,
-) -> Result<Bytes, AllocError>
-    ensures { IfOk result (λ text. text ≡ after_unless known others.now store.now) }
-{
-    if known {
-        return Ok(Bytes::new(alloc));
-    }
-    libraries_after(alloc, store, others)
+    let form = sought_form(alloc, sought, entry.as_slice(), defines)?;
+    open_formed(alloc, store, form, includes)
 }
 
 /// Opens the test of AC_CHECK_LIB.
+#[tactic(auto, using(crate::proofs::Rows::library_opens))]
 pub fn open_library(
     alloc: Global,
     store: &Store,
@@ -160,33 +154,12 @@ pub fn open_library(
 ) -> Result<Opening, AllocError>
     ensures { IfOk result (Opens (Library library.now function.now others.now adds) store.now) }
 {
-    let name = library_name(alloc, library.as_slice(), function.as_slice())?;
-    let value = store.value_of(alloc, name.as_slice())?;
-    let after = after_unless(alloc, store, others, value.is_some())?;
-    let function = function.copy(alloc)?;
-    let library = library.copy(alloc)?;
-    let course = Course::Library {
-        name,
-        function,
-        library,
-        after,
-        adds,
-    };
-    Ok(Opening { course, value })
-}
-
-/// Returns a copy of the libraries. If `known` is true, the name of the test is set, and none is
-/// needed.
-fn libraries_unless(alloc: Global, libraries: &Texts, known: bool) -> Result<Texts, AllocError>
-    ensures { IfOk result (λ t. t ≡ (if known then [] else libraries.now)) }
-{
-    if known {
-        return Ok(Texts::new(alloc));
-    }
-    libraries.copy(alloc)
+    let form = library_form(alloc, library.as_slice(), function.as_slice(), adds)?;
+    open_formed(alloc, store, form, others)
 }
 
 /// Opens the test of AC_SEARCH_LIBS.
+#[tactic(auto, using(crate::proofs::Rows::libraries_open))]
 pub fn open_libraries(
     alloc: Global,
     store: &Store,
@@ -196,16 +169,6 @@ pub fn open_libraries(
 ) -> Result<Opening, AllocError>
     ensures { IfOk result (Opens (Libraries function.now libraries.now others.now) store.now) }
 {
-    let name = libraries_name(alloc, function.as_slice())?;
-    let value = store.value_of(alloc, name.as_slice())?;
-    let after = after_unless(alloc, store, others, value.is_some())?;
-    let libraries = libraries_unless(alloc, libraries, value.is_some())?;
-    let function = function.copy(alloc)?;
-    let course = Course::Libraries {
-        name,
-        function,
-        after,
-        libraries,
-    };
-    Ok(Opening { course, value })
+    let form = search_form(alloc, function.as_slice(), libraries)?;
+    open_formed(alloc, store, form, others)
 }

@@ -11,15 +11,15 @@ ghost use Rattle.run_test.specs.Starts.{AsksMost, Begins};
 ghost use Rattle.run_test.specs.Trying.{ended_in, known_in, left_in, moved, scope_after, scope_set, scope_otherwise, state_after, state_set, state_otherwise, stopped_in};
 ghost use Rattle.run_test.specs.declared.flow.Flow.TheVariants.{Pass, Stop};
 
-use crate::attempts::{Attempt, attempt_at};
+use crate::attempts::attempt_at;
 use crate::compiler::stop_without_compiler;
 use crate::course::{Course, Trial};
 use crate::flow::Flow;
-use crate::loan::Loan;
 use crate::values::{answer, begin_message, name_of, otherwise_of, shown_of, use_value};
 use crate::wait::Wait;
 use crew_jobs::Job;
 use deftable::Bytes;
+use run_forms::{Attempt, Loan};
 use run_state::pieces::{break_test, end_check, end_known_check};
 use run_state::{About, Store};
 use std::alloc::{AllocError, Global};

@@ -1,12 +1,13 @@
 //! What a machine waits for.
 
-use crate::course::{EntryTest, Trial};
+use crate::course::Trial;
 use deftable::Bytes;
+use run_forms::FormCourse;
 
 /// An entry of a batch, and whether it asked for a child.
 #[derive(Drop)]
 pub struct Waiting {
-    pub test: EntryTest,
+    pub test: FormCourse,
     pub asks: bool,
 }
 

@@ -6,6 +6,7 @@ use Rattle.test_forms.specs.declared.form.Says.TheVariants.{Yes, AllButNo}
 use Rattle.test_forms.specs.declared.form.Gives.{Gives}
 use Rattle.test_forms.specs.declared.form.Gives.TheVariants.{Nothing, Have, HaveOrNot, AddsLibrary, AddsValue}
 use Rattle.test_forms.specs.declared.form.TestForm.{TestForm}
+pub use Rattle.test_forms.specs.Tries.{linked_try}
 
 -- What a test gives, if it gives anything. (own)
 abbrev pub given_if : Bool → Gives → Gives
@@ -89,10 +90,6 @@ library_form library function adds = record {
   says = Yes;
   gives = given_if adds (AddsLibrary library);
 }
-
--- A function is linked with a library; the value is the option that names it. (Autoconf's manual, "Library Files")
-abbrev pub linked_try : List ℕ → TryForm
-linked_try library = record { snippet = Library library; ends_on = true; value = codes "-l" ++ library }
 
 -- It is linked with no further library, and then with each of these. (Autoconf's manual, "Library Files")
 abbrev pub search_tries : List (List ℕ) → List TryForm

@@ -1,21 +1,51 @@
 //! The form of each macro's test.
 
 ghost use Rattle.std.specs.Prelude.{◌≡◌, ◌∷◌, ◌++◌, [], IfOk, OnOk, codes, true};
-ghost use Rattle.test_forms.specs.Macros.{declaration_form, declared_body, function_form, header_form, library_form, linked_try, search_form, search_tries, sized_try, type_form, type_tries};
+ghost use Rattle.test_forms.specs.Macros.{declaration_form, declared_body, function_form, header_form, library_form, search_form, search_tries, sized_try, type_form, type_tries};
 ghost use Rattle.test_forms.specs.declared.form.Snippet.TheVariants.{Body, Library};
 
-use crate::form::{Gives, Says, Snippet, TestForm, Tries};
+use crate::form::{Gives, Says, Snippet, TestForm, Tries, TryForm};
 use deftable::{Bytes, Texts};
 use std::alloc::{AllocError, Global};
+
+/// Adds a try with this value.
+fn push(
+    alloc: Global,
+    tries: &mut Vec<TryForm>,
+    snippet: Snippet,
+    ends_on: bool,
+    value: &[u8],
+) -> Result<(), AllocError>
+    ensures { OnOk result (
+        tries.new.items
+        ≡ tries.old.items ++ record { snippet = snippet; ends_on = ends_on; value = value.now } ∷ []) }
+{
+    let value = Bytes::from_slice(alloc, value)?;
+    tries.push(TryForm {
+        snippet,
+        ends_on,
+        value,
+    })?;
+    Ok(())
+}
+
+/// Returns a list of one try, whose success gives the value and ends the test.
+fn one_try(alloc: Global, snippet: Snippet, value: &[u8]) -> Result<Vec<TryForm>, AllocError>
+    ensures { IfOk result (λ t.
+        t.items ≡ record { snippet = snippet; ends_on = true; value = value.now } ∷ []) }
+{
+    let mut tries = Vec::new(alloc);
+    push(alloc, &mut tries, snippet, true, value)?;
+    Ok(tries)
+}
 
 /// Returns a try whose success gives the value, and ends the test.
 fn only_try(alloc: Global, snippet: Snippet, value: &[u8]) -> Result<Tries, AllocError>
     ensures { IfOk result (λ t.
         t ≡ record { snippet = snippet; ends_on = true; value = value.now } ∷ []) }
 {
-    let mut tries = Tries::new(alloc);
-    tries.push(alloc, snippet, true, value)?;
-    Ok(tries)
+    let tries = one_try(alloc, snippet, value)?;
+    Ok(Tries::of(alloc, tries))
 }
 
 /// Returns the test of AC_CHECK_HEADER and AC_CHECK_HEADERS: a program that includes the header is
@@ -85,17 +115,17 @@ pub fn declaration_form(alloc: Global, name: &[u8], defines: bool) -> Result<Tes
 /// Adds a try that takes the size of a name, between these texts. Its value is `no`.
 fn push_sized(
     alloc: Global,
-    tries: &mut Tries,
+    tries: &mut Vec<TryForm>,
     before: &[u8],
     name: &[u8],
     after: &[u8],
     ends_on: bool,
 ) -> Result<(), AllocError>
     ensures { OnOk result (
-        tries.new ≡ tries.old ++ sized_try before.now name.now after.now ends_on ∷ []) }
+        tries.new.items ≡ tries.old.items ++ sized_try before.now name.now after.now ends_on ∷ []) }
 {
     let text = Bytes::concat(alloc, &[before, name, after])?;
-    tries.push(alloc, Snippet::Body { text }, ends_on, b"no")
+    push(alloc, tries, Snippet::Body { text }, ends_on, b"no")
 }
 
 /// Returns the tries of a type: it has a size, and has none in parentheses.
@@ -103,10 +133,10 @@ fn type_tries(alloc: Global, name: &[u8]) -> Result<Tries, AllocError>
     ensures { IfOk result (λ t. t ≡ type_tries name.now) }
 {
     let (first, second) = (b"if (sizeof (", b"if (sizeof ((");
-    let mut tries = Tries::new(alloc);
+    let mut tries = Vec::new(alloc);
     push_sized(alloc, &mut tries, first, name, b")) return 0;", false)?;
     push_sized(alloc, &mut tries, second, name, b"))) return 0;", true)?;
-    Ok(tries)
+    Ok(Tries::of(alloc, tries))
 }
 
 /// Returns the test of AC_CHECK_TYPE and AC_CHECK_TYPES: a type is found if it has a size, and has
@@ -158,25 +188,13 @@ pub fn library_form(
     })
 }
 
-/// Adds a try with a library. Its value is the option that names the library.
-fn push_library(alloc: Global, tries: &mut Tries, library: &[u8]) -> Result<(), AllocError>
-    ensures { OnOk result (tries.new ≡ tries.old ++ linked_try library.now ∷ []) }
-{
-    let value = Bytes::concat(alloc, &[b"-l", library])?;
-    let library = Bytes::from_slice(alloc, library)?;
-    tries.push(alloc, Snippet::Library { library }, true, value.as_slice())
-}
-
 /// Returns a try with no further library, and one with each of these.
-fn search_tries(alloc: Global, libraries: &[Bytes]) -> Result<Tries, AllocError>
+fn search_tries(alloc: Global, libraries: &Texts) -> Result<Tries, AllocError>
     ensures { IfOk result (λ t. t ≡ search_tries libraries.now) }
 {
-    let mut tries = Tries::new(alloc);
-    tries.push(alloc, Snippet::Function, true, b"none required")?;
-    for library in libraries {
-        push_library(alloc, &mut tries, library.as_slice())?;
-    }
-    Ok(tries)
+    let first = one_try(alloc, Snippet::Function, b"none required")?;
+    let libraries = libraries.copy(alloc)?;
+    Ok(Tries::and_libraries(first, libraries))
 }
 
 /// Returns the test of AC_SEARCH_LIBS: a function is linked with no further library, and then with
@@ -188,7 +206,7 @@ pub fn search_form(
 ) -> Result<TestForm, AllocError>
     ensures { IfOk result (λ f. f ≡ search_form function.now libraries.now) }
 {
-    let tries = search_tries(alloc, libraries.as_slice())?;
+    let tries = search_tries(alloc, libraries)?;
     Ok(TestForm {
         entry: Bytes::from_slice(alloc, function)?,
         key: Bytes::concat(alloc, &[b"search_", function])?,

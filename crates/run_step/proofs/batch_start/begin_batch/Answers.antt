@@ -1,5 +1,4 @@
 use Rattle.std.proofs.Common.{refl, ap, ◌∙◌, length, arith}
-use Rattle.meaning.specs.Batches.{Batch}
 use Rattle.run_test.proofs.Flows.{led}
 use Rattle.run_step.proofs.Beginnings.{batch_awaits, begins_asking, begins_now, few_asked, made}
 use Rattle.run_step.proofs.Committing.{few_waiting}
@@ -12,30 +11,36 @@ jobs_of-requires c =
 
 pub returns-then-is_empty-clause-leads : goal.returns-then-is_empty-clause-leads
 returns-then-is_empty-clause-leads c = λ about.
-    let batch : Batch = record { listed = c.args.listed; entries = c.args.entries.now; includes = c.args.includes.now } in
+    let what = c.args.listed in
+    let list = c.args.entries.now in
+    let given = c.args.includes.now in
     let st = c.args.store.now in
-    let m = made batch c.as_slice.result.now c.in_ok-waiting.waiting.items c.as_slice-2.result.now c.in_ok-jobs.jobs.items st c.as_slice.ensures.value c.in_ok-waiting.ensures c.as_slice-2.ensures.value c.in_ok-jobs.ensures in
+    let m = made what list c.as_slice.result.now given c.in_ok-waiting.waiting.items c.as_slice-2.result.now c.in_ok-jobs.jobs.items st c.as_slice.ensures.value c.in_ok-waiting.ensures c.as_slice-2.ensures.value c.in_ok-jobs.ensures in
     led c.in_ok-flow.flow about c.end_now.new.store _ _
-    (λ tests next. begins_now batch c.in_ok-waiting.waiting.items c.as_slice-then-is_empty.result.now c.in_ok-jobs.jobs.items st tests (next 0 about) m c.as_slice-then-is_empty.ensures.value
+    (λ tests next. begins_now what list given c.in_ok-waiting.waiting.items c.as_slice-then-is_empty.result.now c.in_ok-jobs.jobs.items st tests (next 0 about) m c.as_slice-then-is_empty.ensures.value
     (is_nothing c.in_ok-jobs.jobs.items _ c.in_ok-jobs.jobs.ok.0 c.if-is_empty.ensures))
     (c.in_ok-flow.ensures.leads about)
 
 pub returns-clause-step : goal.returns-clause-step
 returns-clause-step c =
-    let batch : Batch = record { listed = c.args.listed; entries = c.args.entries.now; includes = c.args.includes.now } in
+    let what = c.args.listed in
+    let list = c.args.entries.now in
+    let given = c.args.includes.now in
     let st = c.args.store.now in
-    let m = made batch c.as_slice.result.now c.in_ok-waiting.waiting.items c.as_slice-2.result.now c.in_ok-jobs.jobs.items st c.as_slice.ensures.value c.in_ok-waiting.ensures c.as_slice-2.ensures.value c.in_ok-jobs.ensures in
+    let m = made what list c.as_slice.result.now given c.in_ok-waiting.waiting.items c.as_slice-2.result.now c.in_ok-jobs.jobs.items st c.as_slice.ensures.value c.in_ok-waiting.ensures c.as_slice-2.ensures.value c.in_ok-jobs.ensures in
     let some = is_something c.in_ok-jobs.jobs.items _ c.in_ok-jobs.jobs.ok.0 c.if-is_empty.ensures in
     record {
       within = omega arith;
-      asks = omega (arith, few_asked batch c.in_ok-waiting.waiting.items c.in_ok-jobs.jobs.items st m some);
-      group = batch_awaits batch c.in_ok-waiting.waiting c.in_ok-jobs.jobs.items st m some c.as_slice.ensures.bounded;
+      asks = omega (arith, few_asked what list given c.in_ok-waiting.waiting.items c.in_ok-jobs.jobs.items st m some);
+      group = batch_awaits what list given c.in_ok-waiting.waiting c.in_ok-jobs.jobs.items st m some c.as_slice.ensures.bounded;
       heeds = refl;
     }
 
 pub returns-clause-leads : goal.returns-clause-leads
 returns-clause-leads c = λ about tests next.
-    let batch : Batch = record { listed = c.args.listed; entries = c.args.entries.now; includes = c.args.includes.now } in
+    let what = c.args.listed in
+    let list = c.args.entries.now in
+    let given = c.args.includes.now in
     let st = c.args.store.now in
-    let m = made batch c.as_slice.result.now c.in_ok-waiting.waiting.items c.as_slice-2.result.now c.in_ok-jobs.jobs.items st c.as_slice.ensures.value c.in_ok-waiting.ensures c.as_slice-2.ensures.value c.in_ok-jobs.ensures in
-    begins_asking batch c.in_ok-waiting.waiting.items c.in_ok-jobs.jobs.items st tests (next 0 about) m (is_something c.in_ok-jobs.jobs.items _ c.in_ok-jobs.jobs.ok.0 c.if-is_empty.ensures)
+    let m = made what list c.as_slice.result.now given c.in_ok-waiting.waiting.items c.as_slice-2.result.now c.in_ok-jobs.jobs.items st c.as_slice.ensures.value c.in_ok-waiting.ensures c.as_slice-2.ensures.value c.in_ok-jobs.ensures in
+    begins_asking what list given c.in_ok-waiting.waiting.items c.in_ok-jobs.jobs.items st tests (next 0 about) m (is_something c.in_ok-jobs.jobs.items _ c.in_ok-jobs.jobs.ok.0 c.if-is_empty.ensures)
