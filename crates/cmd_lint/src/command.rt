@@ -269,10 +269,17 @@ fn forbids_colour(name: &[u8], value: &[u8]) -> bool
     name == b"NO_COLOR".as_slice() && !value.is_empty()
 }
 
+/// Returns whether an entry of the environment is such a NO_COLOR.
+fn has_no_color(env: &[(Bytes, Bytes)]) -> bool
+    ensures { result ≡ list_any colours.forbids_colour env.now }
+{
+    env.iter().any(|entry| forbids_colour(entry.0.as_slice(), entry.1.as_slice()))
+}
+
 /// Returns whether what is printed may have colours: standard output is a terminal, and the
 /// environment has no NO_COLOR, or an empty one (no-color.org).
 pub fn may_colour(env: &[(Bytes, Bytes)], is_terminal: bool) -> bool
     ensures { result ≡ colours.may_colour env.now is_terminal }
 {
-    is_terminal && !env.iter().any(|entry| forbids_colour(entry.0.as_slice(), entry.1.as_slice()))
+    is_terminal && !has_no_color(env)
 }
