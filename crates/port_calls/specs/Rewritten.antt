@@ -69,9 +69,19 @@ pub record HasDefault (text : List ℕ) (c : MacroCall) : Type 0 where
   pub type : is_type (text_of (Some (arg_text text default))) ≡ true
   pub spaces : list_all is_type_byte (ending (arg_text text default)) ≡ true
 
--- The call is AC_CHECK_TYPE of a type and a default, its old form.
+-- A macro of C may have this name.
+abbrev pub is_c_name : List ℕ → Bool
+is_c_name word = nat_le 1 (length word) && begins_name (slice_index word 0) && list_all is_name_byte word
+
+-- The first argument of the call is such a name.
+pub record NamesType (text : List ℕ) (c : MacroCall) : Type 0 where
+  pub named : Extent
+  pub first : slice_get c.args 0 ≡ Some named
+  pub is_name : is_c_name (text_of (Some (arg_text text named))) ≡ true
+
+-- The call is AC_CHECK_TYPE of a type and a default, its old form. The type is defined if it isn't there, so it is a name.
 abbrev pub NamesDefault : List ℕ → MacroCall → Type 0
-NamesDefault text c = (slice_range text c.start c.name_end ≡ codes "AC_CHECK_TYPE") × (length c.args ≡ 2) × HasDefault text c
+NamesDefault text c = (slice_range text c.start c.name_end ≡ codes "AC_CHECK_TYPE") × (length c.args ≡ 2) × NamesType text c × HasDefault text c
 
 -- The call has to go: the table of macros doesn't have its name, or it is AC_OUTPUT of at least one file, AC_INIT without a version,
 -- AC_MSG_RESULT without an argument, or AC_CHECK_TYPE with a default.

@@ -236,25 +236,29 @@ fn chooses_language(text: &[u8], calls: &[CallAt]) -> bool {
 
 // ---- which definitions
 
+/// What is before the first `_` of the names of macros of Autoconf and its kin.
+const PREFIXES: [&[u8]; 11] = [
+    b"AC", b"AS", b"AM", b"AH", b"AU", b"AX", b"AT", b"LT", b"PKG", b"m4", b"",
+];
+
+/// The macros of M4 whose names Autoconf leaves as they are.
+const BUILTINS: [&[u8]; 8] = [
+    b"define",
+    b"undefine",
+    b"pushdef",
+    b"popdef",
+    b"divert",
+    b"undivert",
+    b"m4wrap",
+    b"dnl",
+];
+
 /// Returns whether a macro of Autoconf or of M4 may have this name.
 fn may_be_macro(word: &[u8]) -> bool {
     let front = word.iter().take_while(|byte| **byte != b'_').count();
-    let is_prefix = matches!(
-        before(word, front),
-        b"AC" | b"AS" | b"AM" | b"AH" | b"AU" | b"AX" | b"AT" | b"LT" | b"PKG" | b"m4" | b""
-    );
-    let is_builtin = matches!(
-        word,
-        b"define"
-            | b"undefine"
-            | b"pushdef"
-            | b"popdef"
-            | b"divert"
-            | b"undivert"
-            | b"m4wrap"
-            | b"dnl"
-    );
-    is_prefix && front < word.len() || is_builtin
+    let prefix = before(word, front);
+    let has_prefix = front < word.len() && PREFIXES.iter().any(|other| *other == prefix);
+    has_prefix || BUILTINS.iter().any(|other| *other == word)
 }
 
 /// Returns whether a macro of the package may have this name.

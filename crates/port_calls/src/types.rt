@@ -8,6 +8,7 @@ ghost use Rattle.port_idioms.specs.Filled.{ending, text_of};
 ghost use Rattle.port_calls.specs.Put.{arg_text};
 ghost use Rattle.port_calls.specs.Rewritten as specs;
 
+use crate::making::argument;
 use crate::seeking::are_name_bytes;
 use ac_calls::{CallAt, Extent};
 use lint_text::part;
@@ -132,9 +133,39 @@ fn has_default(text: &[u8], call: &CallAt) -> bool
     }
 }
 
+/// Returns whether a macro of C may have this name.
+fn is_c_name(word: &[u8]) -> bool
+    ensures { result ≡ specs.is_c_name word.now }
+{
+    word.len() >= 1 && begins_name(word[0]) && are_name_bytes(word)
+}
+
+/// Returns whether an argument is such a name.
+fn is_named(text: &[u8], arg: Extent) -> bool
+    ensures { IsTrue result → specs.is_c_name (text_of (Some (arg_text text.now arg))) ≡ true }
+{
+    match text_of(part(text, arg.start, arg.end)) {
+        Some(inner) => is_c_name(inner),
+        None => false,
+    }
+}
+
+/// Returns whether the first argument of the call is such a name.
+fn names_type(text: &[u8], call: &CallAt) -> bool
+    ensures { IsTrue result → specs.NamesType text.now (macro_call_of call.now) }
+{
+    match argument(call, 0) {
+        Some(named) => is_named(text, named),
+        None => false,
+    }
+}
+
 /// Returns whether the call is AC_CHECK_TYPE of a type and a default.
 pub(crate) fn names_default(text: &[u8], call: &CallAt) -> bool
     ensures { IsTrue result → specs.NamesDefault text.now (macro_call_of call.now) }
 {
-    is_check(text, call) && call.args.len() == 2 && has_default(text, call)
+    is_check(text, call)
+        && call.args.len() == 2
+        && names_type(text, call)
+        && has_default(text, call)
 }
