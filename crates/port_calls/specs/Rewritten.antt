@@ -79,9 +79,14 @@ pub record NamesType (text : List ℕ) (c : MacroCall) : Type 0 where
   pub first : slice_get c.args 0 ≡ Some named
   pub is_name : is_c_name (text_of (Some (arg_text text named))) ≡ true
 
--- The call is AC_CHECK_TYPE of a type and a default, its old form. The type is defined if it isn't there, so it is a name.
+-- Its arguments are a type and a default. The type is defined if it isn't there, so it is a name.
+pub record TakesDefault (text : List ℕ) (c : MacroCall) : Type 0 where
+  pub names : NamesType text c
+  pub takes : HasDefault text c
+
+-- The call is AC_CHECK_TYPE of a type and a default, its old form.
 abbrev pub NamesDefault : List ℕ → MacroCall → Type 0
-NamesDefault text c = (slice_range text c.start c.name_end ≡ codes "AC_CHECK_TYPE") × (length c.args ≡ 2) × NamesType text c × HasDefault text c
+NamesDefault text c = (slice_range text c.start c.name_end ≡ codes "AC_CHECK_TYPE") × (length c.args ≡ 2) × TakesDefault text c
 
 -- The call has to go: the table of macros doesn't have its name, or it is AC_OUTPUT of at least one file, AC_INIT without a version,
 -- AC_MSG_RESULT without an argument, or AC_CHECK_TYPE with a default.

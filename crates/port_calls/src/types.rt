@@ -160,12 +160,26 @@ fn names_type(text: &[u8], call: &CallAt) -> bool
     }
 }
 
+/// Returns whether the arguments of the call are a type and a default.
+fn takes_default(text: &[u8], call: &CallAt) -> bool
+    ensures { IsTrue result → specs.TakesDefault text.now (macro_call_of call.now) }
+{
+    names_type(text, call) && has_default(text, call)
+}
+
+/// Returns whether the call is AC_CHECK_TYPE with two arguments.
+fn is_check_of_two(text: &[u8], call: &CallAt) -> bool
+    ensures { IsTrue result
+        → (slice_range text.now (macro_call_of call.now).start (macro_call_of call.now).name_end
+        ≡ codes "AC_CHECK_TYPE")
+        × (length (macro_call_of call.now).args ≡ 2) }
+{
+    is_check(text, call) && call.args.len() == 2
+}
+
 /// Returns whether the call is AC_CHECK_TYPE of a type and a default.
 pub(crate) fn names_default(text: &[u8], call: &CallAt) -> bool
     ensures { IsTrue result → specs.NamesDefault text.now (macro_call_of call.now) }
 {
-    is_check(text, call)
-        && call.args.len() == 2
-        && names_type(text, call)
-        && has_default(text, call)
+    is_check_of_two(text, call) && takes_default(text, call)
 }
