@@ -348,7 +348,7 @@ def is_stated(name, patterns, before=None):
     if name == "order of definitions":
         return False
     if name.startswith("standard "):
-        return any(fnmatch.fnmatchcase(name.split(": ", 1)[1][2:], it) for it in patterns if " " in it)
+        return any(fnmatch.fnmatchcase(name.split(": ", 1)[1][2:], it) for it in patterns if " " in it or not it)
     plain = name.lstrip("#").split(" ")[-1]
     for pattern in patterns:
         wanted, has_value, value = pattern.partition("=") if re.match(r"[\w*?]+=", pattern) else (pattern, "", "")

@@ -24,7 +24,8 @@ The lines of macros.txt, by how they begin:
             That script fails if it doesn't
   `~ `      names of macros, a colon, what is otherwise, a colon and a reason: what the idiom of these macros, or a `drop`, leaves
             otherwise. That is names of definitions, variables and cache variables, `NAME=VALUE` for one that the macro gives such a
-            value, and, of an exact idiom, lines that are printed, in quotes; a `*` is for any text, and `$1` for the first argument.
+            value, and, of an exact idiom, lines that are printed, in quotes, of which `""` is an empty one; a `*` is for any text, and
+            `$1` for the first argument.
             tools/fuzz_exact.py allows these differences alone, and those of lines `? `
   blanks    4 of them begin a line of the entry's text
 Empty lines mean nothing. `specs/Places` and `specs/Values` of the crate say what places are, and what they are filled with.
@@ -424,6 +425,11 @@ def rows():
             yield f"| other macros that begin with `{entry.names[0]}` | {entry.text()} |"
 
 
+def in_code(text):
+    """Returns what the page shows of a name or of a line that is printed."""
+    return f"`` {text} ``" if "`" in text else f"`{text}`" if text else "an empty line"
+
+
 def allowed(is_exact, heading, sentence):
     """Yields the lines of the table of what exact replacements, or the others, leave otherwise."""
     rows = []
@@ -434,7 +440,7 @@ def allowed(is_exact, heading, sentence):
         return
     yield from ("", f"## {heading}", "", sentence, "", "| In place of | Otherwise | Why |", "|---|---|---|")
     for names, listed, reason in rows:
-        yield f"| {', '.join(names)} | {', '.join(f'`` {it} ``' if '`' in it else f'`{it}`' for it in listed)} | {reason} |"
+        yield f"| {', '.join(names)} | {', '.join(map(in_code, listed))} | {reason} |"
 
 
 def page():
