@@ -228,7 +228,7 @@ def left(room, body, setting, names, assigned, defined, creates=True):
         made = run(room, [setting.shell, "./configure", *([] if creates else ["--no-create"])], folder, setting)
         log = (folder / "config.log").read_text(errors="replace") if (folder / "config.log").exists() else ""
         found = {"status": made.returncode, "standard output": printed_lines(made.stdout)}
-        found["standard error"] = [re.sub(r"^\./configure: (line )?\d+: ", "", it) for it in made.stderr.splitlines()]
+        found["standard error"] = [re.sub(r"^\./configure: (line )?\d+: |(?<=^ac_fn_c_check_type )\d+ ", "", it) for it in made.stderr.splitlines()]
         cached, values = values_in(section(log, "Cache variables.")), values_in(section(log, "Output variables."))
         found |= {f"cache {name}": value for name, value in cached.items() if not name.startswith("ac_cv_env_")}
         found |= {f"output {name}": value for name, value in values.items() if name != "INSTALL"}
@@ -1076,6 +1076,8 @@ class Maker:
             blocks = [re.sub(r"\$(\{?)prefix\b", r"$\1exec_prefix", it) for it in blocks]
         if any("MY_CHECK" in it for it in blocks):
             first.append("AC_DEFUN([MY_CHECK], [$1=mine])")
+        # A script runs the program that AWK names, so that is an awk.
+        blocks = [re.sub(r"(AC_PROGRAMS_CHECK\(\[?AWK\W+)strip\b", r"\1gawk", it) for it in blocks]
         return [*first, header], ["AC_PROG_CC"] * (not self.has(0.05)) + blocks, last
 
     def settings(self, count):
