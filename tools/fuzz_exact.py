@@ -228,7 +228,7 @@ def left(room, body, setting, names, assigned, defined, creates=True):
         made = run(room, [setting.shell, "./configure", *([] if creates else ["--no-create"])], folder, setting)
         log = (folder / "config.log").read_text(errors="replace") if (folder / "config.log").exists() else ""
         found = {"status": made.returncode, "standard output": printed_lines(made.stdout)}
-        found["standard error"] = [re.sub(r"^\./configure: (line )?\d+: |(?<=^ac_fn_c_check_type )\d+ ", "", it) for it in made.stderr.splitlines()]
+        found["standard error"] = [re.sub(r"^\./configure: (line )?\d+: |^(ac_fn_\w+ )\d+ ", r"\2", it) for it in made.stderr.splitlines()]
         cached, values = values_in(section(log, "Cache variables.")), values_in(section(log, "Output variables."))
         found |= {f"cache {name}": value for name, value in cached.items() if not name.startswith("ac_cv_env_")}
         found |= {f"output {name}": value for name, value in values.items() if name != "INSTALL"}
