@@ -419,6 +419,9 @@ OF_DNL = ("differences", "A line that `dnl` drops counts as a newline. Autoconf 
 # What docs/differences.md states of variables that the check of a compiler sets in Autoconf.
 OF_GIVEN = ("differences", "If an argument or the environment gives OBJEXT or EXEEXT a value, AC_SUBST writes that value")
 
+# What docs/differences.md states of the lines of a value.
+OF_LINES = ("differences", "Autoconf drops the blanks at the ends of all lines of a script")
+
 
 @functools.lru_cache
 def is_said(document, sentence):
@@ -434,7 +437,7 @@ def said(document, sentence):
 
 def unsaid():
     """Yields a line for each sentence that is looked for here, and that its document doesn't have."""
-    stated_once = (OF_IDIOMS, OF_INIT, OF_JOINTS, OF_WORDS, OF_TESTS, OF_EXIT, OF_UNSET, OF_EQUALS, OF_COMPILER, OF_DNL, OF_GIVEN, OF_CROSS)
+    stated_once = (OF_IDIOMS, OF_INIT, OF_JOINTS, OF_WORDS, OF_TESTS, OF_EXIT, OF_UNSET, OF_EQUALS, OF_COMPILER, OF_DNL, OF_GIVEN, OF_LINES, OF_CROSS)
     for document, sentence in (*stated_once, *(("differences", sentence) for sentence, _ in OF_LANGUAGE)):
         if not is_said(document, sentence):
             yield f"docs/{document}.md does not say what tools/fuzz_exact.py looks for: {sentence}"
@@ -471,7 +474,8 @@ def beside_acrun(room, program, text, setting, names, defined, before):
         return {}
     kept["standard error"] = mine["standard error"] if mine["status"] == kept["status"] else before["standard error"]
     found = differences(kept, mine)
-    said(*OF_GIVEN)
+    for it in (OF_GIVEN, OF_LINES):
+        said(*it)
     given = {f"values {name}" for name in ("OBJEXT", "EXEEXT") for it in (*setting.arguments, *dict(setting.environment)) if it.partition("=")[0] == name}
 
     if "values PACKAGE_STRING" in found:
@@ -481,7 +485,10 @@ def beside_acrun(room, program, text, setting, names, defined, before):
         plain = name.removeprefix("src/")
         return plain in given or is_of_language(plain, value)
 
-    return {name: it for name, it in found.items() if not is_told(name, it[1])}
+    def has_more_blanks(before, after):
+        return isinstance(before, str) and isinstance(after, str) and re.sub(r"(?m)[ \t]+$", "", after) == before
+
+    return {name: it for name, it in found.items() if not is_told(name, it[1]) and not has_more_blanks(*it)}
 
 
 def joins_dnl(text):
