@@ -29,10 +29,14 @@ fn is_in_table(alloc: Global, index: &Index, word: &[u8]) -> Result<bool, AllocE
     }
 }
 
-/// Returns whether a word is the name of a macro.
+/// Returns whether a word is the name of a macro: a word without `_` is none, though the table has an
+/// entry for some, such as GCC.
 fn is_macro(alloc: Global, index: &Index, word: &[u8]) -> Result<bool, AllocError> {
     if has_front(word) {
         return Ok(true);
+    }
+    if !word.contains(&b'_') {
+        return Ok(false);
     }
     is_in_table(alloc, index, word)
 }
