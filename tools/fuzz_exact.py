@@ -419,6 +419,10 @@ OF_DNL = ("differences", "A line that `dnl` drops counts as a newline. Autoconf 
 # What docs/differences.md states of variables that the check of a compiler sets in Autoconf.
 OF_GIVEN = ("differences", "If an argument or the environment gives OBJEXT or EXEEXT a value, AC_SUBST writes that value")
 
+# What docs/commands.md states of the status of a call, and what reads it.
+OF_STATUS = ("commands", "The value of `$?` after a call that is rewritten may be another one")
+READS_STATUS = re.compile(r"(?m)\b(\w+)=\$\?")
+
 # What docs/differences.md states of the lines of a value.
 OF_LINES = ("differences", "Autoconf drops the blanks at the ends of all lines of a script")
 
@@ -437,7 +441,7 @@ def said(document, sentence):
 
 def unsaid():
     """Yields a line for each sentence that is looked for here, and that its document doesn't have."""
-    stated_once = (OF_IDIOMS, OF_INIT, OF_JOINTS, OF_WORDS, OF_TESTS, OF_EXIT, OF_UNSET, OF_EQUALS, OF_COMPILER, OF_DNL, OF_GIVEN, OF_LINES, OF_CROSS)
+    stated_once = (OF_IDIOMS, OF_INIT, OF_JOINTS, OF_WORDS, OF_TESTS, OF_EXIT, OF_UNSET, OF_EQUALS, OF_COMPILER, OF_DNL, OF_GIVEN, OF_LINES, OF_STATUS, OF_CROSS)
     for document, sentence in (*stated_once, *(("differences", sentence) for sentence, _ in OF_LANGUAGE)):
         if not is_said(document, sentence):
             yield f"docs/{document}.md does not say what tools/fuzz_exact.py looks for: {sentence}"
@@ -558,7 +562,9 @@ def compared(room, text, ported, settings, switches, program=""):
         runs = [runs[0], runs[-1]]
         differs = {} if has_other_idiom and stop_alike(*runs) else differences(*runs)
         differs = of_idioms(differs, bodies[1]) if has_other_idiom else of_statements(differs) if switches == IDIOMS else differs
-        differs = {name: it for name, it in differs.items() if not is_stated(name, patterns, it[0])}
+        said(*OF_STATUS)
+        read = {f"{kind} {name}" for name in READS_STATUS.findall(text) for kind in ("variable", "output", "values")}
+        differs = {name: it for name, it in differs.items() if not is_stated(name, patterns, it[0]) and name not in read}
         if any("yntax error" in it for it in runs[0]["standard error"]):
             return "refused"
         if differs:
