@@ -1089,6 +1089,9 @@ class Maker:
             blocks = [re.sub(r"\$(\{?)prefix\b", r"$\1exec_prefix", it) for it in blocks]
         if any("MY_CHECK" in it for it in blocks):
             first.append("AC_DEFUN([MY_CHECK], [$1=mine])")
+        # What saves the variables is put before AC_OUTPUT, where no `dnl` may join it to a call.
+        if blocks and re.search(r"\bdnl\b.*$", blocks[-1]):
+            blocks.append("")
         # A script runs the program that AWK names, so that is an awk.
         blocks = [re.sub(r"(AC_PROGRAMS_CHECK\(\[?AWK\W+)strip\b", r"\1gawk", it) for it in blocks]
         return [*first, header], ["AC_PROG_CC"] * (not self.has(0.05)) + blocks, last
