@@ -526,8 +526,13 @@ def without_cross(text):
 def is_of_cross(name, after, ported):
     """Returns whether docs/differences.md states that a variable of a template stays so, as only the argument for cross compiling names it."""
     said(*OF_CROSS)
-    plain = name.removeprefix("src/").removeprefix("values ")
-    return after == f"@{plain}@" and not re.search(rf"{plain}\b", without_cross(ported))
+    plain, rest = name.removeprefix("src/").removeprefix("values "), without_cross(ported)
+
+    def is_made_there(variable):
+        return not re.search(rf"(?<![${{]){variable}\b", rest)
+
+    copied = re.search(rf'(?m)^{plain}="\$(\w+)"$', ported)
+    return after == f"@{plain}@" and is_made_there(plain) or after == "" and bool(copied and is_made_there(copied[1]))
 
 
 def is_for_acrun(setting):
