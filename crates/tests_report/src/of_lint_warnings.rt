@@ -58,7 +58,7 @@ impl RowCall for Warnings {
 const ROWS: &[u8] = br##"
 AC_INIT([a], [1])^JAC_OUTPUT =>
 // names of macros in texts: of the table those with a `_` alone
-AC_INIT([a], [1])^JAC_ARG_VAR([B], [for GCC, not gl_INIT])^JAC_OUTPUT => macro-in-text [gl_INIT]
+AC_INIT([a], [1])^JAC_ARG_VAR([B], [for GCC, not gl_INIT])^JAC_OUTPUT =>  macro-in-text [gl_INIT]
 AC_INIT([a], [1])^JAC_ARG_VAR([B], [for GCC, not config.status])^JAC_OUTPUT =>
 // variables that a configure script sets: each once, and none that is set, declared or only named
 // in a comment
