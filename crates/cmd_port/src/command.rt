@@ -92,6 +92,8 @@ fn put_warnings<E: Hears>(warnings: &[u8], answer: u8, errors: &mut E) -> u8
     ensures warned { result ≢ 2
         → (errors.new ≡ errors.old)
         ⊎ ((page : List ℕ) × Appends (E.contents errors.old) (E.contents errors.new) page) }
+    ensures whole { result ≢ 2 → warnings.now ≢ []
+        → Appends (E.contents errors.old) (E.contents errors.new) warnings.now }
     ensures failed { result ≡ 2 → E.has_failed errors.new ≡ true }
 {
     if warnings.is_empty() {
