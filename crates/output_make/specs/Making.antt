@@ -2,8 +2,8 @@
 use Rattle.std.specs.Prelude.{ℕ, ◌==◌, not, List, ◌++◌, length, map, Some, codes}
 use Rattle.deftable.specs.Table.{with_entry}
 use Rattle.output_list.specs.declared.output.Output.{Output}
-use Rattle.output_make.specs.declared.filling.Form.{Form}
-use Rattle.output_make.specs.declared.filling.Form.TheVariants.{File, Header}
+use Rattle.output_make.specs.declared.filling.Made.{Made}
+use Rattle.output_make.specs.declared.filling.Made.TheVariants.{File, Header}
 use Rattle.output_put.specs.declared.artifact.Kind.TheVariants as kind
 use Rattle.output_put.specs.declared.artifact.Artifact.{Artifact}
 use Rattle.status_record.specs.declared.record.Record.{Record}
@@ -56,7 +56,7 @@ unfoldable pub made_header : Record → List (List ℕ × List ℕ) → Output �
 made_header r templates o = record { kind = kind.Header; name = o.name; text = header_text r templates o }
 
 -- The file or header that is made of its template. (own)
-abbrev pub made_of : Form → Record → List (List ℕ × List ℕ) → Output → Artifact
+abbrev pub made_of : Made → Record → List (List ℕ × List ℕ) → Output → Artifact
 made_of File = made_file
 made_of Header = made_header
 

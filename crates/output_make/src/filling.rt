@@ -172,27 +172,27 @@ fn make_header(
 
 /// What is made of a template.
 #[derive(Clone, Copy)]
-enum Form {
+enum Made {
     /// A file.
     File,
     /// A header.
     Header,
 }
 
-/// Makes an output of this form of its template.
+/// Makes an output of this kind of its template.
 fn make_output(
     alloc: Global,
-    form: Form,
+    made: Made,
     recorded: &Record,
     templates: &Templates<'_>,
     output: &Output,
 ) -> Result<Artifact, AllocError>
     ensures { IfOk result (λ artifact.
-        artifact ≡ words.made_of form recorded.now templates.now output.now) }
+        artifact ≡ words.made_of made recorded.now templates.now output.now) }
 {
-    match form {
-        Form::File => make_listed_file(alloc, recorded, templates, output),
-        Form::Header => make_header(alloc, recorded, templates, output),
+    match made {
+        Made::File => make_listed_file(alloc, recorded, templates, output),
+        Made::Header => make_header(alloc, recorded, templates, output),
     }
 }
 
@@ -200,7 +200,7 @@ fn make_output(
 fn add_output(
     alloc: Global,
     artifacts: &mut Artifacts,
-    form: Form,
+    made: Made,
     recorded: &Record,
     templates: &Templates<'_>,
     tags: &[Bytes],
@@ -209,21 +209,21 @@ fn add_output(
     ensures { OnOk result (
         artifacts.new
         ≡ artifacts.old
-        ++ map (words.made_of form recorded.now templates.now)
+        ++ map (words.made_of made recorded.now templates.now)
         (chosen tags.now (output.now ∷ []))) }
 {
     if !is_chosen(tags, output) {
         return Ok(());
     }
-    let artifact = make_output(alloc, form, recorded, templates, output)?;
+    let artifact = make_output(alloc, made, recorded, templates, output)?;
     artifacts.push(artifact)
 }
 
-/// Makes the outputs of this form that the tags do not leave out, and appends them.
+/// Makes the outputs of this kind that the tags do not leave out, and appends them.
 fn add_each(
     alloc: Global,
     artifacts: &mut Artifacts,
-    form: Form,
+    made: Made,
     recorded: &Record,
     templates: &Templates<'_>,
     tags: &[Bytes],
@@ -232,10 +232,10 @@ fn add_each(
     ensures { OnOk result (
         artifacts.new
         ≡ artifacts.old
-        ++ map (words.made_of form recorded.now templates.now) (chosen tags.now outputs.now)) }
+        ++ map (words.made_of made recorded.now templates.now) (chosen tags.now outputs.now)) }
 {
     'outputs: for output in outputs {
-        add_output(alloc, artifacts, form, recorded, templates, tags, output)?;
+        add_output(alloc, artifacts, made, recorded, templates, tags, output)?;
     }
     Ok(())
 }
@@ -261,7 +261,7 @@ pub fn add_outputs(
     add_each(
         alloc,
         artifacts,
-        Form::File,
+        Made::File,
         recorded,
         &templates,
         tags,
@@ -270,7 +270,7 @@ pub fn add_outputs(
     add_each(
         alloc,
         artifacts,
-        Form::Header,
+        Made::Header,
         recorded,
         &templates,
         tags,
