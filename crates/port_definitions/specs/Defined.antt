@@ -5,7 +5,11 @@ use Rattle.ac_calls.specs.Calls.{MacroCall}
 use Rattle.ac_calls.specs.declared.call.Extent.{Extent}
 use Rattle.text_cut.specs.Cuts.{is_blank}
 use Rattle.port_idioms.specs.Filled.{text_of}
-use Rattle.port_calls.specs.Put.{arg_text}
+use Rattle.lint_text.specs.Parts.{part}
+
+-- The text of an argument. (own)
+abbrev pub arg_text : List ℕ → Extent → List ℕ
+arg_text text arg = part text arg.start arg.end
 
 -- A digit, or one of `# * @`. After a `$` it makes a parameter. (manual, "Arguments" of GNU M4)
 abbrev pub is_parameter_sign : ℕ → Bool
