@@ -10,19 +10,22 @@
 
 use crew::ReadyCrew;
 use crew_progress::Watched;
-use runner::{FilterFault, Heard, LOG, command, environment, showing_of, tell, words};
+use runner::{
+    FilterFault, Heard, LOG, ProcessTexts, command, environment, showing_of, tell, words,
+};
 use std::alloc::AllocError;
 use std::io::IsTerminal;
 use std::process::ExitCode;
 
 /// Runs the command that the program's arguments name, and returns its exit status.
 fn run(rt: HostRuntime) -> Result<u8, AllocError> {
-    let words = words(rt.alloc(), &rt)?;
-    let env = environment(rt.alloc(), &rt)?;
+    let given = ProcessTexts::new(&rt);
+    let words = words(rt.alloc(), &given)?;
+    let env = environment(rt.alloc(), &given)?;
     let errors = rt.stderr();
     let showing = showing_of(words.as_slice(), env.as_slice(), errors.is_terminal());
     let children = ReadyCrew::removing(rt, rt.alloc(), LOG)?;
-    let mut crew = Watched::new(children, errors, showing);
+    let mut crew = Watched::new(children, Heard::new(errors), showing);
     Ok(command(rt, rt.alloc(), words.as_slice(), env.as_slice(), &mut crew))
 }
 

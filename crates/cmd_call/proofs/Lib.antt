@@ -1,6 +1,7 @@
 pub mod Appending
 pub mod Fronts
 pub mod Guards
+pub mod Listing
 pub mod Lines
 pub mod Logs
 pub mod Quiet

@@ -1,5 +1,6 @@
 pub mod Calls
 pub mod Errors
+pub mod Given
 pub mod Guarded
 pub mod Lent
 pub mod Lines

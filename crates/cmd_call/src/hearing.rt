@@ -39,6 +39,13 @@ impl<E: Write> Heard<E> {
             has_failed: false,
         }
     }
+
+    /// Returns the stream.
+    pub fn stream(&self) -> &E
+        ensures { E.contents result.now ≡ ⟦<Heard<E> as Write>⟧.contents self.now }
+    {
+        &self.stream
+    }
 }
 
 impl<E: Write> Write for Heard<E> {

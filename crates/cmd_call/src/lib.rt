@@ -40,7 +40,7 @@ pub use error_lines::{
 };
 pub use hearing::{Heard, Hears};
 pub use printing::{LOG, print_all, print_lines, write_errors, write_log};
-pub use process::{environment, words};
+pub use process::{Listed, ProcessTexts, Texts, environment, words};
 pub use progress::{Showing, showing_of};
 pub use spot::{Spot, record_spot};
 pub use supplies::{Supplies, keep_inputs, read_supplies, read_templates, record_templates};

@@ -3,11 +3,11 @@
 ghost use Rattle.crew.specs.Counting.{started_in};
 
 use crate::watched::Watched;
+use cmd_call::Hears;
 use crew::{Causes, Crew};
 use crew_tally::Children;
-use std::io::Write;
 
-impl<C: Crew + Causes + Drop, W: Write + Drop> Causes for Watched<C, W> {
+impl<C: Crew + Causes + Drop, W: Hears + Drop> Causes for Watched<C, W> {
     ghost known = { λ w. C.known w.crew };
 
     fn cause(&self, child: u64) -> Option<&[u8]> {
@@ -15,7 +15,7 @@ impl<C: Crew + Causes + Drop, W: Write + Drop> Causes for Watched<C, W> {
     }
 }
 
-impl<C: Crew + Drop, W: Write + Drop> Children for Watched<C, W> {
+impl<C: Crew + Drop, W: Hears + Drop> Children for Watched<C, W> {
     ghost started = { λ w. started_in (C.account w.crew).events };
 
     fn children(&self) -> u64 {

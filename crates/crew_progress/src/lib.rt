@@ -10,11 +10,11 @@
 //!   run goes on or after it hung.
 //!
 //! ```text
-//! let mut crew = Watched::new(ProcessCrew::new(rt, alloc)?, rt.stderr(), Showing::Line);
+//! let mut crew = Watched::new(ProcessCrew::new(rt, alloc)?, Heard::new(rt.stderr()), Showing::Line);
 //! crew.start(0, job)?;                       // 1 started, 0 ended: header sys/stat.h
 //! let (slot, reply) = crew.next();           // the line is gone
 //!
-//! let mut crew = Watched::new(ProcessCrew::new(rt, alloc)?, rt.stderr(), Showing::Lines);
+//! let mut crew = Watched::new(ProcessCrew::new(rt, alloc)?, Heard::new(rt.stderr()), Showing::Lines);
 //! crew.start(0, job)?;                       // acrun: child 1, header sys/stat.h: gcc -c conftest.c
 //! ```
 //!
@@ -43,5 +43,5 @@ mod screen;
 mod subject;
 mod watched;
 
-pub use cmd_call::Showing;
+pub use cmd_call::{Heard, Showing};
 pub use watched::Watched;

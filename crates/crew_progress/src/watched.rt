@@ -12,10 +12,9 @@ use crate::child::child_line;
 use crate::line::{Line, text_of};
 use crate::screen::Text;
 use crate::subject::subject_of;
-use cmd_call::Showing;
+use cmd_call::{Hears, Showing};
 use crew::{Crew, Refused, Reply};
 use crew_jobs::Job;
-use std::io::Write;
 use std::marker::Model;
 
 /// A crew that shows its children on a stream (own): in the line of a terminal, which says how many
@@ -25,7 +24,7 @@ use std::marker::Model;
 /// Each line is one write. If a write fails, no further one is tried. What a call returns never
 /// depends on it.
 #[derive(Drop)]
-pub struct Watched<C: Crew + Drop, W: Write + Drop> {
+pub struct Watched<C: Crew + Drop, W: Hears + Drop> {
     pub(crate) crew: C,
     stream: W,
     showing: Showing,
@@ -37,7 +36,7 @@ pub struct Watched<C: Crew + Drop, W: Write + Drop> {
     command: Line,
 }
 
-impl<C: Crew + Drop, W: Write + Drop> Model for Watched<C, W> {
+impl<C: Crew + Drop, W: Hears + Drop> Model for Watched<C, W> {
     ghost use Rattle.crew_progress.specs.Watch.{Watch, IsCounted};
 
     ghost Value = { Watch C W };
@@ -69,15 +68,16 @@ fn text_at_start(
 }
 
 /// Writes a text, unless nothing is shown. Returns what is shown from then on.
-fn write_text<W: Write>(stream: &mut W, showing: Showing, text: &Text) -> Showing
+fn write_text<W: Hears>(stream: &mut W, showing: Showing, text: &Text) -> Showing
     ensures off { showing ≡ Nothing → (result ≡ Nothing) × (stream.new ≡ stream.old) }
     ensures kept { result ≢ Nothing → result ≡ showing }
+    ensures ended { showing ≢ Nothing → result ≡ Nothing → W.has_failed stream.new ≡ true }
     ensures written { result ≢ Nothing
         → Appends (W.contents stream.old) (W.contents stream.new) text.now.items }
 {
     match showing {
         Showing::Nothing => Showing::Nothing,
-        _ => match stream.write_all(text.as_slice()) {
+        _ => match stream.say(text.as_slice()) {
             Ok(()) => showing,
             Err(_) => Showing::Nothing,
         },
@@ -85,9 +85,10 @@ fn write_text<W: Write>(stream: &mut W, showing: Showing, text: &Text) -> Showin
 }
 
 /// Writes the text of the terminal's line, if that is shown. Returns what is shown from then on.
-fn write_end<W: Write>(stream: &mut W, showing: Showing, text: &Text) -> Showing
+fn write_end<W: Hears>(stream: &mut W, showing: Showing, text: &Text) -> Showing
     ensures off { showing ≢ line → (result ≡ showing) × (stream.new ≡ stream.old) }
     ensures kept { result ≢ Nothing → result ≡ showing }
+    ensures ended { showing ≢ Nothing → result ≡ Nothing → W.has_failed stream.new ≡ true }
     ensures written { result ≡ line
         → Appends (W.contents stream.old) (W.contents stream.new) text.now.items }
 {
@@ -97,7 +98,7 @@ fn write_end<W: Write>(stream: &mut W, showing: Showing, text: &Text) -> Showing
     }
 }
 
-impl<C: Crew + Drop, W: Write + Drop> Watched<C, W> {
+impl<C: Crew + Drop, W: Hears + Drop> Watched<C, W> {
     /// Returns a crew that shows this of its children on the stream.
     pub fn new(crew: C, stream: W, showing: Showing) -> Watched<C, W>
         requires events { (C.account crew).events ≡ [] }
@@ -123,7 +124,7 @@ impl<C: Crew + Drop, W: Write + Drop> Watched<C, W> {
     }
 }
 
-impl<C: Crew + Drop, W: Write + Drop> Crew for Watched<C, W> {
+impl<C: Crew + Drop, W: Hears + Drop> Crew for Watched<C, W> {
     ghost account = { λ w. C.account w.crew };
 
     #[tactic(auto, using(crate::proofs::Children::short))]
@@ -148,8 +149,11 @@ impl<C: Crew + Drop, W: Write + Drop> Crew for Watched<C, W> {
         ensures off { self.old.showing ≡ Nothing
             → self.new ≡ record self.old { crew = self.new.crew } }
         ensures untouched { OnErr result (self.new ≡ record self.old { crew = self.new.crew }) }
-        // What is shown stays the same, unless a write fails. Then nothing is.
+        // What is shown stays the same, or from then on nothing is.
         ensures kept { self.new.showing ≢ Nothing → self.new.showing ≡ self.old.showing }
+        // That nothing is shown from then on comes only of a stream that failed.
+        ensures stopped { self.old.showing ≢ Nothing
+            → self.new.showing ≡ Nothing → W.has_failed self.new.stream ≡ true }
         // On a terminal the text for all events so far is written, unless the write fails: the
         // erasure of the line and, while a child is in flight, the line, of at most 79 columns.
         ensures written { OnOk result (self.new.showing ≡ line
@@ -195,6 +199,8 @@ impl<C: Crew + Drop, W: Write + Drop> Crew for Watched<C, W> {
         ensures off { self.old.showing ≢ line
             → self.new ≡ record self.old { crew = self.new.crew } }
         ensures kept { self.new.showing ≢ Nothing → self.new.showing ≡ self.old.showing }
+        ensures stopped { self.old.showing ≢ Nothing
+            → self.new.showing ≡ Nothing → W.has_failed self.new.stream ≡ true }
         // On a terminal the text for all events so far is written, unless the write fails.
         ensures written { self.new.showing ≡ line
             → Appends (W.contents self.old.stream) (W.contents self.new.stream)

@@ -19,7 +19,7 @@
 mod inputs;
 mod program;
 
-pub use cmd_call::{Heard, LOG, Terminal, environment, showing_of, words};
+pub use cmd_call::{Heard, LOG, ProcessTexts, Terminal, Texts, environment, showing_of, words};
 pub use cmd_explain::asks_why;
 pub use cmd_filter::{FilterFault, Filtered, filter, tell};
 pub use engine_frame::Fault;

@@ -136,9 +136,9 @@ pub fn put_command(
                 page.put_shown(&command_over(rt, words, env.as_slice(), &mut crew));
                 return;
             }
-            let mut crew = Watched::new(crew, Vec::new(page.alloc()), Showing::Line);
+            let mut crew = Watched::new(crew, Heard::new(Vec::new(page.alloc())), Showing::Line);
             page.put_shown(&command_over(rt, words, env.as_slice(), &mut crew));
-            progress.put(crew.stream().as_slice());
+            progress.put(crew.stream().stream().as_slice());
         }
         Err(_) => page.cut(),
     }

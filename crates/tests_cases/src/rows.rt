@@ -9,7 +9,7 @@ use cmd_standin::standin;
 use crew_jobs::Job;
 use deftable::Bytes;
 use file_disk::Host;
-use runner::{environment, filter, words};
+use runner::{ProcessTexts, environment, filter, words};
 use std::env::{Env, FillError};
 use std::io::Read;
 use std::{fs, str};
@@ -104,7 +104,7 @@ fn put_same(page: &mut Page, words: &[Bytes], arguments: &[Bytes]) {
 
 /// Puts how many words the program finds in these arguments, and whether each is the argument.
 fn put_words(page: &mut Page, arguments: &[Bytes]) {
-    match &words(page.alloc(), &Process { arguments }) {
+    match &words(page.alloc(), &ProcessTexts::new(&Process { arguments })) {
         Ok(words) => put_same(page, words.as_slice(), arguments),
         Err(_) => page.cut(),
     }
@@ -121,7 +121,7 @@ fn put_entry(page: &mut Page, entry: &(Bytes, Bytes)) {
 
 /// Puts the names and the values that the program finds in an environment of these entries.
 fn put_environment(page: &mut Page, arguments: &[Bytes]) {
-    match &environment(page.alloc(), &Process { arguments }) {
+    match &environment(page.alloc(), &ProcessTexts::new(&Process { arguments })) {
         Ok(entries) => {
             for entry in entries {
                 put_entry(page, entry);

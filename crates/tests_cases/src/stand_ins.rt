@@ -10,7 +10,7 @@ use crew::{Crew, FuseKind, Fused, ProcessCrew};
 use crew_refusals::Causes;
 use crew_tally::Children;
 use deftable::{Bytes, Defs, Vars};
-use runner::words;
+use runner::{ProcessTexts, words};
 use std::env::Env;
 use std::io;
 use test_crews::children::{Work, put_real_children};
@@ -37,7 +37,7 @@ fn status_with(rt: &HostRuntime, words: &[Bytes]) -> Option<u8> {
 
 /// Is the stand-in, and returns its exit status, if the arguments are those of the stand-in.
 pub fn played(rt: &HostRuntime) -> Option<u8> {
-    match &words(rt.alloc(), rt) {
+    match &words(rt.alloc(), &ProcessTexts::new(rt)) {
         Ok(words) => status_with(rt, words.as_slice()),
         Err(_) => None,
     }

@@ -213,6 +213,7 @@ f() { a; }^Jif :; then x=1; fi => f() { a; }^JAS_IF([:], [x=1])
 (a; b)^Jif :; then x=1; fi => (a; b)^JAS_IF([:], [x=1])
 a=${b-if}; if :; then x=1; fi => a=${b-if}; AS_IF([:], [x=1])
 a="`b "c"`"; if :; then x=1; fi => a="`b "c"`"; AS_IF([:], [x=1])
+a=$(# don't^Jb)^Jif :; then x=1; fi => a=$(# don't^Jb)^JAS_IF([:], [x=1])
 a=$((1 << 2)); if :; then x=1; fi => a=$((1 << 2)); AS_IF([:], [x=1])
 case a in b) c;; (d|if) e;; *) f; esac; if :; then x=1; fi => case a in b) c;; (d|if) e;; *) f; esac; AS_IF([:], [x=1])
 case $a in^J  b) if :; then x=1; fi ;;^J  c) f;;^J  *)^J    if :; then x=2; fi^Jesac => case $a in^J  b) AS_IF([:], [x=1]) ;;^J  c) f;;^J  *)^J    AS_IF([:], [x=2])^Jesac

@@ -8,7 +8,7 @@ use conftest_source::{
     put_ended, second_type_source, type_source,
 };
 use crew::{Crew, MemoryCrew};
-use crew_progress::{Showing, Watched};
+use crew_progress::{Heard, Showing, Watched};
 use deftable::Bytes;
 use std::alloc::AllocError;
 use std::test::Fail;
@@ -36,10 +36,10 @@ fn put_watched<C: Crew + Drop>(
 )
     requires fresh { C.account crew ≡ record { events = []; attempts = 0; failures = 0 } }
 {
-    let mut watched = Watched::new(crew, sheet, showing);
+    let mut watched = Watched::new(crew, Heard::new(sheet), showing);
     put_work(page, &mut watched, work);
     page.put(b";");
-    page.put(watched.stream().kept.text());
+    page.put(watched.stream().stream().kept.text());
 }
 
 /// Puts the work of a crew in memory with these replies in this order, and what it shows on a
