@@ -59,6 +59,10 @@ const ROWS: &[u8] = br##"
 AC_INIT([a], [1])^JAC_OUTPUT =>
 // names of macros in texts: of the table those with a `_` alone
 AC_INIT([a], [1])^JAC_ARG_VAR([B], [for GCC, not gl_INIT])^JAC_OUTPUT =>  macro-in-text [gl_INIT]
+// what a variable gets if no program is found is text, too
+AC_INIT([a], [1])^JAC_PATH_PROG([B], [b], [AC_PACKAGE_NAME])^JAC_OUTPUT =>  macro-in-text [AC_PACKAGE_NAME]
+// blanks at the ends of the name of a variable
+AC_INIT([a], [1])^JAC_CHECK_PROG([ B ], [b], [yes])^JAC_OUTPUT =>  blank-in-name [[ B ]]
 AC_INIT([a], [1])^JAC_ARG_VAR([B], [for GCC, not config.status])^JAC_OUTPUT =>
 // variables that a configure script sets: each once, and none that is set, declared or only named
 // in a comment
