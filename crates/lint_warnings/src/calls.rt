@@ -223,12 +223,12 @@ fn warn_of_each(
 /// Fails only if memory runs out.
 pub fn warn_of_calls(
     alloc: Global,
+    index: &Index,
     text: &[u8],
     calls: &[CallAt],
     out: &mut Vec<Finding>,
 ) -> Result<(), AllocError> {
-    let index = Index::new(alloc)?;
-    warn_of_each(alloc, &index, text, calls, out)?;
+    warn_of_each(alloc, index, text, calls, out)?;
     warn_of_includes(alloc, text, calls, out)?;
     warn_of_shell_words(alloc, text, calls, out)
 }
