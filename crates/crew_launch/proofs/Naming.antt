@@ -1,59 +1,62 @@
--- Causes that name one of several things.
-use Rattle.std.proofs.Common.{◌≡◌, ℕ, zero, suc, ◌<◌, List, [], ◌∷◌, length, get_or, Option, Some, None, Result, Ok, Err, inl, inr, subst, arith}
+-- Causes of children that aren't started.
+use Rattle.std.proofs.Common.{◌≡◌, ℕ, List, ◌∷◌, IsUtf8, Option, Some, None, Result, Ok, Err, inl, inr, subst}
 use Rattle.std.specs.Prelude.{IfErr, IfSome}
+use Rattle.std.specs.List.{find}
 use Rattle.crew_refusals.specs.Shown.{IsCauseOf}
-use Rattle.crew_launch.specs.Launch.{IsAbout, IsOfFile, IsOfOne}
+use Rattle.crew_launch.specs.Reasons.{IsNoProgram, IsOfCommand, IsOfFile, IsOfName, IsOfSpawn, IsOfWords, SaysNoMemory, SaysNoText, SaysStopped, is_no_text}
 
-one_of : (names : List (List ℕ)) (i : ℕ) (name line : List ℕ) → i < length names → name ≡ get_or names i name → IsCauseOf name line → IsOfOne names line
-unfolding IsOfOne
-one_of [] i name line lt is cause = absurd (omega arith)
-one_of (first ∷ names) zero name line lt is cause = inl (subst (λ n. IsCauseOf n line) is cause)
-one_of (first ∷ names) (suc i) name line lt is cause = inr (one_of names i name line (omega arith) is cause)
+-- of a file whose name isn't UTF-8
+pub no_name : (name : List ℕ) (cause : Option (List ℕ)) → (¬ (IsUtf8 name)) → IfSome cause (SaysNoText name) → IfSome cause (IsOfName name)
+unfolding IsOfName
+no_name name None bad is = is
+no_name name (Some line) bad is = inl (is, bad)
 
--- of the first of them
-pub of_first : (first : List ℕ) (names : List (List ℕ)) (cause : Option (List ℕ)) → IfSome cause (IsCauseOf first) → IfSome cause (IsOfOne (first ∷ names))
-unfolding IsOfOne
-of_first first names None is = is
-of_first first names (Some line) is = inl is
+-- of a file that the system refused
+pub no_file : (name : List ℕ) (cause : Option (List ℕ)) → IsUtf8 name → IfSome cause (IsCauseOf name) → IfSome cause (IsOfName name)
+unfolding IsOfName
+no_file name None good is = is
+no_file name (Some line) good is = inr (is, good)
 
--- of one of those after the first, which was lent as a text
-pub of_other : (first : List ℕ) (names : List (List ℕ)) (i : ℕ) (name text : List ℕ) (cause : Option (List ℕ)) → i < length names → name ≡ get_or names i name
-    → text ≡ name → IfSome cause (IsCauseOf text) → IfSome cause (IsOfOne (first ∷ names))
-unfolding IsOfOne
-of_other first names i name text None lt here same is = is
-of_other first names i name text (Some line) lt here same is = inr (one_of names i name line lt here (subst (λ n. IsCauseOf n line) same is))
+-- of memory
+pub of_memory : (program : List ℕ) (arguments : List (List ℕ)) (file : Option (List ℕ × List ℕ)) (cause : Option (List ℕ)) → IfSome cause (SaysNoMemory program) → IfSome cause (IsOfCommand program arguments file)
+unfolding IsOfCommand
+of_memory program arguments file None is = is
+of_memory program arguments file (Some line) is = inl is
 
--- of the second of them
-pub of_second : (first second : List ℕ) (names words : List (List ℕ)) (cause : Option (List ℕ)) → second ∷ names ≡ words → IfSome cause (IsCauseOf second) → IfSome cause (IsOfOne (first ∷ words))
-unfolding IsOfOne
-of_second first second names words None same is = is
-of_second first second names words (Some line) same is = inr (subst (λ ws. IsOfOne ws line) same (inl is))
+stopped : (program : List ℕ) (arguments : List (List ℕ)) (file : Option (List ℕ × List ℕ)) (word : Option (List ℕ)) (line : List ℕ) → word ≡ find is_no_text arguments → SaysStopped program arguments file word line → IsOfCommand program arguments file line
+unfolding IsOfCommand
+stopped program arguments file word line is says = inr (subst (λ w. SaysStopped program arguments file w line) is says)
 
--- a cause of words is about them
-pub of_words : (words : List (List ℕ)) (file : Option (List ℕ × List ℕ)) (cause : Option (List ℕ)) → IfSome cause (IsOfOne words) → IsAbout words file cause
-unfolding IsAbout
-of_words words file None is = is
-of_words words file (Some line) is = inl is
+-- of the first argument that isn't UTF-8
+pub of_argument : (program : List ℕ) (arguments : List (List ℕ)) (file : Option (List ℕ × List ℕ)) (word : List ℕ) (cause : Option (List ℕ)) → Some word ≡ find is_no_text arguments → IfSome cause (SaysNoText word) → IfSome cause (IsOfCommand program arguments file)
+of_argument program arguments file word None first is = is
+of_argument program arguments file word (Some line) first is = stopped program arguments file (Some word) line first is
 
-pub of_file : (words : List (List ℕ)) (file : Option (List ℕ × List ℕ)) (cause : Option (List ℕ)) → IfSome cause (IsOfFile file) → IsAbout words file cause
-unfolding IsAbout
-of_file words file None is = is
-of_file words file (Some line) is = inr is
+-- of the conftest
+pub of_file : (program : List ℕ) (arguments : List (List ℕ)) (file : Option (List ℕ × List ℕ)) (cause : Option (List ℕ)) → None ≡ find is_no_text arguments → IfSome cause (IsOfFile file) → IfSome cause (IsOfCommand program arguments file)
+of_file program arguments file None all is = is
+of_file program arguments file (Some line) all is = stopped program arguments file None line all (inl is)
 
--- one word more
-about_more : (word : List ℕ) (words all : List (List ℕ)) (file : Option (List ℕ × List ℕ)) (cause : Option (List ℕ)) → words ≡ all → IsAbout words file cause → IsAbout (word ∷ all) file cause
-unfolding IsAbout IsOfOne
-about_more word words all file None same is = is
-about_more word words all file (Some line) same (inl is) = inl (inr (subst (λ ws. IsOfOne ws line) same is))
-about_more word words all file (Some line) same (inr is) = inr is
+-- of the command, of an answer that is an error
+pub all_refused : {X : Type 0} (r : Result X (Option (List ℕ))) (program : List ℕ) (arguments : List (List ℕ)) (file : Option (List ℕ × List ℕ)) → None ≡ find is_no_text arguments
+    → IfErr r (λ cause. IfSome cause (IsOfSpawn program arguments)) → IfErr r (λ cause. IfSome cause (IsOfCommand program arguments file))
+all_refused (Ok x) program arguments file all is = is
+all_refused (Err None) program arguments file all is = is
+all_refused (Err (Some line)) program arguments file all is = stopped program arguments file None line all (inr is)
 
--- the same of an answer that is an error
-pub all_words : {X : Type 0} (r : Result X (Option (List ℕ))) (words : List (List ℕ)) (file : Option (List ℕ × List ℕ))
-    → IfErr r (λ cause. IfSome cause (IsOfOne words)) → IfErr r (λ cause. IsAbout words file cause)
-all_words (Ok x) words file is = is
-all_words (Err cause) words file is = of_words words file cause is
+-- of words without a program
+pub of_no_program : (words : List (List ℕ)) (file : Option (List ℕ × List ℕ)) (cause : Option (List ℕ)) → IfSome cause (IsNoProgram words) → IfSome cause (IsOfWords words file)
+unfolding IsOfWords
+of_no_program words file None is = is
+of_no_program words file (Some line) is = inl is
 
-pub all_more : {X : Type 0} (r : Result X (Option (List ℕ))) (word : List ℕ) (words all : List (List ℕ)) (file : Option (List ℕ × List ℕ)) → words ≡ all
-    → IfErr r (λ cause. IsAbout words file cause) → IfErr r (λ cause. IsAbout (word ∷ all) file cause)
-all_more (Ok x) word words all file same is = is
-all_more (Err cause) word words all file same is = about_more word words all file cause same is
+unstarted : (program : List ℕ) (arguments : List (List ℕ)) (file : Option (List ℕ × List ℕ)) (line : List ℕ) → IsOfCommand program arguments file line → IsOfWords (program ∷ arguments) file line
+unfolding IsOfWords
+unstarted program arguments file line is = inr is
+
+-- of words with one, of an answer that is an error
+pub all_unstarted : {X : Type 0} (r : Result X (Option (List ℕ))) (program : List ℕ) (arguments words : List (List ℕ)) (file : Option (List ℕ × List ℕ)) → program ∷ arguments ≡ words
+    → IfErr r (λ cause. IfSome cause (IsOfCommand program arguments file)) → IfErr r (λ cause. IfSome cause (IsOfWords words file))
+all_unstarted (Ok x) program arguments words file same is = is
+all_unstarted (Err None) program arguments words file same is = is
+all_unstarted (Err (Some line)) program arguments words file same is = subst (λ ws. IsOfWords ws file line) same (unstarted program arguments file line is)

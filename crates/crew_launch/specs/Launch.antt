@@ -1,7 +1,7 @@
 -- The requests for a real child to the system.
-use Rattle.std.specs.Prelude.{◌≡◌, ◌⊎◌, ℕ, List, [], ◌∷◌, ◌++◌, All, IsUtf8, codes, Option, Some, None, IfSome, ⊤}
-use Rattle.crew_refusals.specs.Shown.{IsCauseOf}
+use Rattle.std.specs.Prelude.{◌≡◌, ◌⊎◌, ℕ, List, [], ◌∷◌, ◌++◌, All, IsUtf8, Option, Some, None, IfSome, ⊤}
 use Rattle.crew_jobs.specs.declared.job.Job.{Job}
+use Rattle.crew_launch.specs.Reasons.{IsOfWords}
 
 -- A request: a file that was written, with its name and its bytes; a command that was started, with its words; or a
 -- command that didn't start. (own)
@@ -35,23 +35,9 @@ abbrev pub AreCommand : List (List ℕ) → Type 0
 AreCommand [] = ⊥
 AreCommand (program ∷ arguments) = IsUtf8 program × All IsUtf8 arguments
 
--- The line is a cause of something that has one of these names. (own)
-unfoldable pub IsOfOne : List (List ℕ) → List ℕ → Type 0
-IsOfOne [] line = ⊥
-IsOfOne (name ∷ names) line = IsCauseOf name line ⊎ IsOfOne names line
-
--- The line is a cause of a file of this name, if there is one. (own)
-abbrev pub IsOfFile : Option (List ℕ × List ℕ) → List ℕ → Type 0
-IsOfFile None line = ⊥
-IsOfFile (Some file) line = IsCauseOf file.0 line
-
--- The cause is of one of these words or of this file, unless memory ran out for its line. (own)
-unfoldable pub IsAbout : List (List ℕ) → Option (List ℕ × List ℕ) → Option (List ℕ) → Type 0
-IsAbout words file cause = IfSome cause (λ line. IsOfOne words line ⊎ IsOfFile file line)
-
--- The cause is of a word of the job, of its conftest, or of its command. (own)
+-- The cause says why the child of the job isn't started, unless memory ran out for its line. (own)
 abbrev pub IsOfJob : Job → Option (List ℕ) → Type 0
-IsOfJob job cause = IsAbout (codes "command" ∷ job.words) job.file cause
+IsOfJob job cause = IfSome cause (IsOfWords job.words job.file)
 
 -- The file that is stale is gone, or it is as before. (own)
 abbrev pub IsClearing : Option (List ℕ) → Option (List ℕ) → Type 0

@@ -1,11 +1,14 @@
 //! Starts a real child.
 
-ghost use Rattle.std.specs.Prelude.{◌≡◌, ◌⊎◌, [], ◌∷◌, ◌++◌, None, All, IfErr, IfOk, IfSome, IsUtf8, OnErr, OnOk, codes};
+ghost use Rattle.std.specs.Prelude.{◌≡◌, ◌⊎◌, [], ◌∷◌, ◌++◌, None, All, IfErr, IfOk, IfSome, IsUtf8, OnErr, OnOk, option_map};
 ghost use Rattle.std.specs.Bool.{OnFalse, OnTrue};
+ghost use Rattle.std.specs.List.{find};
 ghost use Rattle.std.specs.Process.{command_args, command_program};
-ghost use Rattle.crew_refusals.specs.Shown.{IsCauseOf};
-ghost use Rattle.crew_launch.specs.Launch.{Adds, AreCommand, Failed, IsClearing, IsAbout, IsOfFile, IsOfJob, IsOfOne, Spawned, Wrote, failing, launch, writing};
+ghost use Rattle.std.specs.Str.{is_utf8};
+ghost use Rattle.crew_launch.specs.Launch.{Adds, AreCommand, Failed, IsClearing, IsOfJob, Spawned, Wrote, failing, launch, writing};
 ghost use Rattle.crew_launch.specs.Piped.{IsUnread};
+ghost use Rattle.crew_launch.specs.Reasons as reasons;
+ghost use Rattle.crew_launch.specs.Reasons.{IsNoProgram, IsOfCommand, IsOfFile, IsOfName, IsOfSpawn, SaysNoMemory, SaysNoText, SaysNul, is_no_text};
 
 use crate::launcher::Launcher;
 use crate::started::Started;
@@ -22,7 +25,7 @@ use std::process::Command;
 ///
 /// If the job has no word, if a word isn't UTF-8, if the conftest can't be written or the command
 /// can't be started, or if memory runs out, nothing is started, and the cause is returned.
-#[tactic(auto, using(crate::proofs::Naming::all_more, crate::proofs::Naming::of_words))]
+#[tactic(auto, using(crate::proofs::Naming::all_unstarted, crate::proofs::Naming::of_no_program))]
 pub fn start_child<L: Launcher>(
     launcher: &mut L,
     alloc: Global,
@@ -36,7 +39,9 @@ pub fn start_child<L: Launcher>(
     // If it fails, the launcher did nothing, or it wrote the conftest and the command didn't start.
     ensures refused { OnErr result (Adds (L.calls launcher.old) (L.calls launcher.new) []
         ⊎ Adds (L.calls launcher.old) (L.calls launcher.new) (failing job.now)) }
-    // The cause is about a word of the job, its conftest or its command.
+    // The cause is the first of these: the job has no word, its program or an argument isn't UTF-8,
+    // its conftest wasn't written, a word has a NUL, or the system refused the command. Instead it
+    // may be that memory ran out for the command.
     ensures cause { IfErr result (λ cause. IsOfJob job.now cause) }
     // A file that is stale is removed before the child is started.
     ensures cleared { OnOk result (L.stale launcher.new ≡ None) }
@@ -50,7 +55,7 @@ pub fn start_child<L: Launcher>(
 }
 
 /// Writes the conftest, if there is one, and starts the child of these words.
-#[tactic(auto, using(crate::proofs::Naming::of_first, crate::proofs::Naming::of_words))]
+#[tactic(auto, using(crate::proofs::Naming::of_memory))]
 fn start_words<L: Launcher>(
     launcher: &mut L,
     alloc: Global,
@@ -63,7 +68,8 @@ fn start_words<L: Launcher>(
     ensures unread { IfOk result (λ child. IsUnread child.pipe) }
     ensures refused { OnErr result (Adds (L.calls launcher.old) (L.calls launcher.new) []
         ⊎ Adds (L.calls launcher.old) (L.calls launcher.new) (writing file.now ++ Failed ∷ [])) }
-    ensures cause { IfErr result (λ cause. IsAbout (program.now ∷ arguments.now) file.now cause) }
+    ensures cause { IfErr result
+        (λ cause. IfSome cause (IsOfCommand program.now arguments.now file.now)) }
     ensures cleared { OnOk result (L.stale launcher.new ≡ None) }
     ensures stale { OnErr result (IsClearing (L.stale launcher.old) (L.stale launcher.new)) }
 {
@@ -82,20 +88,20 @@ fn start_words<L: Launcher>(
 
 /// Returns the cause that memory ran out.
 fn no_memory(alloc: Global, name: &[u8]) -> Cause
-    ensures { IfSome result (IsCauseOf name.now) }
+    ensures { IfSome result (SaysNoMemory name.now) }
 {
     Cause::of_words(alloc, name, b"out of memory")
 }
 
 /// Returns the cause that a text isn't UTF-8.
 fn no_text(alloc: Global, text: &[u8]) -> Cause
-    ensures { IfSome result (IsCauseOf text.now) }
+    ensures { IfSome result (SaysNoText text.now) }
 {
     Cause::of_words(alloc, text, b"not UTF-8")
 }
 
 /// Adds the arguments to a command that has none, writes the conftest, and starts the command.
-#[tactic(auto, using(crate::proofs::Naming::of_words, crate::proofs::Naming::of_file, crate::proofs::Naming::all_words,))]
+#[tactic(auto, using(crate::proofs::Naming::of_argument, crate::proofs::Naming::of_memory, crate::proofs::Naming::of_file, crate::proofs::Naming::all_refused,))]
 fn run<L: Launcher>(
     launcher: &mut L,
     alloc: Global,
@@ -111,12 +117,16 @@ fn run<L: Launcher>(
     ensures unread { IfOk result (λ child. IsUnread child.pipe) }
     ensures refused { OnErr result (Adds (L.calls launcher.old) (L.calls launcher.new) []
         ⊎ Adds (L.calls launcher.old) (L.calls launcher.new) (writing file.now ++ Failed ∷ [])) }
-    ensures cause { IfErr result (λ cause. IsAbout (program.now ∷ arguments.now) file.now cause) }
+    ensures cause { IfErr result
+        (λ cause. IfSome cause (IsOfCommand program.now arguments.now file.now)) }
     ensures cleared { OnOk result (L.stale launcher.new ≡ None) }
     ensures stale { OnErr result (IsClearing (L.stale launcher.old) (L.stale launcher.new)) }
 {
+    if let Some(argument) = first_no_text(arguments) {
+        return Err(no_text(alloc, argument));
+    }
     let Ok(true) = put_arguments(command, arguments) else {
-        return Err(arguments_cause(alloc, program, arguments));
+        return Err(no_memory(alloc, program));
     };
     match write_conftest(launcher, alloc, file) {
         Ok(()) => spawn(launcher, alloc, command, program, arguments),
@@ -137,7 +147,7 @@ fn spawn<L: Launcher>(
     ensures unread { IfOk result (λ child. IsUnread child.pipe) }
     ensures refused { OnErr result (
         Adds (L.calls launcher.old) (L.calls launcher.new) (Failed ∷ [])) }
-    ensures cause { IfErr result (λ cause. IfSome cause (IsOfOne (program.now ∷ arguments.now))) }
+    ensures cause { IfErr result (λ cause. IfSome cause (IsOfSpawn program.now arguments.now)) }
     ensures stale { L.stale launcher.new ≡ None }
 {
     match launcher.spawn(command) {
@@ -146,30 +156,42 @@ fn spawn<L: Launcher>(
     }
 }
 
-/// Returns why a command wasn't started: a word with a NUL, which no word of a command can have, or
-/// else the error.
-#[tactic(auto, using(crate::proofs::Naming::of_first))]
+/// Returns why a command wasn't started: the first word with a NUL, which no word of a command can
+/// have, or else the error.
+#[tactic(auto, unfolding(crate::specs::Reasons::IsOfSpawn))]
 fn spawn_cause(alloc: Global, program: &[u8], arguments: &[Bytes], error: &io::Error) -> Cause
-    ensures { IfSome result (IsOfOne (program.now ∷ arguments.now)) }
+    ensures { IfSome result (IsOfSpawn program.now arguments.now) }
 {
     if has_nul(program) {
         return no_nul(alloc, program);
     }
-    for argument in arguments {
-        if has_nul(argument.as_slice()) {
-            return no_nul(alloc, argument.as_slice());
-        }
+    match first_with_nul(arguments) {
+        Some(argument) => no_nul(alloc, argument),
+        None => Cause::of_error(alloc, program, error),
     }
-    Cause::of_error(alloc, program, error)
 }
 
-fn has_nul(text: &[u8]) -> bool {
+/// Returns the first argument with a NUL.
+fn first_with_nul(arguments: &[Bytes]) -> Option<&[u8]>
+    ensures { option_map (λ word. word.now) result ≡ find reasons.has_nul arguments.now }
+{
+    for argument in arguments {
+        if has_nul(argument.as_slice()) {
+            return Some(argument.as_slice());
+        }
+    }
+    None
+}
+
+fn has_nul(text: &[u8]) -> bool
+    ensures { result ≡ reasons.has_nul text.now }
+{
     text.contains(&0)
 }
 
 /// Returns the cause that a text has a NUL.
 fn no_nul(alloc: Global, text: &[u8]) -> Cause
-    ensures { IfSome result (IsCauseOf text.now) }
+    ensures { IfSome result (SaysNul text.now) }
 {
     Cause::of_words(alloc, text, b"has a NUL")
 }
@@ -192,6 +214,7 @@ fn write_conftest<L: Launcher>(
     }
 }
 
+#[tactic(auto, using(crate::proofs::Naming::no_name, crate::proofs::Naming::no_file))]
 fn write_file<L: Launcher>(
     launcher: &mut L,
     alloc: Global,
@@ -201,7 +224,7 @@ fn write_file<L: Launcher>(
     ensures written { OnOk result (
         Adds (L.calls launcher.old) (L.calls launcher.new) (Wrote name.now text.now ∷ [])) }
     ensures refused { OnErr result (Adds (L.calls launcher.old) (L.calls launcher.new) []) }
-    ensures cause { IfErr result (λ cause. IfSome cause (IsCauseOf name.now)) }
+    ensures cause { IfErr result (λ cause. IfSome cause (IsOfName name.now)) }
     ensures stale { IsClearing (L.stale launcher.old) (L.stale launcher.new) }
 {
     let Ok(path) = std::str::from_utf8(name) else {
@@ -215,11 +238,10 @@ fn write_file<L: Launcher>(
 
 /// Returns the program and the arguments, or an error if there is no word or the program isn't
 /// UTF-8.
-#[tactic(auto, using(crate::proofs::Naming::of_first, crate::proofs::Naming::of_second))]
 fn program_of(alloc: Global, words: &[Bytes]) -> Result<(&str, &[Bytes]), Cause>
     ensures words { IfOk result (λ p. p.0.now ∷ p.1.now ≡ words.now) }
     ensures fault { OnErr result (¬ (AreCommand words.now)) }
-    ensures cause { IfErr result (λ cause. IfSome cause (IsOfOne (codes "command" ∷ words.now))) }
+    ensures cause { IfErr result (λ cause. IfSome cause (IsNoProgram words.now)) }
 {
     let Some((program, arguments)) = words.split_first() else {
         return Err(Cause::of_words(alloc, b"command", b"no word"));
@@ -248,15 +270,23 @@ fn put_arguments(command: &mut Command, arguments: &[Bytes]) -> Result<bool, All
     Ok(true)
 }
 
-/// Returns why arguments weren't added: one isn't UTF-8, or else memory ran out.
-#[tactic(auto, using(crate::proofs::Naming::of_first))]
-fn arguments_cause(alloc: Global, program: &[u8], arguments: &[Bytes]) -> Cause
-    ensures { IfSome result (IsOfOne (program.now ∷ arguments.now)) }
+/// Returns the first argument that isn't UTF-8.
+fn first_no_text(arguments: &[Bytes]) -> Option<&[u8]>
+    ensures { option_map (λ word. word.now) result ≡ find is_no_text arguments.now }
 {
     for argument in arguments {
-        if std::str::from_utf8(argument.as_slice()).is_err() {
-            return no_text(alloc, argument.as_slice());
+        if !is_text(argument.as_slice()) {
+            return Some(argument.as_slice());
         }
     }
-    no_memory(alloc, program)
+    None
+}
+
+fn is_text(text: &[u8]) -> bool
+    ensures { result ≡ is_utf8 text.now }
+{
+    match std::str::from_utf8(text) {
+        Ok(_) => true,
+        Err(_) => false,
+    }
 }

@@ -1,5 +1,7 @@
 //! A real system: its files and its programs.
 
+ghost use Rattle.std.specs.Prelude.{◌≡◌};
+
 use deftable::Bytes;
 use file_disk::{Disk, Found};
 use std::alloc::{AllocError, Allocator, Global};
@@ -15,7 +17,9 @@ pub struct System<R: Files + Processes + Drop> {
 
 impl<R: Files + Processes + Drop> System<R> {
     /// Returns the system of these files and programs.
-    pub fn new(rt: R) -> System<R> {
+    pub fn new(rt: R) -> System<R>
+        ensures { result.rt ≡ rt }
+    {
         System { rt }
     }
 }

@@ -1,5 +1,4 @@
 -- What contracts see of a stream whose checks are counted. (own)
-use Rattle.std.specs.Prelude.{ℕ, List, fold}
 use Rattle.crew_tally.specs.declared.tally.Tally.{Tally}
 
 -- The stream below, and what is counted so far. (own)

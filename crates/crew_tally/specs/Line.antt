@@ -1,5 +1,5 @@
 -- The last line of a run.
-use Rattle.std.specs.Prelude.{ℕ, ◌/◌, ◌%◌, ◌==◌, nat_lt, List, [], ◌++◌, codes, decimal, if◌then◌else◌}
+use Rattle.std.specs.Prelude.{ℕ, ◌/◌, ◌%◌, ◌==◌, nat_lt, List, [], ◌++◌, codes, decimal, Option, Some, None, if◌then◌else◌}
 use Rattle.crew_tally.specs.declared.tally.Tally.{Tally}
 
 -- A number, or `no` in place of 0. (own)
@@ -37,3 +37,7 @@ line t children millis =
     ++ (count_text t.checks (codes " check") (codes " checks")
     ++ (cached_text t.cached
     ++ (codes ", " ++ (count_text children (codes " child") (codes " children") ++ (codes ", " ++ (time_text millis ++ codes "\n"))))))
+
+-- The line of a run, if it made a check. (own)
+abbrev pub summary : Tally → ℕ → ℕ → Option (List ℕ)
+summary t children millis = if t.checks == 0 then None else Some (line t children millis)

@@ -4,7 +4,7 @@
 //! ```text
 //! let mut output = Counted::new(rt.stdout());
 //! output.write_all(b"checking for stdio.h... (cached) yes\n")?;
-//! put_summary(alloc, output.tally(), 0, 12, errors)?;    // acrun: 1 check, 1 from the cache, no children, 12 ms
+//! summary(alloc, &output.tally(), 0, 12)?;             // acrun: 1 check, 1 from the cache, no children, 12 ms
 //! ```
 //!
 //! The checks are counted in what is printed: each line that begins with `checking ` is one, and if
@@ -23,5 +23,5 @@ mod tally;
 
 pub use children::Children;
 pub use counted::Counted;
-pub use line::put_summary;
+pub use line::summary;
 pub use tally::Tally;

@@ -1,12 +1,10 @@
 //! The line.
 
-ghost use Rattle.std.specs.Prelude.{◌≡◌, ◌++◌, ◌⊎◌, ◌==◌, ℕ, false, true, IfOk, OnOk, decimal};
-ghost use Rattle.std.specs.Io.KnownBytes.{Appends};
+ghost use Rattle.std.specs.Prelude.{◌≡◌, ◌++◌, ◌==◌, ℕ, false, true, IfOk, OnOk, decimal, option_map, vec_items};
 ghost use Rattle.crew_tally.specs.Line as texts;
 
 use crate::tally::Tally;
 use std::alloc::{AllocError, Global};
-use std::io::{self, Write};
 
 /// The milliseconds from which seconds are said.
 const LEAST_SECONDS: u64 = 1000;
@@ -116,32 +114,24 @@ fn line_of(alloc: Global, tally: &Tally, children: u64, millis: u64) -> Result<V
     Ok(line)
 }
 
-/// Writes what a run made of checks: their number, the number that the cache answered, the number
-/// of children, and the time (own). A run without checks has no such line, and neither has one for
-/// which memory runs out.
+/// Returns the line that sums a run up: how many checks it made, how many answers the cache had, how
+/// many children it started, and the time (own). A run without checks has no such line.
 ///
 /// # Errors
 ///
-/// Returns the stream's error. A part of the line may have been written.
-pub fn put_summary<W: Write>(
+/// Fails only if memory runs out.
+pub fn summary(
     alloc: Global,
     tally: &Tally,
     children: u64,
     millis: u64,
-    stream: &mut W,
-) -> io::Result<()>
-    // If nothing fails, the line was written, or memory ran out for it and nothing was.
-    ensures written { OnOk result (
-        (stream.new ≡ stream.old)
-        ⊎ Appends (W.contents stream.old) (W.contents stream.new) (texts.line tally.now children millis)) }
-    // A run without checks has no line.
-    ensures none { tally.now.checks ≡ 0 → stream.new ≡ stream.old }
+) -> Result<Option<Vec<u8>>, AllocError>
+    ensures { IfOk result
+        (λ line. option_map vec_items line ≡ texts.summary tally.now children millis) }
 {
     if tally.checks() == 0 {
-        return Ok(());
+        return Ok(None);
     }
-    match line_of(alloc, tally, children, millis) {
-        Ok(line) => stream.write_all(line.as_slice()),
-        Err(_) => Ok(()),
-    }
+    let line = line_of(alloc, tally, children, millis)?;
+    Ok(Some(line))
 }

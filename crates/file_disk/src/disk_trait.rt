@@ -1,8 +1,9 @@
 //! The trait of what holds files.
 
-ghost use Rattle.std.specs.Prelude.{◌≡◌, ◌≢◌, [], ◌∷◌, None, Some, Option, IfOk, IfErr, IfSome, OnOk, OnErr, option_map, string_bytes};
+ghost use Rattle.std.specs.Prelude.{◌≡◌, ◌≢◌, [], ◌∷◌, None, Some, Option, IfOk, IfErr, IfNone, IfSome, OnOk, OnErr, option_map, string_bytes};
 ghost use Rattle.std.specs.IoError.{error_kind};
 ghost use Rattle.file_disk.specs.Known.{Known, MadeDirectories, Made, Filled, Failed, Renamed, Removed, Adds, text_under, kind_under, target_under, directory_under, owner_under, limited};
+ghost use Rattle.file_disk.specs.Regular.{IsOpened};
 ghost use Rattle.file_disk.specs.declared.found.Found.TheVariants as found;
 
 use crate::found::Found;
@@ -33,7 +34,8 @@ pub trait Disk: Drop {
     /// Returns why [`Disk::read`] reads nothing, or not all, under a name, or `None` if the file
     /// can be opened and has no more than 64 MiB. The file is looked at now, and may have been
     /// another one before.
-    fn cause(&self, name: &str) -> Option<io::Error>;
+    fn cause(&self, name: &str) -> Option<io::Error>
+        ensures { IfNone result (IfSome (known self.now) (λ k. IsOpened k name.now)) };
 
     /// Returns what is under a name. A link is not followed.
     ///

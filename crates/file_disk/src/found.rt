@@ -1,5 +1,9 @@
 //! What is under a name.
 
+ghost use Rattle.std.specs.Prelude.{◌≡◌};
+ghost use Rattle.std.specs.IoError.{error_kind};
+ghost use Rattle.file_disk.specs.Regular.{error_of};
+
 use std::io::{self, ErrorKind};
 
 /// What is under a name, if links are not followed.
@@ -18,7 +22,9 @@ pub enum Found {
 }
 
 /// Returns the error of something that is to be read or replaced, and is no regular file.
-pub fn not_regular(found: Found) -> io::Error {
+pub fn not_regular(found: Found) -> io::Error
+    ensures { error_kind result ≡ error_of found }
+{
     match found {
         Found::Directory => io::Error::new(ErrorKind::IsADirectory, "Is a directory"),
         _ => io::Error::new(ErrorKind::Unsupported, "is a pipe, a socket or a device"),

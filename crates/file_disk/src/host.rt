@@ -1,6 +1,9 @@
 //! The files of a real system.
 
-ghost use Rattle.std.specs.Prelude.{◌≡◌, ◌≤◌, ◌+◌, ◌^◌, take, IfOk, IfSome};
+ghost use Rattle.std.specs.Prelude.{◌≡◌, ◌≤◌, ◌+◌, ◌^◌, ℕ, List, None, Option, take, IfErr, IfNone, IfOk, IfSome, OnOk};
+ghost use Rattle.std.specs.Io.KnownBytes.{Appends};
+ghost use Rattle.file_disk.specs.Regular.{IsRegular, IsSaid};
+ghost use Rattle.file_disk.specs.declared.found.Found.{Found};
 
 use crate::disk_trait::Disk;
 use crate::found::{Found, not_regular};
@@ -22,7 +25,9 @@ pub struct Host<'a, F: Files> {
 
 impl<'a, F: Files> Host<'a, F> {
     /// Returns the disk of these files.
-    pub fn new(files: &'a F) -> Host<'a, F> {
+    pub fn new(files: &'a F) -> Host<'a, F>
+        ensures { result.files.now ≡ files.now }
+    {
         Host { files }
     }
 }
@@ -59,7 +64,9 @@ fn read_front<R: Read>(
 }
 
 /// Returns what a name is a name of.
-fn found_of(found: &Metadata) -> Found {
+fn found_of(found: &Metadata) -> Found
+    ensures { IsSaid found.now result }
+{
     if found.is_file() {
         return Found::File {
             mode: found.permissions().mode(),
@@ -75,13 +82,45 @@ fn found_of(found: &Metadata) -> Found {
     Found::Special
 }
 
+/// Looks at what names lead to, and opens it. Of the real files nothing is known.
+trait Opens {
+    /// What was opened.
+    type Opened;
+
+    // What each name leads to, if that is known.
+    ghost found: { Self → Option (List ℕ → Found) } = { λ _. None };
+
+    /// Returns what a name leads to.
+    fn follow(&self, name: &str) -> io::Result<Found>
+        ensures { IfOk result (λ f. IfSome (found self.now) (λ under. f ≡ under name.now)) };
+
+    /// Opens a regular file.
+    fn open(&self, name: &str) -> io::Result<Self::Opened>
+        requires { IfSome (found self.now) (λ under. IsRegular (under name.now)) };
+}
+
 /// Opens a regular file. Nothing else is opened, since a read of a pipe or of a device may wait.
-fn open_regular<F: Files>(files: &F, name: &str) -> io::Result<F::File> {
-    let found = fs::metadata(files, name)?;
-    if !found.is_file() {
-        return Err(not_regular(found_of(&found)));
+fn open_regular<O: Opens>(files: &O, name: &str) -> io::Result<O::Opened>
+    ensures { OnOk result (IfSome (O.found files.now) (λ under. IsRegular (under name.now))) }
+{
+    match files.follow(name) {
+        Ok(Found::File { .. }) => files.open(name),
+        Ok(found) => Err(not_regular(found)),
+        Err(e) => Err(e),
     }
-    fs::open(files, name)
+}
+
+impl<'a, F: Files> Opens for Host<'a, F> {
+    type Opened = F::File;
+
+    fn follow(&self, name: &str) -> io::Result<Found> {
+        let metadata = fs::metadata(self.files, name)?;
+        Ok(found_of(&metadata))
+    }
+
+    fn open(&self, name: &str) -> io::Result<F::File> {
+        fs::open(self.files, name)
+    }
 }
 
 /// Returns the error of a file that was opened, if it has more than 64 MiB.
@@ -93,8 +132,10 @@ fn if_too_large<T: OpenFile>(file: &T) -> Option<io::Error> {
     }
 }
 
-/// Writes a text to a new file, and closes it.
-fn fill<T: OpenFile + Write + Drop>(mut file: T, mode: Option<u32>, text: &[u8]) -> io::Result<()> {
+/// Gives a new file its permission bits, if there are some, and then writes a text to it.
+fn fill<T: OpenFile + Write>(file: &mut T, mode: Option<u32>, text: &[u8]) -> io::Result<()>
+    ensures { OnOk result (Appends (T.contents file.old) (T.contents file.new) text.now) }
+{
     if let Some(mode) = mode {
         file.set_permissions(Permissions::from_mode(mode))?;
     }
@@ -105,7 +146,7 @@ impl<'a, F: Files> Disk for Host<'a, F> {
     type File = F::File;
 
     fn read(&self, alloc: Global, name: &str) -> Result<Option<Bytes>, AllocError> {
-        match open_regular(self.files, name) {
+        match open_regular(self, name) {
             Ok(mut file) => {
                 let size = size_of(&file);
                 read_front(alloc, &mut file, size)
@@ -116,7 +157,7 @@ impl<'a, F: Files> Disk for Host<'a, F> {
     }
 
     fn cause(&self, name: &str) -> Option<io::Error> {
-        match &open_regular(self.files, name) {
+        match &open_regular(self, name) {
             Ok(file) => if_too_large(file),
             Err(e) => Some(*e),
         }
@@ -157,11 +198,11 @@ impl<'a, F: Files> Disk for Host<'a, F> {
     fn fill(
         &mut self,
         _name: &str,
-        file: F::File,
+        mut file: F::File,
         mode: Option<u32>,
         text: &[u8],
     ) -> io::Result<()> {
-        fill(file, mode, text)
+        fill(&mut file, mode, text)
     }
 
     fn rename(&mut self, from: &str, to: &str) -> io::Result<()> {

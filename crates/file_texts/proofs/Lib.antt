@@ -8,6 +8,7 @@ mod Placed
 mod Puts
 mod Readings
 mod Reread
+mod Shown
 mod Slashes
 pub mod Unused
 mod Writings

@@ -1,6 +1,7 @@
 //! Reading whole texts.
 
 ghost use Rattle.std.specs.Prelude.{◌≡◌, ◌≤◌, ◌<◌, ◌^◌, length, IfOk, IfSome, IfNone};
+ghost use Rattle.file_disk.specs.Regular.{IsOpened};
 ghost use Rattle.file_texts.specs.Names.{IsFileName};
 ghost use Rattle.file_texts.specs.Reading.{IsReadLimited, IsReadWhole};
 
@@ -65,7 +66,10 @@ pub fn read_text<D: Disk>(alloc: Global, disk: &D, name: &[u8]) -> Result<Option
 
 /// Returns why [`read_text`] reads nothing under a name, or `None` if the file can be opened and
 /// isn't too large. The file is looked at now, and may have been another one before (own).
-pub fn unread_cause<D: Disk>(disk: &D, name: &[u8]) -> Option<io::Error> {
+pub fn unread_cause<D: Disk>(disk: &D, name: &[u8]) -> Option<io::Error>
+    ensures name { IfNone result (IsFileName name.now) }
+    ensures opened { IfNone result (IfSome (D.known disk.now) (λ k. IsOpened k name.now)) }
+{
     let Some(name) = file_name(name) else {
         return Some(no_name());
     };

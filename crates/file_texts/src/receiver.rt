@@ -1,6 +1,7 @@
 //! The receiver that writes to files.
 
 ghost use Rattle.std.specs.Prelude.{◌≡◌, ◌+◌, ◌^◌, ◌<◌, true, false, List, ℕ, [], OnOk, OnErr, IfOk, IfSome, is_err, option_map, string_bytes};
+ghost use Rattle.crew_refusals.specs.Shown.{IsShown};
 ghost use Rattle.file_disk.specs.Known.{Adds, Does};
 ghost use Rattle.output_put.specs.Receipt.{with_artifact, with_refusal};
 ghost use Rattle.file_texts.specs.Done as done;
@@ -20,7 +21,7 @@ use crate::names::{directory_of, file_name, no_name};
 use crate::places::{Guards, Places, add_place, guard_of, held_error, is_held};
 use crate::reading::read_text;
 use crate::writing::{Keeps, write_new, write_text};
-use crew_refusals::words_of;
+use crew_refusals::Cause;
 use deftable::Bytes;
 use file_disk::{Disk, LARGEST_TEXT};
 use output_put::{Artifact, Kind, Outputs, PutRefused};
@@ -47,7 +48,7 @@ pub struct FileOutputs<D: Disk> {
     artifacts: Vec<Artifact>,
     failures: u64,
     lines: Vec<u8>,
-    cause: Bytes,
+    cause: Option<Cause>,
     is_closed: bool,
 }
 
@@ -441,6 +442,20 @@ fn take_free<'a, D: Disk>(
     )
 }
 
+/// Returns the line of a cause, or the empty text if there is no cause or no line.
+#[tactic(auto, using(crate::proofs::Shown::none))]
+fn line_of(cause: &Option<Cause>) -> &[u8]
+    ensures { IsShown result.now }
+{
+    let Some(cause) = cause else {
+        return b"";
+    };
+    match cause.line() {
+        Some(line) => line,
+        None => b"",
+    }
+}
+
 impl<D: Disk> FileOutputs<D> {
     /// Returns a receiver that has taken nothing, and writes to this disk. It doesn't allocate.
     pub fn new(alloc: Global, disk: D) -> FileOutputs<D>
@@ -455,7 +470,7 @@ impl<D: Disk> FileOutputs<D> {
             artifacts: Vec::new(alloc),
             failures: 0,
             lines: Vec::new(alloc),
-            cause: Bytes::new(alloc),
+            cause: None,
             is_closed: false,
         }
     }
@@ -469,8 +484,11 @@ impl<D: Disk> FileOutputs<D> {
 
     /// Returns why the last put was refused that was: `NAME: CAUSE`, with the words of the system,
     /// or with words of the receiver's own. If none was refused, or memory ran out, it is empty.
-    pub fn cause(&self) -> &[u8] {
-        self.cause.as_slice()
+    /// It has no control byte and no newline.
+    pub fn cause(&self) -> &[u8]
+        ensures { IsShown result.now }
+    {
+        line_of(&self.cause)
     }
 
     /// Returns what it took, in order.
@@ -609,7 +627,7 @@ impl<D: Disk> Outputs for FileOutputs<D> {
             Ok(()) => Ok(()),
             Err(e) => {
                 self.failures += 1;
-                self.cause = words_of(self.alloc, name, &e).unwrap_or(Bytes::new(self.alloc));
+                self.cause = Some(Cause::of_error(self.alloc, name, &e));
                 Err(PutRefused)
             }
         }

@@ -1,3 +1,4 @@
+pub mod Ends
 pub mod Filters
 pub mod Ports
 pub mod Puts

@@ -1,6 +1,6 @@
 //! The program's commands, over its streams, its files and a crew.
 
-ghost use Rattle.std.specs.Prelude.{◌≡◌, true, false, ◌∷◌, ◌≢◌, ◌⊎◌, ◌≤◌, ◌<◌, ℕ, List, [], length, None, IfSome, codes};
+ghost use Rattle.std.specs.Prelude.{◌≡◌, true, false, ◌∷◌, ◌≢◌, ◌⊎◌, ◌≤◌, ◌<◌, ℕ, List, [], length, None, IfSome, OnOk, codes, option_map, vec_items};
 ghost use Rattle.std.specs.Io.KnownBytes.{Appends};
 ghost use Rattle.std.specs.List.{list_any};
 ghost use Rattle.cmd_status.specs.MadeAgain.{IsMadeAgain};
@@ -23,6 +23,9 @@ ghost use Rattle.cmd_port.specs.Refusals.{IsSaid, Says};
 ghost use Rattle.runner.specs.Filters.{FilterSays, FiltersSo};
 ghost use Rattle.runner.specs.Ports.{IfPort};
 ghost use Rattle.runner.specs.Puts.{HasNoPuts};
+ghost use Rattle.crew_tally.specs.Line.{summary};
+ghost use Rattle.runner.specs.Ends as ends;
+ghost use Rattle.runner.specs.Ends.{IsSummed};
 ghost use Rattle.cmd_standin.specs.Standin.{IsAnswered};
 ghost use Rattle.cmd_why.specs.Refusals as unprinted;
 ghost use Rattle.cmd_why.specs.Refusals.{Tells};
@@ -38,12 +41,12 @@ use cmd_port::run_port;
 use cmd_status::{exit_status, run_standin, run_status};
 use cmd_why::run_why;
 use crew_refusals::Causes;
-use crew_tally::{Children, Counted, Tally, put_summary};
+use crew_tally::{Children, Counted, Tally, summary};
 use crew_trait::Crew;
 use deftable::Bytes;
 use file_disk::{Disk, Host};
 use file_texts::FileOutputs;
-use std::alloc::Global;
+use std::alloc::{AllocError, Global};
 use std::io::{self, Input, IsTerminal, Read, Write};
 use std::rt::Files;
 use std::time::Instant;
@@ -440,7 +443,9 @@ pub fn run<F: Files, D: Disk, C: Crew + Causes, R: Read, W: Write, E: Hears>(
 
 /// Returns whether control bytes are to be shown on standard output if it is a terminal. What
 /// `lint` prints shows them itself, and may have colours.
-fn shows_output(words: &[Bytes]) -> bool {
+fn shows_output(words: &[Bytes]) -> bool
+    ensures { result ≡ ends.shows_output (call_of words.now) }
+{
     match call_of(words) {
         ProgramCall::Lint(_) => false,
         _ => true,
@@ -448,9 +453,12 @@ fn shows_output(words: &[Bytes]) -> bool {
 }
 
 /// Returns whether the words ask for a run.
-fn asks_run(words: &[Bytes]) -> bool {
+fn asks_run(words: &[Bytes]) -> bool
+    ensures { result ≡ ends.asks_run (call_of words.now) }
+{
     match call_of(words) {
-        ProgramCall::Configure(_, _) | ProgramCall::Recheck => true,
+        ProgramCall::Configure(_, _) => true,
+        ProgramCall::Recheck => true,
         _ => false,
     }
 }
@@ -470,7 +478,11 @@ fn millis_since(rt: &HostRuntime, begun: &io::Result<Instant>) -> u64 {
 }
 
 /// Sums a run up that began then, on its last line, if it is asked.
-fn sum_up<E: Write>(
+///
+/// # Errors
+///
+/// Fails only if memory runs out.
+fn sum_up<E: Hears>(
     rt: &HostRuntime,
     alloc: Global,
     is_asked: bool,
@@ -478,9 +490,30 @@ fn sum_up<E: Write>(
     tally: &Tally,
     children: u64,
     errors: &mut E,
-) {
-    if is_asked {
-        let _ = put_summary(alloc, tally, children, millis_since(rt, begun), errors);
+) -> Result<(), AllocError>
+    // If it is asked, a run that made a check has its line, unless standard error failed.
+    ensures summed { OnOk result (is_asked ≡ true
+        → (millis : ℕ)
+        × IsSummed E.contents E.has_failed errors.old errors.new (summary tally.now children millis)) }
+    ensures unasked { is_asked ≡ false → errors.new ≡ errors.old }
+{
+    if !is_asked {
+        return Ok(());
+    }
+    let line = summary(alloc, tally, children, millis_since(rt, begun))?;
+    put_line(&line, errors);
+    Ok(())
+}
+
+/// Writes the last line of a run, if there is one.
+fn put_line<E: Hears>(line: &Option<Vec<u8>>, errors: &mut E)
+    ensures { IsSummed E.contents E.has_failed errors.old errors.new (option_map vec_items line.now) }
+{
+    match line {
+        Some(line) => {
+            let _ = errors.say(line.as_slice());
+        }
+        None => {}
     }
 }
 
@@ -564,7 +597,7 @@ pub fn command<C: Crew + Causes + Children>(
     let is_summed = is_seen && asks_run(words);
     let tally = terminal.output.tally();
     let children = crew.children();
-    sum_up(
+    let _ = sum_up(
         &rt,
         alloc,
         is_summed,

@@ -1,6 +1,6 @@
 //! A disk in memory.
 
-ghost use Rattle.std.specs.Prelude.{◌≡◌, ◌∷◌, ◌++◌, [], Some, None, IfOk, bytes_eq, map, option_map, reverse, if◌then◌else◌};
+ghost use Rattle.std.specs.Prelude.{◌≡◌, ◌∷◌, ◌++◌, [], ◌≤◌, ◌^◌, Some, None, IfNone, IfOk, IfSome, bytes_eq, length, map, option_map, reverse, if◌then◌else◌};
 ghost use Rattle.std.specs.Option.{option_copied};
 ghost use Rattle.file_disk.specs.Known.{limited};
 ghost use Rattle.file_texts.specs.Names as names;
@@ -8,7 +8,7 @@ ghost use Rattle.tests_disk.specs.Memory as meant;
 
 use crate::done::{Placed, Step};
 use deftable::Bytes;
-use file_disk::{Disk, Found, LARGEST_TEXT};
+use file_disk::{Disk, Found, LARGEST_TEXT, not_regular};
 use std::alloc::{AllocError, Global};
 use std::io::{self, ErrorKind};
 use std::process::Abort;
@@ -210,6 +210,16 @@ fn limited(text: &[u8]) -> &[u8]
     }
 }
 
+/// Returns the error of a text of more than 64 MiB.
+fn if_too_large(text: Option<&[u8]>) -> Option<io::Error>
+    ensures { IfNone result (IfSome (option_copied text.entry) (λ t. length t ≤ 2 ^ 26)) }
+{
+    match text {
+        Some(text) if text.len() > LARGEST_TEXT => Some(io::Error::from(ErrorKind::FileTooLarge)),
+        _ => None,
+    }
+}
+
 /// Returns a copy of a text, or of its first 64 MiB and one byte more.
 fn front_of(alloc: Global, text: &[u8]) -> Result<Option<Bytes>, AllocError>
     ensures { IfOk result (λ o. o ≡ Some (limited text.now)) }
@@ -245,8 +255,12 @@ impl<'a, R: Abort> Disk for MemoryDisk<'a, R> {
         }
     }
 
-    fn cause(&self, _name: &str) -> Option<io::Error> {
-        None
+    fn cause(&self, name: &str) -> Option<io::Error> {
+        let name = name.as_bytes();
+        match self.found(name) {
+            Found::File { .. } => if_too_large(self.text(name)),
+            found => Some(not_regular(found)),
+        }
     }
 
     fn look(&self, name: &str) -> io::Result<Found> {

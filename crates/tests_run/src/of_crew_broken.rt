@@ -1,6 +1,8 @@
 //! Children whose pipe or end fails where a test says so, or which can't be looked at.
 
 use crate::of_crew_ends::put_ready;
+use crate::of_crew_refusals::put_start;
+use crew::ProcessCrew;
 use std::alloc::Allocator;
 use std::cell::Cell;
 use std::fs::{Metadata, OpenOptions};
@@ -57,7 +59,7 @@ impl<'a> OpenProcess for Process<'a> {
 }
 
 /// The system, but each child that is started has this pipe and this status, and the next of these
-/// looks.
+/// looks. If it has the number of a refusal, each start is refused with that error.
 #[derive(Drop)]
 struct System<'a> {
     rt: &'a HostRuntime,
@@ -66,6 +68,7 @@ struct System<'a> {
     waits: &'a Cell<u64>,
     looks: &'a [u8],
     started: Cell<usize>,
+    refusal: usize,
 }
 
 impl<'a> Processes for System<'a> {
@@ -78,6 +81,9 @@ impl<'a> Processes for System<'a> {
         _stdout: &Stdio,
         _stderr: &Stdio,
     ) -> io::Result<Child<Process<'a>>> {
+        if self.refusal != 0 {
+            return Err(io::Error::from_raw_os_error(self.refusal.min(255) as i32));
+        }
         let number = self.started.get();
         self.started.set(number.saturating_add(1));
         let process = Process {
@@ -155,6 +161,7 @@ impl RowCall for Ends<'_> {
             waits: &waits,
             looks,
             started: Cell::new(0),
+            refusal: 0,
         };
         let job = job_of(page, b"true", b"");
         let work = Work {
@@ -220,4 +227,42 @@ const ENDS: &[u8] = b"\
 #[test]
 fn children_that_fail(rt: HostRuntime) -> Result<(), Fail> {
     try_rows(rt.alloc(), &Ends { rt: &rt }, ENDS)
+}
+
+/// The number of an error, with which the system refuses to start a child.
+#[derive(Drop)]
+struct Refusals<'a> {
+    rt: &'a HostRuntime,
+}
+
+impl RowCall for Refusals<'_> {
+    fn put(&self, page: &mut Page, given: &[u8]) {
+        let waits = Cell::new(0);
+        let system = System {
+            rt: self.rt,
+            pipe: b"",
+            status: b"",
+            waits: &waits,
+            looks: b"",
+            started: Cell::new(0),
+            refusal: number_of(given),
+        };
+        let job = job_of(page, b"true", b"");
+        match &mut ProcessCrew::new(system, page.alloc()) {
+            Ok(crew) => put_start(page, crew, job, 1),
+            Err(_) => page.cut(),
+        }
+    }
+}
+
+// The system has no room for one more process or for its memory, or its arguments are too long.
+const REFUSALS: &[u8] = b"\
+11 => true: Resource temporarily unavailable
+12 => true: Cannot allocate memory
+7 => true: Argument list too long
+";
+
+#[test]
+fn starts_that_are_refused(rt: HostRuntime) -> Result<(), Fail> {
+    try_rows(rt.alloc(), &Refusals { rt: &rt }, REFUSALS)
 }

@@ -18,7 +18,7 @@ fn put_cause<C: Causes>(page: &mut Page, crew: &C, child: usize) {
 
 /// Starts one child with a crew that has done nothing, and puts why the child of this number was
 /// refused.
-fn put_start<C: Crew + Causes>(page: &mut Page, crew: &mut C, job: Job, child: usize)
+pub fn put_start<C: Crew + Causes>(page: &mut Page, crew: &mut C, job: Job, child: usize)
     requires fresh { C.account crew.old ≡ record { events = []; attempts = 0; failures = 0 } }
 {
     match crew.start(0, job) {

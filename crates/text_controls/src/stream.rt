@@ -1,6 +1,6 @@
 //! The stream that shows.
 
-ghost use Rattle.std.specs.Prelude.{◌≡◌, ◌<◌, ◌≤◌, IsTrue, IfOk, OnOk, length, take};
+ghost use Rattle.std.specs.Prelude.{◌≡◌, ◌<◌, ◌≤◌, IsTrue, IfOk, OnErr, OnOk, length, take};
 ghost use Rattle.std.specs.Io.{WritesAtMost};
 ghost use Rattle.std.specs.Io.KnownBytes.{Appends, Keeps, WriteAppends};
 ghost use Rattle.text_controls.specs.Form.{nothing, shown, awaited_after};
@@ -70,6 +70,8 @@ impl<W: Write + Drop> Write for Shown<W> {
             (shown self.old.awaited (take n buf.now))) }
         ensures awaited { IsTrue self.old.is_on → IfOk result (λ n.
             self.new.awaited ≡ awaited_after self.old.awaited (take n buf.now)) }
+        // After an error nothing was taken, and a character that has begun goes on.
+        ensures failed { OnErr result (self.new.awaited ≡ self.old.awaited) }
     {
         if !self.is_on {
             return self.stream.write(buf);
@@ -94,6 +96,7 @@ impl<W: Write + Drop> Write for Shown<W> {
             (shown self.old.awaited buf.now)) }
         ensures awaited { IsTrue self.old.is_on
             → OnOk result (self.new.awaited ≡ awaited_after self.old.awaited buf.now) }
+        ensures failed { OnErr result (self.new.awaited ≡ self.old.awaited) }
     {
         if !self.is_on {
             return self.stream.write_all(buf);
