@@ -69,6 +69,7 @@ fn run_ready<C: Crew>(
     let plan = needs.plan();
     let end = run(alloc, plan, vars, crew, window)?;
     let outcome = outcome_of(end.outcome);
+    let defs = end.defs;
     let (artifacts, defs) = artifacts_of(
         alloc,
         source,
@@ -79,7 +80,7 @@ fn run_ready<C: Crew>(
         templates,
         outcome,
         &end.vars,
-        end.defs,
+        defs,
     )?;
     let messages = joined(alloc, &notes, end.messages)?;
     let log = with_notes(alloc, &notes, end.log)?;
