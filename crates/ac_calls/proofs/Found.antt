@@ -1,5 +1,5 @@
 -- The calls that are found are those that the text has.
-use Rattle.std.proofs.Common.{◌≡◌, ◌↔◌, ℕ, zero, suc, ◌+◌, ◌<◌, Bool, true, false, cond, List, [], ◌∷◌, ◌++◌, length, get_or, Option, Some, None, Result, Ok, Err, refl, sym, ap, subst, ◌∙◌, arith, ⊎_elim}
+use Rattle.std.proofs.Common.{◌≡◌, ◌↔◌, ℕ, zero, suc, ◌+◌, ◌<◌, Bool, true, false, cond, List, [], ◌∷◌, length, get_or, Option, Some, None, Result, Ok, Err, refl, sym, ap, subst, ◌∙◌, arith, ⊎_elim}
 use Rattle.std.specs.Prelude.{Contains}
 use Rattle.std.proofs.lemmas.List.Elements.{Contains-append_left, Contains-append_right, Contains-append_cases}
 use Rattle.m4quote.specs.declared.fault.QuoteFault.{QuoteFault}
@@ -13,8 +13,8 @@ use Rattle.ac_statement.specs.Standing.{StandsFor}
 use Rattle.ac_statement.proofs.Standings.{inside_is}
 use Rattle.ac_macros.specs.declared.table.Row.{Row}
 use Rattle.ac_macros.specs.Table.{row_named}
-use Rattle.ac_calls.specs.Calls.{MacroCall, Bodies, call_at, in_args, in_macro, in_items, items_of, in_text, in_denoted, in_argument, calls_in}
-use Rattle.ac_calls.specs.Holding.{holds_statements}
+use Rattle.ac_calls.specs.Calls.{MacroCall, Bodies, call_at, in_args, in_macro, in_items, items_of, in_denoted, in_argument, calls_in}
+use Rattle.ac_macros.specs.Arguments.{holds_statements}
 use Rattle.ac_calls.specs.Standing.{HasCall, here, within, later, IsCallOf}
 
 not_in_none : {A : Type 0} (c : MacroCall) → Contains [] c → A

@@ -1,11 +1,10 @@
 -- The calls of a text are one after another in it, and each call's arguments are one after another in the call.
-use Rattle.std.proofs.Common.{◌≡◌, ℕ, suc, ◌+◌, ◌-◌, ◌*◌, ◌^◌, ◌<◌, ◌≤◌, Bool, true, false, eqb, List, [], ◌∷◌, ◌++◌, length, take, drop, map, cond, refl, sym, ap, subst, ◌∙◌, arith}
-use Rattle.std.specs.Prelude.{All}
+use Rattle.std.proofs.Common.{◌≡◌, ℕ, suc, ◌+◌, ◌^◌, ◌<◌, ◌≤◌, Bool, true, false, eqb, List, [], ◌∷◌, ◌++◌, length, take, drop, map, cond, ap, arith}
 use Rattle.std.proofs.lemmas.List.{length-drop, length-take-le}
 use Rattle.std.proofs.lemmas.List.Elements.{All-nil, All-cons}
 use Rattle.m4quote.specs.ItemValue.{Span, ItemValue, call, bare, bare_before}
 use Rattle.m4quote.specs.Text.{blank_len}
-use Rattle.m4quote.specs.Spelling.{AreArguments, last, more, argument_of, Spells, nothing, bare_text, dropped_line, bare_name, with_arguments}
+use Rattle.m4quote.specs.Spelling.{AreArguments, last, more, Spells, nothing, bare_text, dropped_line, bare_name, with_arguments}
 use Rattle.m4quote.proofs.Insides.{front_fits}
 use Rattle.m4quote.proofs.ArgumentLists.{length_is, arguments_fit}
 use Rattle.ac_calls.specs.Calls.{extent_of, end_after, IsItemPlaced, ArePlaced}

@@ -1,5 +1,5 @@
 -- The calls that are found are in order, and lie in the text.
-use Rattle.std.proofs.Common.{◌≡◌, ℕ, zero, suc, ◌+◌, ◌-◌, ◌<◌, ◌≤◌, Bool, true, false, cond, List, [], ◌∷◌, ◌++◌, length, map, Option, Some, None, Result, Ok, Err, refl, sym, ap, subst, ◌∙◌, arith}
+use Rattle.std.proofs.Common.{◌≡◌, ℕ, zero, suc, ◌+◌, ◌≤◌, Bool, true, false, cond, List, [], ◌∷◌, ◌++◌, length, map, Option, Some, None, Result, Ok, Err, refl, ap, subst, ◌∙◌, arith}
 use Rattle.std.specs.Prelude.{IfOk}
 use Rattle.std.proofs.lemmas.List.{length-append}
 use Rattle.std.proofs.lemmas.List.Elements.{All-head, All-tail}
@@ -10,12 +10,12 @@ use Rattle.m4quote.specs.Scan.{outcome}
 use Rattle.m4quote.proofs.Laws.{outcome_is_spelling, spelling_parts}
 use Rattle.ac_statement.specs.declared.fault.ParseFault.{ParseFault}
 use Rattle.ac_statement.specs.Inside.{inside}
-use Rattle.ac_statement.specs.Standing.{StandsFor, run, itself, IsRun, IsAllBut}
+use Rattle.ac_statement.specs.Standing.{StandsFor, run, itself, IsRun}
 use Rattle.ac_statement.proofs.Standings.{inside_is}
 use Rattle.ac_macros.specs.declared.table.Row.{Row}
 use Rattle.ac_macros.specs.Table.{row_named}
 use Rattle.ac_calls.specs.Calls.{MacroCall, Bodies, extent_of, end_after, call_at, in_args, in_macro, in_items, items_of, in_text, in_denoted, in_argument, calls_in, AreInOrder}
-use Rattle.ac_calls.specs.Holding.{holds_statements}
+use Rattle.ac_macros.specs.Arguments.{holds_statements}
 use Rattle.ac_calls.proofs.Laid.{AreLaid, IsLaid, call_end, laid_end, items_laid}
 
 -- ---- lists of calls

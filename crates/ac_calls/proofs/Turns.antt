@@ -1,12 +1,12 @@
 -- The turns of the loops over items and over arguments.
-use Rattle.std.proofs.Common.{◌≡◌, ℕ, ◌+◌, ◌<◌, Bool, true, false, cond, List, [], ◌∷◌, ◌++◌, length, drop, get_or, map, refl, sym, ap, subst, ◌∙◌, arith}
+use Rattle.std.proofs.Common.{◌≡◌, ℕ, ◌+◌, ◌<◌, Bool, cond, List, [], ◌∷◌, ◌++◌, length, drop, get_or, map, sym, ap, subst, ◌∙◌}
 use Rattle.std.specs.Prelude.{All}
-use Rattle.std.proofs.lemmas.List.{drop_more, append-nil, append_assoc}
+use Rattle.std.proofs.lemmas.List.{drop_more, append_assoc}
 use Rattle.std.proofs.lemmas.List.Elements.{All-nil, All-cons, All-get_or, All-head, All-tail}
 use Rattle.m4quote.specs.declared.item.Arg.{Arg}
 use Rattle.m4quote.specs.declared.item.Item.{Item}
-use Rattle.m4quote.specs.ItemValue.{Span, ItemValue, span, view, views}
-use Rattle.ac_calls.specs.Calls.{MacroCall, Bodies, IsItemPlaced, ArePlaced, in_args, in_item, in_items}
+use Rattle.m4quote.specs.ItemValue.{span, view, views}
+use Rattle.ac_calls.specs.Calls.{MacroCall, Bodies, IsItemPlaced, ArePlaced, in_args}
 
 unmapped : (items : List Item) → ArePlaced (views items) → All (λ x. IsItemPlaced (view x)) items
 unmapped [] all = All-nil (λ x. IsItemPlaced (view x))

@@ -10,7 +10,7 @@ use Rattle.ac_macros.specs.declared.table.Row.{Row}
 use Rattle.ac_macros.specs.Table.{row_named}
 use Rattle.ac_calls.specs.declared.call.CallAt.{CallAt}
 use Rattle.ac_calls.specs.declared.call.Extent.{Extent}
-use Rattle.ac_calls.specs.Holding.{holds_statements}
+use Rattle.ac_macros.specs.Arguments.{holds_statements}
 
 -- ---- a call
 

@@ -6,7 +6,7 @@ use Rattle.ac_statement.specs.Standing.{StandsFor}
 use Rattle.ac_macros.specs.declared.table.Row.{Row}
 use Rattle.ac_macros.specs.Table.{row_named}
 use Rattle.ac_calls.specs.Calls.{MacroCall, call_at}
-use Rattle.ac_calls.specs.Holding.{holds_statements}
+use Rattle.ac_macros.specs.Arguments.{holds_statements}
 
 -- Items have this call, if other lists nest at most so deep in theirs: one of them is the call, or the table has the macro of one of
 -- them, and an argument of it that holds statements denotes a text whose items have the call. So bare text, the other arguments of

@@ -3,15 +3,14 @@
 ghost use Rattle.std.specs.Prelude.{◌≡◌, ◌+◌, ◌≤◌, [], ◌∷◌, ◌++◌, ◌↔◌, if◌then◌else◌, Contains, map, length, IfOk, OnOk};
 ghost use Rattle.m4quote.specs.ItemValue.{span, view, views};
 ghost use Rattle.m4quote.specs.Scan.{outcome};
+ghost use Rattle.ac_macros.specs.Arguments as arguments;
 ghost use Rattle.ac_macros.specs.Table.{row_named};
 ghost use Rattle.ac_calls.specs.Calls as specs;
-ghost use Rattle.ac_calls.specs.Holding as holding;
 ghost use Rattle.ac_calls.specs.Standing.{IsCallOf};
 
 use crate::call::{CallAt, call_at};
-use crate::holding::holds_statements;
-use ac_macros::Row;
 use ac_macros::table::row_named;
+use ac_macros::{Row, holds_statements};
 use ac_statement::ParseFault;
 use ac_statement::inside::inside;
 use m4quote::{Arg, Item, QuoteFault, read_items_at};
@@ -108,7 +107,7 @@ fn find_in_args(
         map specs.macro_call_of out.new.items
         ≡ map specs.macro_call_of out.old.items
         ++ specs.in_args (specs.in_argument room)
-        (holding.holds_statements row.named (length args.now)) 0 (map span args.now)) }
+        (arguments.holds_statements row.named (length args.now)) 0 (map span args.now)) }
 {
     for i in 0..args.len() {
         let holds = holds_statements(row.named, args.len(), i);

@@ -8,13 +8,12 @@
 //! `calls_of(alloc, b"AS_IF([test $x = y], [AC_PROG_AWK])\n")` gives two calls: AS_IF at 0, and
 //! AC_PROG_AWK at 23, which isn't in the table.
 //!
-//! Read `call` (what is returned), `holding` (which arguments hold statements), and then `finding`.
-//! `specs/Calls` has the definitions. Every function fails only if memory runs out.
+//! Read `call` (what is returned), and then `finding`. `specs/Calls` has the definitions, and
+//! `ac_macros::arguments` says which arguments hold statements. Every function fails only if memory runs out.
 #![tactic(auto)]
 
 mod call;
 mod finding;
-mod holding;
 
 pub use call::{CallAt, Extent};
 pub use finding::calls_of;

@@ -1,3 +1,4 @@
+pub mod Arguments
 pub mod Table
 pub mod PackageName
 pub mod Room

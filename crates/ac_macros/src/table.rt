@@ -4,6 +4,7 @@ ghost use Rattle.std.specs.Prelude.{◌≡◌, map, length, IfOk};
 ghost use Rattle.m4quote.specs.ItemValue.{span};
 ghost use Rattle.ac_macros.specs.Table as table;
 
+use crate::arguments::most_of;
 use crate::macros::Macro::{Check, Choice, Plain, Question};
 use crate::macros::Named::{Argument, Statement};
 use crate::macros::PlainMacro::{Acts, Declares};
@@ -29,81 +30,79 @@ pub struct Row {
     pub top: bool,
 }
 
-/// Any number of arguments: the size in bytes of the largest source, so more than any call has.
-const ANY: usize = 1_048_576;
-
-/// The table: a name, what it means, the least and the most arguments, and whether its calls are
+/// The table: a name, what it means, the least number of arguments, and whether its calls are
 /// allowed only at top level.
 #[rattlefmt::skip]
-const TABLE: [(&[u8], Named, usize, usize, bool); 45] = [
-    (b"AC_INIT", Statement(Plain(Declares(DeclaringMacro::Init))), 2, 5, true),
-    (b"AC_PREREQ", Statement(Plain(Acts(ActMacro::Prereq))), 1, 1, true),
-    (b"AC_CONFIG_SRCDIR", Statement(Plain(Acts(ActMacro::Ignored))), 1, 1, true),
-    (b"AC_CONFIG_AUX_DIR", Statement(Plain(Acts(ActMacro::Ignored))), 1, 1, true),
-    (b"AC_CONFIG_MACRO_DIR", Statement(Plain(Acts(ActMacro::Ignored))), 1, 1, true),
-    (b"AC_CONFIG_MACRO_DIRS", Statement(Plain(Acts(ActMacro::Ignored))), 1, 1, true),
-    (b"AC_LANG", Statement(Plain(Acts(ActMacro::Lang))), 1, 1, false),
-    (b"AC_CONFIG_FILES", Statement(Plain(Declares(DeclaringMacro::ConfigOutputs(OutputKind::File)))), 1, 1, true),
-    (b"AC_CONFIG_HEADERS", Statement(Plain(Declares(DeclaringMacro::ConfigOutputs(OutputKind::Header)))), 1, 1, true),
-    (b"AC_OUTPUT", Statement(Plain(Declares(DeclaringMacro::Output))), 0, 1, true),
-    (b"AC_ARG_ENABLE", Statement(Question(QuestionMacro::Given(OptionKind::Feature))), 1, 4, false),
-    (b"AC_ARG_WITH", Statement(Question(QuestionMacro::Given(OptionKind::Package))), 1, 4, false),
-    (b"AC_ARG_VAR", Statement(Plain(Declares(DeclaringMacro::ArgVar))), 2, 2, false),
-    (b"AC_SUBST", Statement(Plain(Declares(DeclaringMacro::Subst))), 1, 2, false),
-    (b"AC_DEFINE", Statement(Plain(Acts(ActMacro::Define))), 1, 3, false),
-    (b"AC_DEFINE_UNQUOTED", Statement(Plain(Acts(ActMacro::DefineUnquoted))), 1, 3, false),
-    (b"AC_MSG_ERROR", Statement(Plain(Acts(ActMacro::MsgError))), 1, 2, false),
-    (b"AC_MSG_CHECKING", Statement(Plain(Acts(ActMacro::Message(Message::Checking)))), 1, 1, false),
-    (b"AC_MSG_RESULT", Statement(Plain(Acts(ActMacro::Message(Message::Results)))), 1, 1, false),
-    (b"AC_MSG_NOTICE", Statement(Plain(Acts(ActMacro::Message(Message::Notice)))), 1, 1, false),
-    (b"AC_MSG_WARN", Statement(Plain(Acts(ActMacro::Message(Message::Warning)))), 1, 1, false),
-    (b"AS_IF", Statement(Choice(ChoiceMacro::If)), 2, ANY, false),
-    (b"AS_CASE", Statement(Choice(ChoiceMacro::Case)), 2, ANY, false),
-    (b"AC_CACHE_CHECK", Statement(Check), 3, 3, false),
-    (b"AC_PROG_CC", Statement(Plain(Declares(DeclaringMacro::ProgCc))), 0, 1, false),
-    (b"AC_CHECK_PROG", Statement(Plain(Declares(DeclaringMacro::CheckProg))), 3, 4, false),
-    (b"AC_CHECK_PROGS", Statement(Plain(Declares(DeclaringMacro::CheckProgs))), 2, 3, false),
-    (b"AC_PATH_PROG", Statement(Plain(Declares(DeclaringMacro::PathProg))), 2, 3, false),
-    (b"AC_CHECK_HEADER", Statement(Question(QuestionMacro::Checks(Sought::ListEntry(Listed::Header)))), 1, 4, false),
-    (b"AC_CHECK_FUNC", Statement(Question(QuestionMacro::Checks(Sought::ListEntry(Listed::Function)))), 1, 3, false),
-    (b"AC_CHECK_DECL", Statement(Question(QuestionMacro::Checks(Sought::ListEntry(Listed::Declaration)))), 1, 4, false),
-    (b"AC_CHECK_TYPE", Statement(Question(QuestionMacro::Checks(Sought::Type))), 1, 4, false),
-    (b"AC_CHECK_HEADERS", Statement(Question(QuestionMacro::ChecksEach(Sought::ListEntry(Listed::Header)))), 1, 4, false),
-    (b"AC_CHECK_FUNCS", Statement(Question(QuestionMacro::ChecksEach(Sought::ListEntry(Listed::Function)))), 1, 3, false),
-    (b"AC_CHECK_DECLS", Statement(Question(QuestionMacro::ChecksEach(Sought::ListEntry(Listed::Declaration)))), 1, 4, false),
-    (b"AC_CHECK_TYPES", Statement(Question(QuestionMacro::ChecksEach(Sought::Type))), 1, 4, false),
-    (b"AC_CHECK_LIB", Statement(Question(QuestionMacro::Library)), 2, 5, false),
-    (b"AC_SEARCH_LIBS", Statement(Question(QuestionMacro::Libraries)), 2, 5, false),
-    (b"AC_COMPILE_IFELSE", Statement(Question(QuestionMacro::Tries(Try::Compile))), 1, 3, false),
-    (b"AC_LINK_IFELSE", Statement(Question(QuestionMacro::Tries(Try::Link))), 1, 3, false),
-    (b"AC_PREPROC_IFELSE", Statement(Question(QuestionMacro::Tries(Try::Preproc))), 1, 3, false),
-    (b"AC_RUN_IFELSE", Statement(Question(QuestionMacro::Tries(Try::Run))), 1, 4, false),
-    (b"AS_HELP_STRING", Argument(ArgumentMacro::HelpString), 2, 2, false),
-    (b"AC_LANG_PROGRAM", Argument(ArgumentMacro::LangProgram), 0, 2, false),
-    (b"AC_LANG_SOURCE", Argument(ArgumentMacro::LangSource), 1, 1, false),
+const TABLE: [(&[u8], Named, usize, bool); 45] = [
+    (b"AC_INIT", Statement(Plain(Declares(DeclaringMacro::Init))), 2, true),
+    (b"AC_PREREQ", Statement(Plain(Acts(ActMacro::Prereq))), 1, true),
+    (b"AC_CONFIG_SRCDIR", Statement(Plain(Acts(ActMacro::Ignored))), 1, true),
+    (b"AC_CONFIG_AUX_DIR", Statement(Plain(Acts(ActMacro::Ignored))), 1, true),
+    (b"AC_CONFIG_MACRO_DIR", Statement(Plain(Acts(ActMacro::Ignored))), 1, true),
+    (b"AC_CONFIG_MACRO_DIRS", Statement(Plain(Acts(ActMacro::Ignored))), 1, true),
+    (b"AC_LANG", Statement(Plain(Acts(ActMacro::Lang))), 1, false),
+    (b"AC_CONFIG_FILES", Statement(Plain(Declares(DeclaringMacro::ConfigOutputs(OutputKind::File)))), 1, true),
+    (b"AC_CONFIG_HEADERS", Statement(Plain(Declares(DeclaringMacro::ConfigOutputs(OutputKind::Header)))), 1, true),
+    (b"AC_OUTPUT", Statement(Plain(Declares(DeclaringMacro::Output))), 0, true),
+    (b"AC_ARG_ENABLE", Statement(Question(QuestionMacro::Given(OptionKind::Feature))), 1, false),
+    (b"AC_ARG_WITH", Statement(Question(QuestionMacro::Given(OptionKind::Package))), 1, false),
+    (b"AC_ARG_VAR", Statement(Plain(Declares(DeclaringMacro::ArgVar))), 2, false),
+    (b"AC_SUBST", Statement(Plain(Declares(DeclaringMacro::Subst))), 1, false),
+    (b"AC_DEFINE", Statement(Plain(Acts(ActMacro::Define))), 1, false),
+    (b"AC_DEFINE_UNQUOTED", Statement(Plain(Acts(ActMacro::DefineUnquoted))), 1, false),
+    (b"AC_MSG_ERROR", Statement(Plain(Acts(ActMacro::MsgError))), 1, false),
+    (b"AC_MSG_CHECKING", Statement(Plain(Acts(ActMacro::Message(Message::Checking)))), 1, false),
+    (b"AC_MSG_RESULT", Statement(Plain(Acts(ActMacro::Message(Message::Results)))), 1, false),
+    (b"AC_MSG_NOTICE", Statement(Plain(Acts(ActMacro::Message(Message::Notice)))), 1, false),
+    (b"AC_MSG_WARN", Statement(Plain(Acts(ActMacro::Message(Message::Warning)))), 1, false),
+    (b"AS_IF", Statement(Choice(ChoiceMacro::If)), 2, false),
+    (b"AS_CASE", Statement(Choice(ChoiceMacro::Case)), 2, false),
+    (b"AC_CACHE_CHECK", Statement(Check), 3, false),
+    (b"AC_PROG_CC", Statement(Plain(Declares(DeclaringMacro::ProgCc))), 0, false),
+    (b"AC_CHECK_PROG", Statement(Plain(Declares(DeclaringMacro::CheckProg))), 3, false),
+    (b"AC_CHECK_PROGS", Statement(Plain(Declares(DeclaringMacro::CheckProgs))), 2, false),
+    (b"AC_PATH_PROG", Statement(Plain(Declares(DeclaringMacro::PathProg))), 2, false),
+    (b"AC_CHECK_HEADER", Statement(Question(QuestionMacro::Checks(Sought::ListEntry(Listed::Header)))), 1, false),
+    (b"AC_CHECK_FUNC", Statement(Question(QuestionMacro::Checks(Sought::ListEntry(Listed::Function)))), 1, false),
+    (b"AC_CHECK_DECL", Statement(Question(QuestionMacro::Checks(Sought::ListEntry(Listed::Declaration)))), 1, false),
+    (b"AC_CHECK_TYPE", Statement(Question(QuestionMacro::Checks(Sought::Type))), 1, false),
+    (b"AC_CHECK_HEADERS", Statement(Question(QuestionMacro::ChecksEach(Sought::ListEntry(Listed::Header)))), 1, false),
+    (b"AC_CHECK_FUNCS", Statement(Question(QuestionMacro::ChecksEach(Sought::ListEntry(Listed::Function)))), 1, false),
+    (b"AC_CHECK_DECLS", Statement(Question(QuestionMacro::ChecksEach(Sought::ListEntry(Listed::Declaration)))), 1, false),
+    (b"AC_CHECK_TYPES", Statement(Question(QuestionMacro::ChecksEach(Sought::Type))), 1, false),
+    (b"AC_CHECK_LIB", Statement(Question(QuestionMacro::Library)), 2, false),
+    (b"AC_SEARCH_LIBS", Statement(Question(QuestionMacro::Libraries)), 2, false),
+    (b"AC_COMPILE_IFELSE", Statement(Question(QuestionMacro::Tries(Try::Compile))), 1, false),
+    (b"AC_LINK_IFELSE", Statement(Question(QuestionMacro::Tries(Try::Link))), 1, false),
+    (b"AC_PREPROC_IFELSE", Statement(Question(QuestionMacro::Tries(Try::Preproc))), 1, false),
+    (b"AC_RUN_IFELSE", Statement(Question(QuestionMacro::Tries(Try::Run))), 1, false),
+    (b"AS_HELP_STRING", Argument(ArgumentMacro::HelpString), 2, false),
+    (b"AC_LANG_PROGRAM", Argument(ArgumentMacro::LangProgram), 0, false),
+    (b"AC_LANG_SOURCE", Argument(ArgumentMacro::LangSource), 1, false),
 ];
 
-/// Returns all rows: a name, what it means, the least and the most arguments, and whether its calls
-/// are allowed only at top level.
+/// Returns all rows: a name, what it means, the least number of arguments, and whether its calls are
+/// allowed only at top level. What it means says what its arguments are, and so how many there may
+/// be.
 #[tactic(auto, unfolding(crate::specs::Table::rows))]
-pub fn rows() -> &'static [(&'static [u8], Named, usize, usize, bool)]
-    ensures { map (λ e. (e.0.now, e.1, e.2, e.3, e.4)) result.now ≡ table.rows }
+pub fn rows() -> &'static [(&'static [u8], Named, usize, bool)]
+    ensures { map (λ e. (e.0.now, e.1, e.2, e.3)) result.now ≡ table.rows }
 {
     &TABLE
 }
 
 /// Returns the first row of the name.
-fn find(rows: &[(&[u8], Named, usize, usize, bool)], name: &[u8]) -> Option<Row>
+fn find(rows: &[(&[u8], Named, usize, bool)], name: &[u8]) -> Option<Row>
     ensures { result
-        ≡ table.row_among name.now (map (λ e. (e.0.now, e.1, e.2, e.3, e.4)) rows.now) }
+        ≡ table.row_among name.now (map (λ e. (e.0.now, e.1, e.2, e.3)) rows.now) }
 {
     for row in rows {
         if row.0 == name {
             return Some(Row {
                 named: row.1,
                 least: row.2,
-                most: row.3,
-                top: row.4,
+                most: most_of(row.1),
+                top: row.3,
             });
         }
     }

@@ -12,13 +12,13 @@ use Rattle.ac_statement.specs.Inside.{inside}
 use Rattle.ac_statement.specs.Reading.{◌>>=◌, wants, quoted}
 use Rattle.ac_args.specs.Shell.{word, here_text, shell_test, patterns}
 use Rattle.ac_statement.specs.Stand.{line_start_of, no_line_start, is_statement}
+use Rattle.ac_macros.specs.Arguments.{first_action}
 use Rattle.ac_macros.specs.declared.macros.ChoiceMacro.{ChoiceMacro}
 use Rattle.ac_macros.specs.declared.macros.ChoiceMacro.TheVariants.{If, Case as As_case}
 use Rattle.ac_macros.specs.declared.macros.Macro.{Macro}
 use Rattle.ac_macros.specs.declared.macros.Macro.TheVariants.{Plain, Choice as A_choice, Question as A_question, Check as A_check}
 use Rattle.ac_macros.specs.declared.table.Row.{Row}
 use Rattle.ac_macros.specs.declared.macros.QuestionMacro.{QuestionMacro}
-use Rattle.ac_macros.specs.declared.macros.QuestionMacro.TheVariants.{Given, Tries, Checks, ChecksEach, Library, Libraries}
 use Rattle.ac_tree.specs.declared.declarations.Stage.{Stage}
 use Rattle.ac_tree.specs.declared.declarations.Stage.TheVariants.{Before, Open, Ended}
 use Rattle.ac_tree.specs.declared.declarations.Declarations as declarations
@@ -110,12 +110,7 @@ choice_of bodies m c args = do
 
 -- The arguments after those of the question: the statements for yes, and those for no. (own)
 abbrev pub action_args : QuestionMacro → List Span → List Span
-action_args (Given kind) args = drop 2 args
-action_args (Tries kind) args = drop 1 args
-action_args (Checks sought) args = drop 1 args
-action_args (ChecksEach sought) args = drop 1 args
-action_args Library args = drop 2 args
-action_args Libraries args = drop 2 args
+action_args m args = drop (first_action m) args
 
 -- The case of the first of these arguments, if there is one. (own)
 unfoldable pub action_in : Bodies → When → declarations.Declarations → List Span → Result Cases ParseFault

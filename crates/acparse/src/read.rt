@@ -18,6 +18,7 @@ use crate::bare::read_bare;
 use ac_args::ParseFault;
 use ac_args::arguments::{cache_name, is_given};
 use ac_args::shell::{here_text, patterns, test, word};
+use ac_macros::arguments::first_action;
 use ac_macros::list_kind::{ListKind, check_list_kind};
 use ac_macros::placement::{as_statement, check_place};
 use ac_macros::rows::{plain, question};
@@ -122,25 +123,18 @@ fn case_if(when: When, given: bool, body: Vec<Stmt>) -> Option<Case>
     Some(Case { when, body })
 }
 
+/// Returns the arguments after so many.
+fn after<'a, 'b>(args: &'b [Arg<'a>], count: usize) -> &'b [Arg<'a>]
+    ensures { map span result.now ≡ drop count (map span args.now) }
+{
+    &args[count.min(args.len())..]
+}
+
 /// Returns the arguments after those of the question.
 fn action_args<'a, 'b>(m: QuestionMacro, args: &'b [Arg<'a>]) -> &'b [Arg<'a>]
     ensures { map span result.now ≡ profile.action_args m (map span args.now) }
 {
-    match m {
-        QuestionMacro::Given(_) | QuestionMacro::Library | QuestionMacro::Libraries => {
-            &args[args.len().min(2)..]
-        }
-        QuestionMacro::Tries(_) | QuestionMacro::Checks(_) | QuestionMacro::ChecksEach(_) => {
-            &args[args.len().min(1)..]
-        }
-    }
-}
-
-/// Returns the arguments after the first.
-fn after_first<'a, 'b>(args: &'b [Arg<'a>]) -> &'b [Arg<'a>]
-    ensures { map span result.now ≡ drop 1 (map span args.now) }
-{
-    &args[args.len().min(1)..]
+    after(args, first_action(m))
 }
 
 /// Appends a case, if there is one.
@@ -344,7 +338,7 @@ fn read_answers(
     ensures after { IfOk result (λ v. known.new ≡ after_cases known.old (cases_of v.items)) }
 {
     let first = read_action(alloc, room, list_kind, known, true, args)?;
-    let read = read_action(alloc, room, list_kind, known, false, after_first(args));
+    let read = read_action(alloc, room, list_kind, known, false, after(args, 1));
     read.and_then(|other| Ok(both(alloc, first, other)?))
 }
 

@@ -5,8 +5,9 @@ use Rattle.std.proofs.lemmas.List.{take_more}
 use Rattle.std.proofs.lemmas.Slice.Eq.{bytes_eq-Decides}
 use Rattle.deftable.specs.Table.{value_of, with_entry}
 use Rattle.deftable.proofs.Tables.{value_of-with_entry}
-use Rattle.cachefile.specs.Line.{Setting, Sets, Defaults}
-use Rattle.cachefile.specs.Cache.{with_setting, vars_after, value_after}
+use Rattle.cachefile.specs.Line.{Setting, Sets, Defaults, name_of}
+use Rattle.cachefile.specs.Name.{is_mark}
+use Rattle.cachefile.specs.Cache.{with_setting, vars_after, value_after, marks_after, HaveSameMarks}
 
 pub decided : (b : Bool) → (b ≡ true) ⊎ (b ≡ false)
 decided true = inl refl
@@ -42,3 +43,33 @@ would_more vars xs q before after i x items same lt there is h =
     let at : x ≡ get_or xs i x = there ∙ ap (λ ys. get_or ys i x) same in
     is ∙ ap (λ o. value_after q o x) h ∙ sym (value_of-with_setting (vars_after (take i xs) vars) x q)
     ∙ ap (λ vs. value_of vs q) (sym (settings_last vars (take i xs) x) ∙ ap (λ t. vars_after t vars) (ap (λ y. take i xs ++ y ∷ []) at ∙ sym (take_more xs i x lt)))
+
+-- ---- the settings of marks alone
+
+true_is_false : true ≡ false → ⊥
+true_is_false e = absurd cc
+
+mark_of_other : (vars : List (List ℕ × List ℕ)) (s : Setting) (q : List ℕ) → is_mark q ≡ true → is_mark (name_of s) ≡ false → value_of (with_setting vars s) q ≡ value_of vars q
+mark_of_other vars s q mark other = value_of-with_setting vars s q ∙ kept s (differs (name_of s) other) where
+  differs : (name : List ℕ) → is_mark name ≡ false → bytes_eq q name ≡ false
+  differs name is = elim (decided (bytes_eq q name)) [
+    | inl h ↦ absurd (true_is_false (sym mark ∙ ap is_mark ((bytes_eq-Decides q name).0 h) ∙ is))
+    | inr h ↦ h
+  ]
+
+  kept : (s : Setting) → bytes_eq q (name_of s) ≡ false → value_after q (value_of vars q) s ≡ value_of vars q
+  kept (Sets name value) h = rw h refl
+  kept (Defaults name value) h = rw h refl
+
+marks_agree : (settings : List Setting) (a b : List (List ℕ × List ℕ)) (q : List ℕ) → is_mark q ≡ true → value_of a q ≡ value_of b q → value_of (marks_after settings a) q ≡ value_of (vars_after settings b) q
+marks_agree [] a b q mark same = same
+marks_agree (s ∷ settings) a b q mark same = elim (decided (is_mark (name_of s))) [
+  | inl h ↦
+      rw h (marks_agree settings (with_setting a s) (with_setting b s) q mark
+      (value_of-with_setting a s q ∙ ap (λ o. value_after q o s) same ∙ sym (value_of-with_setting b s q)))
+  | inr h ↦ rw h (marks_agree settings a (with_setting b s) q mark (same ∙ sym (mark_of_other b s q mark h)))
+]
+
+pub marks_same : (settings : List Setting) (vars after : List (List ℕ × List ℕ)) → after ≡ marks_after settings vars → HaveSameMarks after (vars_after settings vars)
+unfolding HaveSameMarks
+marks_same settings vars after is q mark = ap (λ vs. value_of vs q) is ∙ marks_agree settings vars vars q mark refl

@@ -9,6 +9,7 @@ use Rattle.cachefile.specs.declared.fault.CacheFault.TheVariants.{BadLine, BadNa
 use Rattle.deftable.specs.CacheName.{is_cache_name}
 use Rattle.cachefile.specs.Line.{Setting, Sets, Defaults, name_of, line_of}
 use Rattle.cachefile.specs.Form.{IsLine}
+use Rattle.cachefile.specs.Name.{is_mark}
 use Rattle.cachefile.specs.Reading.{◌>>=◌}
 
 -- ---- by the forms of lines
@@ -70,6 +71,18 @@ with_setting vars (Defaults name value) = if is_some (table.value_of vars name) 
 -- The variables after settings, in order. (own)
 abbrev pub vars_after : List Setting → List (List ℕ × List ℕ) → List (List ℕ × List ℕ)
 vars_after settings vars = fold with_setting vars settings
+
+-- The variables after a setting, which counts only if its name is that of a mark. (own)
+abbrev pub with_mark : List (List ℕ × List ℕ) → Setting → List (List ℕ × List ℕ)
+with_mark vars setting = if is_mark (name_of setting) then with_setting vars setting else vars
+
+-- The variables after the settings of marks alone, in order. (own)
+abbrev pub marks_after : List Setting → List (List ℕ × List ℕ) → List (List ℕ × List ℕ)
+marks_after settings vars = fold with_mark vars settings
+
+-- Each mark has the same value in both. (own)
+unfoldable pub HaveSameMarks : List (List ℕ × List ℕ) → List (List ℕ × List ℕ) → Type 0
+HaveSameMarks a b = (name : List ℕ) → is_mark name ≡ true → table.value_of a name ≡ table.value_of b name
 
 -- The value of a name after a setting, from its value before. (POSIX shell, 2.9.1 and 2.6.2)
 abbrev pub value_after : List ℕ → Option (List ℕ) → Setting → Option (List ℕ)

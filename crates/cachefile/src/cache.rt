@@ -145,6 +145,24 @@ impl OldCache {
         Ok(())
     }
 
+    /// Makes the settings of names that begin with `ac_cv_env_` alone, in order.
+    ///
+    /// # Errors
+    ///
+    /// If memory runs out, those of the first lines are made, and the others aren't.
+    pub fn pour_marks(&self, vars: &mut Vars) -> Result<(), AllocError>
+        ensures ok { OnOk result (vars.new ≡ words.marks_after self.now vars.old) }
+        ensures err { OnErr result (
+            (k : ℕ) × (vars.new ≡ words.marks_after (take k self.now) vars.old)) }
+        // Each of these names has the value that `pour` would leave.
+        ensures same { OnOk result (words.HaveSameMarks vars.new (words.vars_after self.now vars.old)) }
+    {
+        for entry in &self.entries {
+            entry.pour_mark(vars)?;
+        }
+        Ok(())
+    }
+
     /// Returns the value that `pour` would leave in `name`, or `None` if it would leave `name`
     /// unset. This takes time in proportion to the number of settings.
     pub fn would<'a>(&'a self, vars: &'a Vars, name: &[u8]) -> Option<&'a [u8]>

@@ -4,6 +4,7 @@ ghost use Rattle.std.specs.Prelude.{◌≡◌, OnOk, OnErr, option_map, if◌the
 ghost use Rattle.cachefile.specs.Cache as words;
 ghost use Rattle.cachefile.specs.Line.{Setting, Sets, Defaults, name_of};
 
+use crate::name::is_mark;
 use deftable::{Bytes, Vars};
 use std::alloc::AllocError;
 use std::marker::Model;
@@ -59,6 +60,17 @@ impl Entry {
             return Ok(());
         }
         vars.set(self.name(), self.value.as_slice())
+    }
+
+    /// Sets the name among the variables, if it begins with `ac_cv_env_`.
+    pub(crate) fn pour_mark(&self, vars: &mut Vars) -> Result<(), AllocError>
+        ensures ok { OnOk result (vars.new ≡ words.with_mark vars.old self.now) }
+        ensures err { OnErr result (vars.new ≡ vars.old) }
+    {
+        if !is_mark(self.name()) {
+            return Ok(());
+        }
+        self.pour(vars)
     }
 
     /// Returns the value that `name` has after this entry is poured, from its value before.

@@ -35,5 +35,6 @@ mod word;
 pub use cache::{OldCache, read_cache};
 pub use deftable::is_cache_name;
 pub use fault::CacheFault;
+pub use name::is_mark;
 pub use text::cache_text;
 pub use word::word_text;

@@ -10,12 +10,14 @@ use Rattle.ac_statement.specs.declared.fault.ParseFault.{ParseFault}
 use Rattle.file_disk.specs.Known.{Known}
 use Rattle.lint_findings.specs.declared.finding.Finding.{Finding}
 use Rattle.cmd_call.specs.Supplies.{AreTemplates, HasTemplate, ReadsTemplate}
-use Rattle.cmd_lint.specs.Missing.{is_lost, AreAdded, AreChecked, AreCheckedOf, HasSome, IsParsed, Lacks}
+use Rattle.cmd_lint.specs.Missing.{is_lost, script_in, AreAdded, AreChecked, AreCheckedOf, HasSome, Lacks}
 use Rattle.cmd_lint.specs.Status.{HasError, IsMissing, IsThere, outputs_of}
 use Rattle.cmd_lint.specs.Status as specs
 use Rattle.lint_errors.specs.Errors.{IsAccepted}
 use Rattle.output_list.specs.declared.output.Output.{Output}
-use Rattle.ac_tree.specs.Script.{Script}
+use Rattle.ac_tree.specs.declared.tree.Stmt.{Stmt}
+use Rattle.ac_tree.specs.Script.{Script, script_of}
+use Rattle.lint_errors.specs.Readings.{IsRead}
 
 -- ---- what errors became
 
@@ -135,13 +137,13 @@ by_fault : (files : Option Known) (directory text : List ℕ) (errors found : Li
 by_fault files directory text errors [] has none not_accepted same some = absurd (not_accepted (none.0 (sym same)))
 by_fault files directory text errors (f ∷ found) has none not_accepted same some = subst (HasError files directory text) (sym some) (specs.HasError.refused not_accepted)
 
-pub has_error : (files : Option Known) (directory text : List ℕ) (script : Option Script) (errors found : List Finding) (has : Bool) → (errors ≡ []) ↔ IsAccepted text
-    → IsParsed text script → AreCheckedOf files directory script errors found → HasSome found has → HasError files directory text has
-has_error files directory text None errors found has none parsed same some = by_fault files directory text errors found has none (refused_if text parsed.0 parsed.1) same some
-has_error files directory text (Some script) errors found has none parsed c some = by_script files directory text script errors found c.lacks has none parsed c.is c.added some
+pub has_error : (files : Option Known) (directory text : List ℕ) (source : Result (List Stmt) ParseFault) (errors found : List Finding) (has : Bool) → (errors ≡ []) ↔ IsAccepted text
+    → IsRead text source → AreCheckedOf files directory (script_in source) errors found → HasSome found has → HasError files directory text has
+has_error files directory text (Err fault) errors found has none read same some = by_fault files directory text errors found has none (refused_if text fault read) same some
+has_error files directory text (Ok statements) errors found has none read c some = by_script files directory text (script_of statements) errors found c.lacks has none read c.is c.added some
 
 -- The same of a text that was lent
-pub lent_error : (files : Option Known) (directory text slice : List ℕ) (script : Option Script) (errors found lent : List Finding) (has : Bool) → slice ≡ text → lent ≡ found
-    → (errors ≡ []) ↔ IsAccepted slice → IsParsed slice script → AreCheckedOf files directory script errors found → HasSome lent has → HasError files directory text has
-lent_error files directory text slice script errors found lent has same is none parsed checks some =
-    subst (λ t. HasError files directory t has) same (has_error files directory slice script errors found has none parsed checks (subst (λ l. HasSome l has) is some))
+pub lent_error : (files : Option Known) (directory text slice : List ℕ) (source : Result (List Stmt) ParseFault) (errors found lent : List Finding) (has : Bool) → slice ≡ text → lent ≡ found
+    → (errors ≡ []) ↔ IsAccepted slice → IsRead slice source → AreCheckedOf files directory (script_in source) errors found → HasSome lent has → HasError files directory text has
+lent_error files directory text slice source errors found lent has same is none read checks some =
+    subst (λ t. HasError files directory t has) same (has_error files directory slice source errors found has none read checks (subst (λ l. HasSome l has) is some))

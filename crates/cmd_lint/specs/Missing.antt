@@ -1,13 +1,13 @@
 -- The errors of templates that can't be read. All of this is own.
-use Rattle.std.specs.Prelude.{◌≡◌, ℕ, Bool, true, false, not, List, [], ◌∷◌, All, Option, Some, None, Ok, Err, bytes_eq}
+use Rattle.std.specs.Prelude.{◌≡◌, ℕ, Bool, true, false, not, List, [], ◌∷◌, All, Option, Some, None, Result, Ok, Err, bytes_eq}
 use Rattle.std.specs.List.{Contains, list_any}
-use Rattle.acparse.specs.Profile.{source_of}
 use Rattle.ac_statement.specs.declared.fault.ParseFault.{ParseFault}
 use Rattle.file_disk.specs.Known.{Known}
 use Rattle.lint_findings.specs.declared.finding.Finding.{Finding}
 use Rattle.cmd_lint.specs.Status.{IsThere, IsMissing, outputs_of}
 use Rattle.output_list.specs.declared.output.Output.{Output}
-use Rattle.ac_tree.specs.Script.{Script}
+use Rattle.ac_tree.specs.declared.tree.Stmt.{Stmt}
+use Rattle.ac_tree.specs.Script.{Script, script_of}
 
 -- The template of an output is not among those that were read.
 abbrev pub is_lost : List (List ℕ × List ℕ) → Output → Bool
@@ -39,7 +39,7 @@ abbrev pub AreCheckedOf : Option Known → List ℕ → Option Script → List F
 AreCheckedOf files directory None old new = new ≡ old
 AreCheckedOf files directory (Some script) old new = AreChecked files directory (outputs_of script) old new
 
--- These are the statements of a source, or it is refused.
-abbrev pub IsParsed : List ℕ → Option Script → Type 0
-IsParsed text (Some script) = source_of text ≡ Ok script
-IsParsed text None = (fault : ParseFault) × (source_of text ≡ Err fault)
+-- The statements of a source that is read, or none.
+abbrev pub script_in : Result (List Stmt) ParseFault → Option Script
+script_in (Ok statements) = Some (script_of statements)
+script_in (Err fault) = None

@@ -1,6 +1,6 @@
 //! What is found in a source: its errors, the templates that are not there, and the warnings.
 
-ghost use Rattle.std.specs.Prelude.{option_map, Some, IfOk};
+ghost use Rattle.std.specs.Prelude.{Some, IfOk};
 ghost use Rattle.std.specs.List.Sorted.{IsSorted};
 ghost use Rattle.lint_findings.specs.Order.{place_cmp};
 ghost use Rattle.cmd_lint.specs.Missing as specs;
@@ -12,11 +12,10 @@ use crate::reasons::add_reasons;
 use crate::sheets::{Sheets, sheets_of};
 use crate::templates::{add_lost_of_calls, read_all};
 use crate::warnings::add_warnings;
-use ac_calls::{CallAt, calls_of};
 use ac_tree::Source;
-use acparse::{ParseFault, parse};
 use file_disk::Disk;
 use lint_all::all_errors;
+use lint_errors::{Reading, read};
 use lint_findings::{Finding, put_in_order};
 use lint_warnings::warn_of_calls;
 use std::alloc::{AllocError, Global};
@@ -28,17 +27,6 @@ pub(crate) struct Found {
     pub(crate) sheets: Sheets,
     /// Whether one of them is an error.
     pub(crate) has_error: bool,
-}
-
-/// Returns the statements of a source, unless it is refused.
-fn parsed(alloc: Global, text: &[u8]) -> Result<Option<Source>, AllocError>
-    ensures { IfOk result (λ o. specs.IsParsed text.now (option_map script_of o)) }
-{
-    match parse(alloc, text) {
-        Ok(source) => Ok(Some(source)),
-        Err(ParseFault::OutOfMemory) => Err(AllocError),
-        Err(_) => Ok(None),
-    }
 }
 
 /// Reads the templates of a source that has statements, and appends an error for each output whose
@@ -64,16 +52,16 @@ fn sheets_for<D: Disk>(
     alloc: Global,
     disk: &D,
     linted: &Linted,
-    source: &Option<Source>,
+    reading: &Reading,
     found: &mut Vec<Finding>,
 ) -> Result<Sheets, AllocError>
     ensures { IfOk result (λ _.
-        specs.AreCheckedOf (D.known disk.now) linted.now.directory (option_map script_of source.now)
-        found.old.items found.new.items) }
+        specs.AreCheckedOf (D.known disk.now) linted.now.directory
+        (specs.script_in reading.now.source) found.old.items found.new.items) }
 {
-    match source {
-        Some(source) => templates_of(alloc, disk, linted, source, found),
-        None => Ok(Sheets::none(alloc)),
+    match &reading.source {
+        Ok(source) => templates_of(alloc, disk, linted, source, found),
+        Err(_) => Ok(Sheets::none(alloc)),
     }
 }
 
@@ -90,15 +78,15 @@ fn has_some(errors: &[Finding]) -> bool
 fn add_all_warnings(
     alloc: Global,
     text: &[u8],
-    calls: &[CallAt],
-    source: &Option<Source>,
+    reading: &Reading,
     sheets: &Sheets,
     found: &mut Vec<Finding>,
 ) -> Result<(), AllocError> {
-    warn_of_calls(alloc, text, calls, found)?;
-    match source {
-        Some(source) => add_warnings(alloc, text, calls, source, sheets, found),
-        None => Ok(()),
+    let calls = reading.calls.as_slice();
+    warn_of_calls(alloc, &reading.index, text, calls, found)?;
+    match &reading.source {
+        Ok(source) => add_warnings(alloc, text, calls, source, sheets, found),
+        Err(_) => Ok(()),
     }
 }
 
@@ -108,13 +96,12 @@ fn add_lost<D: Disk>(
     alloc: Global,
     disk: &D,
     linted: &Linted,
-    calls: &[CallAt],
-    source: &Option<Source>,
+    reading: &Reading,
     found: &mut Vec<Finding>,
 ) -> Result<(), AllocError> {
-    match source {
-        Some(_) => Ok(()),
-        None => add_lost_of_calls(alloc, disk, linted, calls, found),
+    match &reading.source {
+        Ok(_) => Ok(()),
+        Err(_) => add_lost_of_calls(alloc, disk, linted, reading.calls.as_slice(), found),
     }
 }
 
@@ -124,15 +111,14 @@ fn finish<D: Disk>(
     alloc: Global,
     disk: &D,
     linted: &Linted,
-    source: &Option<Source>,
+    reading: &Reading,
     sheets: &Sheets,
     found: &mut Vec<Finding>,
 ) -> Result<(), AllocError> {
     let text = linted.text.as_slice();
     add_reasons(alloc, text, found)?;
-    let calls = calls_of(alloc, text)?;
-    add_lost(alloc, disk, linted, calls.as_slice(), source, found)?;
-    add_all_warnings(alloc, text, calls.as_slice(), source, sheets, found)?;
+    add_lost(alloc, disk, linted, reading, found)?;
+    add_all_warnings(alloc, text, reading, sheets, found)?;
     put_in_order(found)
 }
 
@@ -154,10 +140,9 @@ pub(crate) fn warnings_in<D: Disk>(
 {
     let text = linted.text.as_slice();
     let mut found = Vec::new(alloc);
-    let source = parsed(alloc, text)?;
-    let sheets = sheets_for(alloc, disk, linted, &source, &mut found)?;
-    let calls = calls_of(alloc, text)?;
-    add_all_warnings(alloc, text, calls.as_slice(), &source, &sheets, &mut found)?;
+    let reading = read(alloc, text)?;
+    let sheets = sheets_for(alloc, disk, linted, &reading, &mut found)?;
+    add_all_warnings(alloc, text, &reading, &sheets, &mut found)?;
     put_in_order(&mut found)?;
     Ok(Warnings {
         findings: found,
@@ -176,11 +161,11 @@ pub(crate) fn found_in<D: Disk>(
         HasError (D.known disk.now) linted.now.directory linted.now.text f.has_error) }
 {
     let text = linted.text.as_slice();
-    let mut findings = all_errors(alloc, text)?;
-    let source = parsed(alloc, text)?;
-    let sheets = sheets_for(alloc, disk, linted, &source, &mut findings)?;
+    let reading = read(alloc, text)?;
+    let mut findings = all_errors(alloc, text, &reading)?;
+    let sheets = sheets_for(alloc, disk, linted, &reading, &mut findings)?;
     let has_error = has_some(findings.as_slice());
-    finish(alloc, disk, linted, &source, &sheets, &mut findings)?;
+    finish(alloc, disk, linted, &reading, &sheets, &mut findings)?;
     Ok(Found {
         findings,
         sheets,

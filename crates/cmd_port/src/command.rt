@@ -17,7 +17,7 @@ use cmd_call::{FAULT, Hears, tell_file, tell_memory, tell_usage, write_errors};
 use cmd_lint::{Linted, differences_of, has_input, read_named};
 use deftable::Bytes;
 use file_disk::Disk;
-use lint_errors::errors_of;
+use lint_errors::{errors_of, read};
 use lint_excerpts::excerpt_of;
 use port_idioms::Idioms;
 use std::alloc::{AllocError, Global};
@@ -27,7 +27,8 @@ use std::io::{Read, Write};
 fn page_of(alloc: Global, linted: &Linted) -> Result<Vec<u8>, AllocError> {
     let mut page = Vec::new(alloc);
     let text = linted.text.as_slice();
-    for finding in &errors_of(alloc, text)? {
+    let reading = read(alloc, text)?;
+    for finding in &errors_of(alloc, text, &reading)? {
         let shown = excerpt_of(alloc, finding, linted.name.as_slice(), text, false)?;
         page.extend_from_slice(shown.as_slice())?;
     }

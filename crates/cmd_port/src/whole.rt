@@ -9,7 +9,7 @@ use crate::moving::moved;
 use cmd_lint::add_reasons;
 use deftable::Bytes;
 use lint_all::all_errors;
-use lint_errors::errors_of;
+use lint_errors::{is_accepted, read};
 use lint_findings::Finding;
 use m4quote::{QuoteFault, read_items};
 use port_idioms::Idioms;
@@ -53,7 +53,8 @@ fn with_errors(alloc: Global, text: &[u8], errors: &[Finding]) -> Result<Ported,
 fn printed(alloc: Global, text: Vec<u8>) -> Result<Ported, AllocError>
     ensures { IfOk result (λ p. specs.IsPrinted text.items p.has_comments p.text) }
 {
-    let mut errors = all_errors(alloc, text.as_slice())?;
+    let reading = read(alloc, text.as_slice())?;
+    let mut errors = all_errors(alloc, text.as_slice(), &reading)?;
     if errors.is_empty() {
         return Ok(whole(text));
     }
@@ -78,14 +79,6 @@ fn are_quotes_right(alloc: Global, text: &[u8]) -> Result<bool, AllocError> {
         Err(_) => Ok(false),
         Ok(_) => Ok(true),
     }
-}
-
-/// Returns whether acrun accepts the source.
-fn is_accepted(alloc: Global, text: &[u8]) -> Result<bool, AllocError>
-    ensures { IfOk result (λ b. IsTrue b ↔ IsAccepted text.now) }
-{
-    let errors = errors_of(alloc, text)?;
-    Ok(errors.is_empty())
 }
 
 /// Returns the source as it is.

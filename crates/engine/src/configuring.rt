@@ -69,7 +69,7 @@ fn run_ready<C: Crew>(
     let plan = needs.plan();
     let end = run(alloc, plan, vars, crew, window)?;
     let outcome = outcome_of(end.outcome);
-    let artifacts = artifacts_of(
+    let (artifacts, defs) = artifacts_of(
         alloc,
         source,
         cache_name.as_ref(),
@@ -79,7 +79,7 @@ fn run_ready<C: Crew>(
         templates,
         outcome,
         &end.vars,
-        &end.defs,
+        end.defs,
     )?;
     let messages = joined(alloc, &notes, end.messages)?;
     let log = with_notes(alloc, &notes, end.log)?;
@@ -87,7 +87,7 @@ fn run_ready<C: Crew>(
     let report = Report {
         outcome,
         vars: end.vars,
-        defs: end.defs,
+        defs,
         messages,
         log,
         handed,

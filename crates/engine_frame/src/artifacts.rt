@@ -99,19 +99,21 @@ fn add_completed(
 }
 
 /// Returns the record of a run.
+#[tactic(auto, unfolding(output_make::specs::Making::record_of_run))]
 fn run_record(
     alloc: Global,
     source: &Source,
     srcdir: &[u8],
     args: &Texts,
     vars: &Vars,
-    defs: &Defs,
+    defs: Defs,
 ) -> Result<Record, AllocError>
     requires { AreOutputs (lists_of (script_of source.now)).files
         (lists_of (script_of source.now)).headers }
     ensures value { IfOk result (λ r.
-        r ≡ hands.run_record (script_of source.now) srcdir.now args.now vars.now defs.now) }
+        r ≡ hands.run_record (script_of source.now) srcdir.now args.now vars.now defs) }
     ensures record { IfOk result IsRecord }
+    ensures defs { IfOk result (λ r. r.defs ≡ defs) }
 {
     record_of(
         alloc,
@@ -125,7 +127,23 @@ fn run_record(
     )
 }
 
-/// Returns what a run hands over that leaves this outcome, these variables and definitions.
+/// Returns the definitions of a record.
+fn defs_of(recorded: Record) -> Defs
+    ensures { result ≡ recorded.defs }
+{
+    let Record {
+        srcdir: _srcdir,
+        args: _args,
+        vars: _vars,
+        defs,
+        files: _files,
+        headers: _headers,
+    } = recorded;
+    defs
+}
+
+/// Returns what a run hands over that leaves this outcome, these variables and definitions, and the
+/// definitions.
 #[tactic(auto, unfolding(crate::specs::Handing::artifacts_of))]
 pub fn artifacts_of(
     alloc: Global,
@@ -137,21 +155,22 @@ pub fn artifacts_of(
     templates: &[(Bytes, Bytes)],
     outcome: Outcome,
     vars: &Vars,
-    defs: &Defs,
-) -> Result<Artifacts, AllocError>
+    defs: Defs,
+) -> Result<(Artifacts, Defs), AllocError>
     requires { AreOutputs (lists_of (script_of source.now)).files
         (lists_of (script_of source.now)).headers }
     ensures artifacts { IfOk result (λ t.
-        t
+        t.0
         ≡ hands.artifacts_of (option_map (λ n. n.now) cache_name.entry) no_create templates.now
         outcome vars.now
-        (hands.run_record (script_of source.now) srcdir.now args.now vars.now defs.now)) }
+        (hands.run_record (script_of source.now) srcdir.now args.now vars.now defs)) }
+    ensures defs { IfOk result (λ t. t.1 ≡ defs) }
     ensures saved { IfOk result (λ t.
         hands.IfNamed (option_map (λ n. n.now) cache_name.entry) (hands.IsCacheOf vars.now)) }
     ensures reads_back { OnOk result (
         hands.IfCompleted outcome (
         hands.ReadsBack (
-        hands.run_record (script_of source.now) srcdir.now args.now vars.now defs.now))) }
+        hands.run_record (script_of source.now) srcdir.now args.now vars.now defs))) }
 {
     let mut artifacts = Artifacts::new(alloc);
     add_cache(alloc, &mut artifacts, cache_name, vars)?;
@@ -159,8 +178,8 @@ pub fn artifacts_of(
         Outcome::Completed => {
             let record = run_record(alloc, source, srcdir, args, vars, defs)?;
             add_completed(alloc, &mut artifacts, &record, no_create, templates)?;
-            Ok(artifacts)
+            Ok((artifacts, defs_of(record)))
         }
-        _ => Ok(artifacts),
+        _ => Ok((artifacts, defs)),
     }
 }

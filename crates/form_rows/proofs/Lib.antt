@@ -1,3 +1,2 @@
-pub mod Rows
-pub mod Lists
-pub mod Singles
+mod Rows
+mod Lists

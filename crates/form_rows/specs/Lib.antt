@@ -1,3 +1,3 @@
-pub mod Forms
+pub mod Kinds
 pub mod Laws
 pub mod Batches

@@ -9,7 +9,8 @@
 //! number of its errors too. If many errors are in one statement, some of them may not be found.
 //!
 //! ```text
-//! all_errors(alloc, b"AC_INIT([a],[1])\nx y\nAC_SUBST\nAC_OUTPUT\n")?   // `x y` at 17, and AC_SUBST at 21
+//! let text = b"AC_INIT([a],[1])\nx y\nAC_SUBST\nAC_OUTPUT\n";
+//! all_errors(alloc, text, &read(alloc, text)?)?   // `x y` at 17, and AC_SUBST at 21
 //! ```
 //!
 //! Read `scan` (what is open at a place), `calling` (what looks like a call), `pieces` (where a piece begins), `masking` (what becomes

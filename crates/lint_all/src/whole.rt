@@ -4,6 +4,7 @@ ghost use Rattle.std.specs.Prelude.{◌≡◌, [], ◌↔◌, length, All, IfOk,
 ghost use Rattle.std.specs.List.Sorted.{IsSorted};
 ghost use Rattle.lint_findings.specs.Order.{place_cmp};
 ghost use Rattle.lint_errors.specs.Errors.{AreErrors, EndsIn, IsAccepted};
+ghost use Rattle.lint_errors.specs.Readings.{IsReading};
 ghost use Rattle.lint_all.specs.Found as specs;
 
 use crate::joining::joined;
@@ -11,8 +12,8 @@ use crate::masking::{blank, inner_start};
 use crate::rounds::{Copy, Piece, Reader, add_rounds};
 use crate::runs::add_pieces;
 use crate::scan::Scan;
-use ac_calls::{CallAt, calls_of};
-use lint_errors::errors_of;
+use ac_calls::CallAt;
+use lint_errors::{Reading, errors_of};
 use lint_findings::{Finding, put_in_order};
 use lint_macros::Index;
 use std::alloc::{AllocError, Global};
@@ -102,12 +103,16 @@ fn add_others(
 
 /// Returns errors of a source with these calls that are found by reading on after each of them, in
 /// no order.
-fn others_of(alloc: Global, text: &[u8], calls: &[CallAt]) -> Result<Vec<Finding>, AllocError>
+fn others_of(
+    alloc: Global,
+    index: &Index,
+    text: &[u8],
+    calls: &[CallAt],
+) -> Result<Vec<Finding>, AllocError>
     ensures { IfOk result (λ v. All (specs.IsErrorOf (length text.now)) v.items) }
 {
-    let index = Index::new(alloc)?;
     let reader = Reader {
-        index: &index,
+        index,
         len: text.len(),
     };
     let mut found = Vec::new(alloc);
@@ -124,32 +129,41 @@ fn is_of_quotes(errors: &[Finding]) -> bool {
 }
 
 /// Returns errors of a source that are found by reading on after each of these.
-fn others_after(alloc: Global, text: &[u8], errors: &[Finding]) -> Result<Vec<Finding>, AllocError>
+fn others_after(
+    alloc: Global,
+    text: &[u8],
+    reading: &Reading,
+    errors: &[Finding],
+) -> Result<Vec<Finding>, AllocError>
     ensures { IfOk result (λ v. All (specs.IsErrorOf (length text.now)) v.items) }
 {
     if is_of_quotes(errors) {
         return Ok(Vec::new(alloc));
     }
-    let calls = calls_of(alloc, text)?;
-    others_of(alloc, text, calls.as_slice())
+    others_of(alloc, &reading.index, text, reading.calls.as_slice())
 }
 
 /// Returns these errors of a source and those that are found by reading on after each of them, in
 /// order of their places.
-fn with_others(alloc: Global, text: &[u8], errors: Vec<Finding>) -> Result<Vec<Finding>, AllocError>
+fn with_others(
+    alloc: Global,
+    text: &[u8],
+    reading: &Reading,
+    errors: Vec<Finding>,
+) -> Result<Vec<Finding>, AllocError>
     requires { All (specs.IsErrorOf (length text.now)) errors.items }
     ensures among { IfOk result (λ v. specs.AreAmong errors.items v.items) }
     ensures errors { IfOk result (λ v. All (specs.IsErrorOf (length text.now)) v.items) }
     ensures sorted { IfOk result (λ v. IsSorted place_cmp v.items) }
 {
-    let others = others_after(alloc, text, errors.as_slice())?;
+    let others = others_after(alloc, text, reading, errors.as_slice())?;
     let mut found = joined(alloc, text, errors, others)?;
     put_in_order(&mut found)?;
     Ok(found)
 }
 
 /// Returns the errors of a source, in order of their places: those of [`errors_of`], and those that
-/// are found by reading on after each (own). So that all errors are found is not promised: if a
+/// are found by reading on after each (own). The reading is that of the source. So that all errors are found is not promised: if a
 /// statement has several, one may hide another. If the quotes of the source have an error, that is
 /// the only one.
 ///
@@ -159,7 +173,8 @@ fn with_others(alloc: Global, text: &[u8], errors: Vec<Finding>) -> Result<Vec<F
 /// # Errors
 ///
 /// Fails only if memory runs out.
-pub fn all_errors(alloc: Global, text: &[u8]) -> Result<Vec<Finding>, AllocError>
+pub fn all_errors(alloc: Global, text: &[u8], reading: &Reading) -> Result<Vec<Finding>, AllocError>
+    requires { IsReading text.now reading.now }
     // Each error that a first reading finds is there.
     ensures first { IfOk result (λ v. specs.HasFirst text.now v.items) }
     // There is none exactly if the source is read and has a plan.
@@ -171,9 +186,9 @@ pub fn all_errors(alloc: Global, text: &[u8]) -> Result<Vec<Finding>, AllocError
     // They are in order of their places.
     ensures sorted { IfOk result (λ v. IsSorted place_cmp v.items) }
 {
-    let errors = errors_of(alloc, text)?;
+    let errors = errors_of(alloc, text, reading)?;
     if errors.is_empty() {
         return Ok(errors);
     }
-    with_others(alloc, text, errors)
+    with_others(alloc, text, reading, errors)
 }

@@ -1,6 +1,6 @@
 -- A source has no error exactly if it is accepted.
-use Rattle.std.proofs.Common.{◌≡◌, ◌↔◌, ℕ, ◌<◌, ◌≤◌, Bool, true, false, cond, List, [], ◌∷◌, length, map, Result, Ok, Err, refl, sym, ap, subst, ◌∙◌, arith}
-use Rattle.std.specs.Prelude.{IfOk, nat_lt}
+use Rattle.std.proofs.Common.{◌≡◌, ◌↔◌, ℕ, ◌<◌, ◌≤◌, Bool, true, false, cond, not, List, [], ◌∷◌, length, map, Result, Ok, Err, refl, sym, ap, subst, ◌∙◌, arith, true≢false}
+use Rattle.std.specs.Prelude.{IfOk, IsTrue, nat_lt}
 use Rattle.std.proofs.lemmas.Bool.{ltb-true, ltb-false}
 use Rattle.std.proofs.lemmas.List.{length-map}
 use Rattle.std.proofs.lemmas.List.Sorted.{length_permutation}
@@ -8,9 +8,11 @@ use Rattle.acparse.specs.Profile.{source_of}
 use Rattle.ac_statement.specs.declared.fault.ParseFault.{ParseFault}
 use Rattle.lint_findings.specs.declared.finding.Finding.{Finding}
 use Rattle.plan.specs.Weight.{heaviest, weight}
-use Rattle.ac_calls.specs.Calls.{calls_in}
+use Rattle.ac_calls.specs.Calls.{calls_in, macro_call_of}
 use Rattle.ac_tree.specs.Script.{Script}
-use Rattle.lint_errors.specs.Errors.{Shown, finding_view, error_at, errors_read, AreRefused, AreErrors, IsAccepted}
+use Rattle.lint_errors.specs.declared.reading.Reading.{Reading}
+use Rattle.lint_errors.specs.Errors.{Shown, finding_view, error_at, errors_read, AreRefused, AreErrors, IsAccepted, IsFaultError, IsFaultPlace}
+use Rattle.lint_errors.specs.Readings.{IsRead, IsReading}
 
 map_none : (list : List Finding) → map finding_view list ≡ [] → list ≡ []
 map_none [] h = refl
@@ -61,3 +63,24 @@ none_if_accepted text list errors = by_reading text list (source_of text) refl e
 pub along : {T E : Type 0} (P Q : T → Type 0) → ((x : T) → P x → Q x) → (r : Result T E) → IfOk r P → IfOk r Q
 along P Q f (Ok x) p = f x p
 along P Q f (Err e) p = tt
+
+-- ---- one reading
+
+pub read_as : (text : List ℕ) (reading : Reading) → IsRead text reading.source → map macro_call_of reading.calls.items ≡ calls_in text → IsReading text reading
+read_as text reading source calls = record { source = source; calls = calls }
+
+pub accepted_if_short : (text : List ℕ) (s : Script) (long : Bool) → source_of text ≡ Ok s → long ≡ nat_lt heaviest (weight s) → IsTrue (not long) ↔ IsAccepted text
+accepted_if_short text s true read is =
+    let long = ltb-true heaviest (weight s) (sym is) in (
+      λ t. absurd (true≢false (sym t)),
+      λ a. let fits = subst (λ x. weight x ≤ heaviest) (ok_same (source_of text) a.script s a.read read) a.fits in absurd (omega (arith, long, fits)),
+    )
+accepted_if_short text s false read is = (λ t. record { script = s; read = read; fits = ltb-false heaviest (weight s) (sym is) }, λ a. refl)
+
+pub not_accepted : (text : List ℕ) (f : ParseFault) → source_of text ≡ Err f → IsTrue false ↔ IsAccepted text
+not_accepted text f read = (λ t. absurd (true≢false (sym t)), λ a. absurd (not_both (source_of text) a.script f a.read read))
+
+-- ---- one error
+
+pub error_here : (text : List ℕ) (fault : ParseFault) (place : ℕ) (finding : Finding) → IsFaultPlace text fault place → finding_view finding ≡ error_at place → IsFaultError text fault finding
+error_here text fault place finding is_place shown = record { place = place; is_place = is_place; shown = shown }

@@ -103,6 +103,12 @@ errors_read s = if nat_lt heaviest (weight s) then error_at 0 ∷ [] else []
 abbrev pub errors_refused : ParseFault → ℕ → List MacroCall → List Shown
 errors_refused fault place calls = error_at place ∷ flat_map (of_call fault) calls
 
+-- This is the error of a source that is refused with this fault.
+pub record IsFaultError (text : List ℕ) (fault : ParseFault) (finding : Finding) : Type 0 where
+  pub place : ℕ
+  pub is_place : IsFaultPlace text fault place
+  pub shown : finding_view finding ≡ error_at place
+
 -- These are the errors of a source that is refused with this fault, in order of their places.
 pub record AreRefused (text : List ℕ) (fault : ParseFault) (calls : List MacroCall) (list : List Finding) : Type 0 where
   pub place : ℕ

@@ -8,9 +8,11 @@ ghost use Rattle.plan.specs.Weight.{heaviest, weight};
 ghost use Rattle.ac_calls.specs.Calls.{calls_in, macro_call_of};
 ghost use Rattle.ac_tree.specs.Script.{script_of};
 ghost use Rattle.lint_errors.specs.Errors as specs;
+ghost use Rattle.lint_errors.specs.Readings.{IsReading};
 
 use crate::fault::place_of_fault;
 use crate::foreign::{fault_finding, push_calls};
+use crate::reading::{Reading, is_too_long};
 use ac_calls::{CallAt, calls_of};
 use ac_statement::ParseFault;
 use ac_tree::Source;
@@ -18,19 +20,7 @@ use acparse::parse;
 use lint_findings::{Finding, put_in_order};
 use lint_macros::Index;
 use lint_words::too_long_finding;
-use plan::{PlanFault, compile};
 use std::alloc::{AllocError, Global};
-
-/// Returns whether a source weighs too much for a plan.
-fn is_too_long(alloc: Global, source: &Source) -> Result<bool, AllocError>
-    ensures { IfOk result (λ b. b ≡ nat_lt heaviest (weight (script_of source.now))) }
-{
-    match compile(alloc, source) {
-        Ok(_) => Ok(false),
-        Err(PlanFault::TooLong) => Ok(true),
-        Err(PlanFault::OutOfMemory) => Err(AllocError),
-    }
-}
 
 /// Returns a list of one error: that the source is too long.
 fn too_long(alloc: Global) -> Result<Vec<Finding>, AllocError>
@@ -110,8 +100,8 @@ fn errors_refused(
     ordered(alloc, index, text, fault, &calls)
 }
 
-/// Returns the errors of a source, in order of their places, as [`errors_of`] does. The table of
-/// macros is made once for many sources.
+/// Returns the errors of a source, in order of their places, as [`errors_of`] does. Its calls are
+/// looked for only if it is refused. The table of macros is made once for many sources.
 ///
 /// # Errors
 ///
@@ -129,25 +119,33 @@ pub fn errors_by(alloc: Global, index: &Index, text: &[u8]) -> Result<Vec<Findin
     }
 }
 
-/// Returns the errors of a source, for which the table of macros is made.
-fn find_errors(alloc: Global, text: &[u8]) -> Result<Vec<Finding>, AllocError>
+/// Returns the errors of a source with this reading, in order of their places.
+fn errors_with(alloc: Global, text: &[u8], reading: &Reading) -> Result<Vec<Finding>, AllocError>
+    requires { IsReading text.now reading.now }
     ensures exact { IfOk result (λ v. specs.AreErrors text.now (source_of text.now) v.items) }
     ensures ends { IfOk result (λ v. All (specs.EndsIn (length text.now)) v.items) }
 {
-    let index = Index::new(alloc)?;
-    errors_by(alloc, &index, text)
+    match &reading.source {
+        Ok(source) => errors_read(alloc, source),
+        Err(fault) => ordered(alloc, &reading.index, text, *fault, &reading.calls),
+    }
 }
 
-/// Returns the errors of a source, in order of their places.
+/// Returns the errors of a source, in order of their places. The reading is that of the source.
 ///
 /// If the source is refused, they are the reader's fault and the calls that have to go, each once.
 /// Otherwise there is at most one: that it weighs too much for a plan. The calls are those of
-/// `ac_calls`, so none is looked for if the source's quotes have an error.
+/// `ac_calls`, so there is none if the source's quotes have an error.
 ///
 /// The place of a fault is its offset: 0 if it has none, and the end of the source if AC_OUTPUT is
 /// missing. In text between calls it is the start of the statement at fault, which is not before
 /// the fault's offset. If AC_INIT is missing, it is the first statement that may not be before it.
-pub fn errors_of(alloc: Global, text: &[u8]) -> Result<Vec<Finding>, AllocError>
+///
+/// # Errors
+///
+/// Fails only if memory runs out.
+pub fn errors_of(alloc: Global, text: &[u8], reading: &Reading) -> Result<Vec<Finding>, AllocError>
+    requires { IsReading text.now reading.now }
     // The errors are exactly these.
     ensures exact { IfOk result (λ v. specs.AreErrors text.now (source_of text.now) v.items) }
     // Each ends in the text.
@@ -155,5 +153,24 @@ pub fn errors_of(alloc: Global, text: &[u8]) -> Result<Vec<Finding>, AllocError>
     // There is none exactly if the source is read and has a plan.
     ensures no_error { IfOk result (λ v. (v.items ≡ []) ↔ specs.IsAccepted text.now) }
 {
-    find_errors(alloc, text)
+    errors_with(alloc, text, reading)
+}
+
+/// Returns the error that a source is refused with this fault.
+///
+/// # Errors
+///
+/// Fails only if memory runs out.
+#[tactic(auto, using(crate::proofs::Acceptance::error_here))]
+pub fn fault_error(alloc: Global, text: &[u8], fault: ParseFault) -> Result<Finding, AllocError>
+    // It is at the place of the fault.
+    ensures place { IfOk result (λ f. specs.IsFaultError text.now fault f) }
+    // It ends in the text.
+    ensures end { IfOk result (specs.EndsIn (length text.now)) }
+{
+    let index = Index::new(alloc)?;
+    let calls = calls_of(alloc, text)?;
+    let at = place_of_fault(alloc, text, fault, &calls)?;
+    let finding = fault_finding(alloc, &index, text, fault, at, &calls)?;
+    Ok(finding)
 }

@@ -1,11 +1,12 @@
 //! Warnings about calls.
 
-use crate::extent::{Named, assigns, bare, is_given, text_at, warn_of_part};
+use crate::extent::{Named, assigns, bare, is_given, kind_at, text_at, warn_of_part};
 use crate::foreign::warn_of_texts;
 use crate::includes::warn_of_includes;
-use crate::rows::{EMPTY, FUNCTIONS, HELD, LIBRARY_ACTION, NAMES, SILENT};
+use crate::rows::{FULL_NAME, HELD, LIBRARY_ACTION, SILENT};
 use crate::shellwords::warn_of_shell_words;
 use ac_calls::{CallAt, Extent};
+use ac_macros::ArgumentKind;
 use bstr::ByteSlice;
 use lint_findings::Finding;
 use lint_macros::Index;
@@ -33,21 +34,15 @@ fn is_comment(action: &[u8]) -> bool {
     action.starts_with(b"dnl") && !action.contains_str(b"\n")
 }
 
-/// Warns of a library that is sought by `main`, and of an action that is a comment alone.
-fn warn_of_library(
+/// Warns of an action in place of which a library is added to LIBS, and which is a comment alone.
+fn warn_of_action(
     alloc: Global,
     call: Named<'_>,
     out: &mut Vec<Finding>,
 ) -> Result<(), AllocError> {
-    let text = call.text;
-    for place in &FUNCTIONS {
-        let function = text_at(text, call.argument_at(place));
-        let is_main = bare(function) == b"main".as_slice();
-        warn_if(alloc, text, call.whole(), is_main, keys::LIBRARY_MAIN, out)?;
-    }
     let action = call.argument_at(&LIBRARY_ACTION);
-    let is_idle = is_comment(bare(text_at(text, action)));
-    warn_if(alloc, text, action, is_idle, keys::DNL_ACTION, out)
+    let is_idle = is_comment(bare(text_at(call.text, action)));
+    warn_if(alloc, call.text, action, is_idle, keys::DNL_ACTION, out)
 }
 
 /// Returns whether an argument holds a text that isn't empty.
@@ -72,24 +67,65 @@ fn has_end_blanks(argument: &[u8]) -> bool {
     argument.starts_with(b"[ ") || argument.ends_with(b" ]")
 }
 
-/// Warns of empty texts in two pairs of brackets, and of names with blanks at their ends.
-fn warn_of_places(
+/// Returns whether an argument of this kind is something else in Autoconf if it is `[[]]` than if
+/// it is absent.
+fn may_be_empty(kind: ArgumentKind) -> bool {
+    matches!(
+        kind,
+        ArgumentKind::Value
+            | ArgumentKind::Definition
+            | ArgumentKind::ArchiveName
+            | ArgumentKind::Includes
+    )
+}
+
+/// Returns whether an argument of this kind is a name at whose ends Autoconf keeps blanks, or refuses
+/// them.
+fn is_exact_name(kind: ArgumentKind) -> bool {
+    matches!(
+        kind,
+        ArgumentKind::Library
+            | ArgumentKind::LibraryFunction
+            | ArgumentKind::Variable
+            | ArgumentKind::Symbol
+    )
+}
+
+/// Warns of an argument that is an empty text in two pairs of brackets, or a name with blanks at its
+/// ends, and of a library that is sought by `main`.
+fn warn_of_argument(
+    alloc: Global,
+    call: Named<'_>,
+    kind: ArgumentKind,
+    extent: Extent,
+    out: &mut Vec<Finding>,
+) -> Result<(), AllocError> {
+    let text = call.text;
+    let place = Some(extent);
+    let written = text_at(text, place);
+    let is_empty = may_be_empty(kind) && written == b"[[]]".as_slice();
+    warn_if(alloc, text, place, is_empty, keys::EMPTY_QUOTES, out)?;
+    let has_blanks = is_exact_name(kind) && has_end_blanks(written);
+    warn_if(alloc, text, place, has_blanks, keys::BLANK_IN_NAME, out)?;
+    let is_main = matches!(kind, ArgumentKind::LibraryFunction)
+        && bare(written) == b"main".as_slice();
+    warn_if(alloc, text, call.whole(), is_main, keys::LIBRARY_MAIN, out)
+}
+
+/// Warns of arguments by what they are.
+fn warn_of_arguments(
     alloc: Global,
     call: Named<'_>,
     out: &mut Vec<Finding>,
 ) -> Result<(), AllocError> {
-    let text = call.text;
-    for place in &EMPTY {
-        let argument = call.argument_at(place);
-        let is_empty = text_at(text, argument) == b"[[]]".as_slice();
-        warn_if(alloc, text, argument, is_empty, keys::EMPTY_QUOTES, out)?;
+    for (index, extent) in call.at.args.iter().enumerate() {
+        if let Some(kind) = kind_at(call.text, call.at, index) {
+            warn_of_argument(alloc, call, kind, *extent, out)?;
+        }
     }
-    for place in &NAMES {
-        let argument = call.argument_at(place);
-        let has_blanks = has_end_blanks(text_at(text, argument));
-        warn_if(alloc, text, argument, has_blanks, keys::BLANK_IN_NAME, out)?;
-    }
-    Ok(())
+    let name = call.argument_at(&FULL_NAME);
+    let is_empty = text_at(call.text, name) == b"[[]]".as_slice();
+    warn_if(alloc, call.text, name, is_empty, keys::EMPTY_QUOTES, out)
 }
 
 /// Warns of arguments of AC_CHECK_PROG and AS_CASE that are empty.
@@ -155,9 +191,9 @@ fn warn_of_call(
     if !call.at.is_of_profile {
         return Ok(());
     }
-    warn_of_library(alloc, call, out)?;
+    warn_of_action(alloc, call, out)?;
     warn_of_rows(alloc, call, out)?;
-    warn_of_places(alloc, call, out)?;
+    warn_of_arguments(alloc, call, out)?;
     warn_of_missing(alloc, call, out)?;
     warn_of_shell(alloc, call, out)?;
     warn_of_semicolon(alloc, call, out)?;
@@ -187,12 +223,12 @@ fn warn_of_each(
 /// Fails only if memory runs out.
 pub fn warn_of_calls(
     alloc: Global,
+    index: &Index,
     text: &[u8],
     calls: &[CallAt],
     out: &mut Vec<Finding>,
 ) -> Result<(), AllocError> {
-    let index = Index::new(alloc)?;
-    warn_of_each(alloc, &index, text, calls, out)?;
+    warn_of_each(alloc, index, text, calls, out)?;
     warn_of_includes(alloc, text, calls, out)?;
     warn_of_shell_words(alloc, text, calls, out)
 }

@@ -1,7 +1,8 @@
 //! Warnings if nothing looks for a compiler, or if nothing tries whether it works.
 
-use crate::extent::{assigns, bare, is_given, name_of, text_at, warn_of_part};
+use crate::extent::{assigns, bare, is_given, kind_at, name_of, text_at, warn_of_part};
 use ac_calls::{CallAt, Extent};
+use ac_macros::ArgumentKind;
 use lint_findings::Finding;
 use lint_table::keys;
 use lint_text::before;
@@ -25,14 +26,6 @@ fn tries(name: &[u8]) -> bool {
         || name == b"AC_CACHE_CHECK".as_slice()
 }
 
-/// The macros that look for a program, or declare a variable, which their first argument names.
-const FINDING: [&[u8]; 4] = [
-    b"AC_CHECK_PROG",
-    b"AC_CHECK_PROGS",
-    b"AC_PATH_PROG",
-    b"AC_ARG_VAR",
-];
-
 /// Returns whether the call looks for a compiler, names one, or declares the variable that the user
 /// names one by.
 fn finds_compiler(text: &[u8], call: &CallAt) -> bool {
@@ -40,9 +33,11 @@ fn finds_compiler(text: &[u8], call: &CallAt) -> bool {
     if name == b"AC_PROG_CC".as_slice() {
         return true;
     }
-    let is_set = name == b"AC_SUBST".as_slice() && is_given(text, call.args.get(1));
-    let is_of_variable = is_set || FINDING.iter().any(|other| *other == name);
-    is_of_variable && bare(text_at(text, call.args.first().copied())) == b"CC".as_slice()
+    let has_value = name != b"AC_SUBST".as_slice() || is_given(text, call.args.get(1));
+    let is_of_variable = matches!(kind_at(text, call, 0), Some(ArgumentKind::Variable));
+    has_value
+        && is_of_variable
+        && bare(text_at(text, call.args.first().copied())) == b"CC".as_slice()
 }
 
 /// Returns the first call that needs a compiler, if nothing before it looks for one or names one.

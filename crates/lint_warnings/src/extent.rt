@@ -2,6 +2,8 @@
 
 use crate::rows::Place;
 use ac_calls::{CallAt, Extent};
+use ac_macros::table::row_named;
+use ac_macros::{ArgumentKind, argument_kind};
 use bstr::ByteSlice;
 use lint_findings::{Finding, Span};
 use lint_table::{Key, warn_by_key};
@@ -43,6 +45,18 @@ pub(crate) fn assigns(text: &[u8], name: &[u8]) -> bool {
 /// Returns the name of a call.
 pub(crate) fn name_of<'a>(text: &'a [u8], call: &CallAt) -> &'a [u8] {
     part(text, call.start, call.name_end)
+}
+
+/// Returns what an argument of a call is, if the call has it and its macro is known. The arguments
+/// are counted from 0.
+pub(crate) fn kind_at(text: &[u8], call: &CallAt, index: usize) -> Option<ArgumentKind> {
+    let row = row_named(name_of(text, call))?;
+    let count = call.args.len();
+    if index < count {
+        Some(argument_kind(row.named, count, index))
+    } else {
+        None
+    }
 }
 
 /// A call of a source, with its name.

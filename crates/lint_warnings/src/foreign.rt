@@ -1,8 +1,8 @@
 //! Names of macros in arguments that are text.
 
-use crate::extent::{Named, bare, span_of};
-use crate::rows::TEXTS;
+use crate::extent::{Named, bare, kind_at, span_of};
 use ac_calls::Extent;
+use ac_macros::ArgumentKind;
 use lint_findings::Finding;
 use lint_macros::{Index, MacroKind};
 use lint_table::{Page, WordPart, keys};
@@ -153,6 +153,23 @@ fn warn_of_text(
     page.warn(alloc, out, text, span, keys::MACRO_IN_TEXT.name())
 }
 
+/// Returns whether an argument of this kind is text, in which Autoconf expands macros.
+fn is_text(kind: ArgumentKind) -> bool {
+    matches!(
+        kind,
+        ArgumentKind::Title
+            | ArgumentKind::ArchiveName
+            | ArgumentKind::Value
+            | ArgumentKind::Definition
+            | ArgumentKind::Description
+            | ArgumentKind::Message
+            | ArgumentKind::Help
+            | ArgumentKind::VariableHelp
+            | ArgumentKind::FoundValue
+            | ArgumentKind::OtherValue
+    )
+}
+
 /// Warns of names of macros in the arguments of a call that are text.
 pub(crate) fn warn_of_texts(
     alloc: Global,
@@ -160,9 +177,10 @@ pub(crate) fn warn_of_texts(
     call: Named<'_>,
     out: &mut Vec<Finding>,
 ) -> Result<(), AllocError> {
-    for place in &TEXTS {
-        if let Some(extent) = call.argument_at(place) {
-            warn_of_text(alloc, index, call, extent, out)?;
+    for (i, extent) in call.at.args.iter().enumerate() {
+        match kind_at(call.text, call.at, i) {
+            Some(kind) if is_text(kind) => warn_of_text(alloc, index, call, *extent, out)?,
+            _ => {}
         }
     }
     Ok(())

@@ -1,8 +1,9 @@
 //! Names that Autoconf's default includes declare, and those of acrun don't.
 
-use crate::extent::{bare, is_given, name_of, span_of, text_at};
+use crate::extent::{bare, is_given, kind_at, span_of, text_at};
 use crate::lines::put_lines;
 use ac_calls::{CallAt, Extent};
+use ac_macros::ArgumentKind;
 use deftable::{SubstList, is_shell_name};
 use lint_findings::Finding;
 use lint_table::{Page, WordPart, keys};
@@ -154,18 +155,24 @@ impl Found {
     }
 }
 
-/// The macros that look for names, with default includes if the fourth argument isn't given.
-const MACROS: [&[u8]; 4] = [
-    b"AC_CHECK_TYPE",
-    b"AC_CHECK_TYPES",
-    b"AC_CHECK_DECL",
-    b"AC_CHECK_DECLS",
-];
+/// Returns whether an argument of this kind has names that may be looked for with the default
+/// includes.
+fn is_looked_for(kind: ArgumentKind) -> bool {
+    matches!(
+        kind,
+        ArgumentKind::Declaration
+            | ArgumentKind::Declarations
+            | ArgumentKind::TypeName
+            | ArgumentKind::TypeNames
+    )
+}
 
 /// Returns whether a call looks for names with the default includes.
 fn uses_defaults(text: &[u8], call: &CallAt) -> bool {
-    let name = name_of(text, call);
-    MACROS.iter().any(|other| *other == name) && !is_given(text, call.args.get(3))
+    match kind_at(text, call, 0) {
+        Some(kind) if is_looked_for(kind) => !is_given(text, call.args.get(3)),
+        _ => false,
+    }
 }
 
 /// Adds the names of a call that one of the headers has.

@@ -3,7 +3,7 @@
 //!
 //! ```text
 //! let calls = calls_of(alloc, text)?;
-//! warn_of_calls(alloc, text, calls.as_slice(), &mut found)?;             // AC_CHECK_LIB([m], [main]) is always no
+//! warn_of_calls(alloc, &index, text, calls.as_slice(), &mut found)?;     // AC_CHECK_LIB([m], [main]) is always no
 //! warn_of_compiler(alloc, text, calls.as_slice(), &mut found)?;          // nothing tries whether the compiler works
 //! warn_of_source(alloc, text, calls.as_slice(), &source, &mut found)?;   // $srcdir is empty
 //! ```

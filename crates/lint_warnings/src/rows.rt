@@ -53,41 +53,15 @@ pub(crate) const HELD: [Row; 30] = [
 /// A macro and the number of one of its arguments, from 0.
 pub(crate) type Place = (&'static [u8], usize);
 
-/// The functions by which libraries are sought.
-pub(crate) const FUNCTIONS: [Place; 2] = [(b"AC_CHECK_LIB", 1), (b"AC_SEARCH_LIBS", 0)];
-
 /// The action in place of which a library is added to LIBS.
 pub(crate) const LIBRARY_ACTION: Place = (b"AC_CHECK_LIB", 2);
 
-/// The arguments for which `[[]]` is something else in Autoconf than no argument.
-#[rattlefmt::skip]
-pub(crate) const EMPTY: [Place; 11] = [
-    (b"AC_SUBST", 1), (b"AC_DEFINE", 1), (b"AC_DEFINE_UNQUOTED", 1), (b"AC_INIT", 3),
-    (b"AC_PATH_PROG", 2), (b"AC_CHECK_DECL", 3), (b"AC_CHECK_DECLS", 3),
-    (b"AC_CHECK_HEADER", 3), (b"AC_CHECK_HEADERS", 3), (b"AC_CHECK_TYPE", 3),
-    (b"AC_CHECK_TYPES", 3),
-];
-
-/// The names at whose ends Autoconf keeps blanks, or refuses them.
-#[rattlefmt::skip]
-pub(crate) const NAMES: [Place; 7] = [
-    (b"AC_CHECK_LIB", 0), (b"AC_CHECK_LIB", 1), (b"AC_SEARCH_LIBS", 0), (b"AC_SUBST", 0),
-    (b"AC_DEFINE", 0), (b"AC_DEFINE_UNQUOTED", 0), (b"AC_ARG_VAR", 0),
-];
+/// A value for which `[[]]` is something else in Autoconf than no argument.
+pub(crate) const FULL_NAME: Place = (b"AC_PATH_PROG", 2);
 
 /// The macros of which Autoconf makes no shell text.
 #[rattlefmt::skip]
 pub(crate) const SILENT: [&[u8]; 7] = [
     b"AC_SUBST", b"AC_ARG_VAR", b"AC_CONFIG_FILES", b"AC_CONFIG_HEADERS", b"AC_CONFIG_SRCDIR",
     b"AC_LANG", b"AC_PREREQ",
-];
-
-/// The arguments that are text, in which Autoconf expands macros.
-#[rattlefmt::skip]
-pub(crate) const TEXTS: [Place; 20] = [
-    (b"AC_INIT", 0), (b"AC_INIT", 1), (b"AC_INIT", 2), (b"AC_INIT", 3), (b"AC_INIT", 4),
-    (b"AC_SUBST", 1), (b"AC_DEFINE", 1), (b"AC_DEFINE", 2), (b"AC_DEFINE_UNQUOTED", 1),
-    (b"AC_DEFINE_UNQUOTED", 2), (b"AC_MSG_NOTICE", 0), (b"AC_MSG_WARN", 0), (b"AC_MSG_ERROR", 0),
-    (b"AC_MSG_CHECKING", 0), (b"AC_MSG_RESULT", 0), (b"AC_CACHE_CHECK", 0), (b"AC_ARG_VAR", 1),
-    (b"AC_ARG_ENABLE", 1), (b"AC_ARG_WITH", 1), (b"AC_CHECK_PROG", 2),
 ];

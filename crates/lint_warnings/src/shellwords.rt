@@ -1,8 +1,9 @@
 //! Words that a shell reads otherwise, with no sign of it.
 
-use crate::extent::{name_of, span_of};
+use crate::extent::{kind_at, span_of};
 use crate::lines::put_lines;
 use ac_calls::{CallAt, Extent};
+use ac_macros::ArgumentKind;
 use deftable::is_shell_name;
 use lint_findings::Finding;
 use lint_table::{Key, Page, WordPart, keys, warn_by_key};
@@ -23,44 +24,12 @@ enum Role {
     Value,
 }
 
-/// Returns what an argument of a choice is. The arguments are counted from 0.
-fn role_in_choice(name: &[u8], count: usize, index: usize) -> Role {
-    let is_last = index.saturating_add(1) == count;
-    let is_odd = index % 2 == 1;
-    if name == b"AS_IF".as_slice() {
-        if is_odd || is_last {
-            Role::Statements
-        } else {
-            Role::Test
-        }
-    } else if index > 0 && (!is_odd || is_last) {
-        Role::Statements
-    } else {
-        Role::Other
-    }
-}
-
-/// The macros whose statements begin with an argument of this number, counted from 0, and end with
-/// the argument after it.
-#[rattlefmt::skip]
-const ACTIONS: [(&[u8], usize); 17] = [
-    (b"AC_ARG_ENABLE", 2), (b"AC_ARG_WITH", 2), (b"AC_CHECK_LIB", 2), (b"AC_SEARCH_LIBS", 2),
-    (b"AC_CHECK_HEADER", 1), (b"AC_CHECK_HEADERS", 1), (b"AC_CHECK_FUNC", 1), (b"AC_CHECK_FUNCS", 1),
-    (b"AC_CHECK_DECL", 1), (b"AC_CHECK_DECLS", 1), (b"AC_CHECK_TYPE", 1), (b"AC_CHECK_TYPES", 1),
-    (b"AC_COMPILE_IFELSE", 1), (b"AC_LINK_IFELSE", 1), (b"AC_PREPROC_IFELSE", 1), (b"AC_RUN_IFELSE", 1),
-    (b"AC_CACHE_CHECK", 2),
-];
-
-/// Returns what an argument of a call is.
-fn role_of(name: &[u8], count: usize, index: usize) -> Role {
-    if name == b"AS_IF".as_slice() || name == b"AS_CASE".as_slice() {
-        return role_in_choice(name, count, index);
-    }
-    if name == b"AC_SUBST".as_slice() && index == 1 {
-        return Role::Value;
-    }
-    match ACTIONS.iter().find(|row| row.0 == name) {
-        Some(row) if index == row.1 || index == row.1.saturating_add(1) => Role::Statements,
+/// Returns what the bytes of an argument of this kind are parts of.
+fn role_of(kind: Option<ArgumentKind>) -> Role {
+    match kind {
+        Some(ArgumentKind::Statements) => Role::Statements,
+        Some(ArgumentKind::Test) => Role::Test,
+        Some(ArgumentKind::Value) => Role::Value,
         _ => Role::Other,
     }
 }
@@ -76,10 +45,9 @@ fn fill(roles: &mut [Role], start: usize, end: usize, role: Role) {
 fn roles_of(alloc: Global, text: &[u8], calls: &[CallAt]) -> Result<Vec<Role>, AllocError> {
     let mut roles = vec![in alloc; Role::Statements; text.len()]?;
     for call in calls {
-        let name = name_of(text, call);
         fill(&mut roles, call.start, call.end, Role::Other);
         for (index, arg) in call.args.iter().enumerate() {
-            let role = role_of(name, call.args.len(), index);
+            let role = role_of(kind_at(text, call, index));
             fill(&mut roles, arg.start, arg.end, role);
         }
     }

@@ -10,8 +10,8 @@ use crate::outputs::put_bad_outputs;
 use crate::shell::{argument_help, within_argument};
 use crate::{near_name, shell_help, test_help};
 use ac_calls::{CallAt, Extent};
-use ac_macros::Row;
 use ac_macros::table::{row_named, rows};
+use ac_macros::{ArgumentKind, Named, Row, argument_kind};
 use ac_statement::ParseFault;
 use bstr::ByteSlice;
 use deftable::Bytes;
@@ -66,6 +66,20 @@ impl<'a> Around<'a> {
         }
     }
 
+    /// Returns what the argument is that begins at the place. One of a macro that isn't known is
+    /// not read.
+    fn kind(&self) -> ArgumentKind {
+        let number = self.number();
+        let count = match call_around(self.calls, self.at) {
+            Some(call) => call.args.len(),
+            None => 0,
+        };
+        match row_named(self.call()) {
+            Some(row) if number < count => argument_kind(row.named, count, number),
+            _ => ArgumentKind::Unread,
+        }
+    }
+
     /// Returns whether a parenthesis closes more than the call that begins at the place.
     fn has_surplus_close(&self) -> bool {
         match self.calls.iter().find(|call| call.start == self.at) {
@@ -92,12 +106,9 @@ impl<'a> Around<'a> {
         unquoted(self.written())
     }
 
-    /// Returns whether the first argument of a call that tries a program begins at the place.
+    /// Returns whether the program of a call that tries one begins at the place.
     fn is_program(&self) -> bool {
-        match self.found() {
-            Some((number, _)) => number == 0 && self.call().ends_with(b"_IFELSE"),
-            None => false,
-        }
+        self.is_argument() && matches!(self.kind(), ArgumentKind::SourceCall)
     }
 
     /// Returns whether the second argument of AC_CHECK_TYPE begins at the place, which was a default
@@ -245,9 +256,10 @@ fn put_plain_text(alloc: Global, page: &mut Page, around: Around<'_>) -> Result<
 
 /// Returns whether the name is that of a macro that is an argument, and no statement.
 fn is_argument_macro(name: &[u8]) -> bool {
-    name == b"AS_HELP_STRING".as_slice()
-        || name == b"AC_LANG_PROGRAM".as_slice()
-        || name == b"AC_LANG_SOURCE".as_slice()
+    match row_named(name) {
+        Some(row) => matches!(row.named, Named::Argument(_)),
+        None => false,
+    }
 }
 
 /// Writes what to do about a default of AC_CHECK_TYPE, which begins at the place.
@@ -392,18 +404,9 @@ fn put_count(alloc: Global, page: &mut Page, around: Around<'_>) -> Result<(), A
     Ok(())
 }
 
-/// The macros whose first argument is a message.
-const MESSAGES: [&[u8]; 5] = [
-    b"AC_MSG_CHECKING",
-    b"AC_MSG_RESULT",
-    b"AC_MSG_NOTICE",
-    b"AC_MSG_WARN",
-    b"AC_MSG_ERROR",
-];
-
-/// Writes what is wrong with a word that is an argument of this call.
-fn put_argument_word(page: &mut Page, call: &[u8], argument: &[u8]) {
-    if MESSAGES.iter().any(|name| *name == call) && argument.contains(&b'`') {
+/// Writes what is wrong with a word that is an argument of this kind.
+fn put_argument_word(page: &mut Page, kind: ArgumentKind, argument: &[u8]) {
+    if matches!(kind, ArgumentKind::Message) && argument.contains(&b'`') {
         page.put(keys::MESSAGE_BACKQUOTE, &[]);
         return;
     }
@@ -443,7 +446,7 @@ fn put_value(page: &mut Page, around: Around<'_>) {
 /// Writes what is wrong with a word, or with text that has variables.
 fn put_word(page: &mut Page, around: Around<'_>) {
     if around.is_argument() {
-        put_argument_word(page, around.call(), around.argument());
+        put_argument_word(page, around.kind(), around.argument());
     } else {
         put_value(page, around);
     }
@@ -533,7 +536,7 @@ fn put_bad_name(alloc: Global, page: &mut Page, around: Around<'_>) -> Result<()
     if argument.is_empty() && around.number() == 0 {
         page.put(keys::NAMES_NOTHING, &[WordPart::AsItIs(call)]);
     } else if !put_bad_outputs(alloc, page, text, calls, at, argument, call)? {
-        put_bad_argument(page, first_line(argument), call, around.number());
+        put_bad_argument(page, first_line(argument), call, around.kind());
     }
     Ok(())
 }

@@ -3,6 +3,8 @@ pub mod Messages
 pub mod Asking
 pub mod Tests
 pub mod Directories
+pub mod Forms
+pub mod Entries
 pub mod Rows
 pub mod Play
 pub mod Package

@@ -24,9 +24,11 @@ use Rattle.ac_tree.specs.Script.{Script, Done, Then, Choice, Check, Cases, No_ca
 use Rattle.ac_tree.specs.TestNames.{program_name, path_name}
 use Rattle.meaning.specs.Package.{initialised}
 use Rattle.meaning.specs.Messages.{with_message}
-use Rattle.meaning.specs.State.{State, Scope, no_choice, about, answered, with_variable, with_definition, How, as_is, Run, Ends, Goes_on, Completed, Stopped, then_run, ended}
+use Rattle.meaning.specs.State.{State, Scope, no_choice, about, answered, value_or_empty, with_variable, with_definition, How, as_is, Run, Ends, Goes_on, Completed, Stopped, then_run, ended}
 use Rattle.meaning.specs.Rows as rows
-use Rattle.meaning.specs.Rows.{TestKind, Program, Library, Libraries, kind_for, name_of, is_found, value_or_empty, value_if, row_of}
+use Rattle.meaning.specs.Rows.{Program, Formed, value_if, row_of}
+use Rattle.meaning.specs.Forms.{FormTest, form_name, says_found}
+use Rattle.meaning.specs.Entries.{sought_test, library_test, search_test, tests_of}
 use Rattle.meaning.specs.Batches.{batched}
 use Rattle.meaning.specs.Tests.{Test, cached_test, tested}
 use Rattle.meaning.specs.Tries.{text_of, tried}
@@ -116,7 +118,7 @@ effect (Search variable program FullName otherwise) st =
     program_test (path_prog variable program (option_map (λ t. word_value t st.vars) otherwise)) (is_full_name (value_or_empty st variable)) st
 effect (Searches variable programs otherwise) st =
     then_run (looks_all variable programs true st) (λ now. Ends Goes_on (defaulted variable (option_map (λ t. word_value t now.vars) otherwise) now))
-effect (Batch listed entries includes) st = batched (record { listed = listed; entries = entries; includes = includes }) st
+effect (Batch listed entries includes) st = batched (tests_of listed entries includes) st
 effect Complete st = Ends Completed (with_prefixes st)
 
 -- The variable that gets the value of an option if the option is given. (Autoconf's manual, "Choosing Package Options"
@@ -131,15 +133,15 @@ after_option None kind st go = go (answered false) st
 after_option (Some value) kind st go = go (answered true) (with_variable (value_name kind) value st)
 
 -- A test as a question: whether it has found what it looks for. (Autoconf's manual, "Existing Tests" and "Library Files")
-abbrev pub found_by : (How → State → State) → TestKind → State → (Scope → State → Run) → Run
-found_by early kind st go =
-    then_run (ended early (tested (row_of kind st) st)) (λ now. go (answered (is_found kind (value_of now.vars (name_of kind)))) now)
+abbrev pub found_by : (How → State → State) → FormTest → State → (Scope → State → Run) → Run
+found_by early t st go =
+    then_run (ended early (tested (row_of (Formed t) st) st)) (λ now. go (answered (says_found t.form.says (value_of now.vars (form_name t.form)))) now)
 
 -- The first entry of a list is tested, and what is found is defined. (Autoconf's manual, "Generic Headers" to "Generic
 -- Types")
 abbrev pub first_found : (How → State → State) → Sought → List (List ℕ) → Option (List Part) → State → (Scope → State → Run) → Run
 first_found early sought [] includes st go = go (answered false) st
-first_found early sought (entry ∷ more) includes st go = found_by early (kind_for sought entry includes true) st go
+first_found early sought (entry ∷ more) includes st go = found_by early (sought_test sought entry includes true) st go
 
 -- A question, and how the run continues with the answer: an option is given if its variable is set, a program that is
 -- tried passes if its children succeed, and an entry or a library is found by its test. (Autoconf's manual, "Running the
@@ -147,10 +149,10 @@ first_found early sought (entry ∷ more) includes st go = found_by early (kind_
 abbrev pub after_question : (How → State → State) → asks.Question → State → (Scope → State → Run) → Run
 after_question early (Tries kind program) st go = tried early kind (text_of program st.vars) st (λ passed. go (answered passed))
 after_question early (Given kind variable) st go = after_option (value_of st.vars variable) kind st go
-after_question early (Checks sought entry includes) st go = found_by early (kind_for sought entry includes false) st go
+after_question early (Checks sought entry includes) st go = found_by early (sought_test sought entry includes false) st go
 after_question early (ChecksEach sought entries includes) st go = first_found early sought entries includes st go
-after_question early (questions.Library library function others adds) st go = found_by early (Library library function others adds) st go
-after_question early (questions.Libraries function libraries others) st go = found_by early (Libraries function libraries others) st go
+after_question early (questions.Library library function others adds) st go = found_by early (library_test library function others adds) st go
+after_question early (questions.Libraries function libraries others) st go = found_by early (search_test function libraries others) st go
 
 -- A choice begins with its subject: nothing, the value of a word, or the answer to a question; `early` changes the state
 -- of a run that ends here. (own)

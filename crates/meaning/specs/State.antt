@@ -1,12 +1,12 @@
 -- What statements change, and the course of a run of statements.
-use Rattle.std.specs.Prelude.{ℕ, Bool, false, List, [], ◌∷◌, ◌++◌}
+use Rattle.std.specs.Prelude.{ℕ, Bool, false, List, [], ◌∷◌, ◌++◌, unwrap_or}
 use Rattle.crew_jobs.specs.declared.job.Job.{Job}
 use Rattle.crew_trait.specs.declared.entry.Entry.{Entry}
 use Rattle.crew_trait.specs.declared.entry.Entry.TheVariants.{Said, Child}
 use Rattle.crew_trait.specs.declared.reply.Reply.{Reply}
 use Rattle.deftable.specs.declared.note.Note.{Note}
 use Rattle.deftable.specs.declared.note.Stream.{Stream}
-use Rattle.deftable.specs.Table.{with_entry, without_entry}
+use Rattle.deftable.specs.Table.{value_of, with_entry, without_entry}
 
 -- Variables and definitions, each a name and a value, in the order of their first setting; the messages, and the log of
 -- messages and children. (own)
@@ -35,6 +35,10 @@ with_child job reply st = record st { log = st.log ++ Child job reply ∷ [] }
 -- A variable set to a value. (POSIX shell, "Simple Commands")
 abbrev pub with_variable : List ℕ → List ℕ → State → State
 with_variable name value st = record st { vars = with_entry st.vars name value }
+
+-- A variable's value, or the empty text if it isn't set. (POSIX shell, "Parameter Expansion")
+abbrev pub value_or_empty : State → List ℕ → List ℕ
+value_or_empty st name = unwrap_or (value_of st.vars name) []
 
 -- A variable unset. (POSIX shell, "unset")
 abbrev pub without_variable : List ℕ → State → State

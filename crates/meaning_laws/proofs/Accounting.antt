@@ -21,10 +21,13 @@ use Rattle.ac_tree.specs.declared.tree.Subject.{Subject}
 use Rattle.ac_tree.specs.declared.tree.Subject.TheVariants.{Nothing, Word, Asked}
 use Rattle.ac_tree.specs.Commands.{AreCommands, HasCommands, HasCommandsIn}
 use Rattle.ac_tree.specs.Script.{Script, Done, Then, Choice, Check, Cases, No_case, Case}
-use Rattle.meaning.specs.State.{State, Scope, no_choice, about, answered, Goes_on, Completed, Cut, Run, Ends, Asks, then_run, ended, as_is, with_child, with_variable}
+use Rattle.meaning.specs.State.{State, Scope, no_choice, about, answered, Goes_on, Completed, Cut, Run, Ends, Asks, then_run, ended, as_is, with_child, with_variable, value_or_empty}
 use Rattle.meaning.specs.Asking.{success, only_reply, after_child, child, compiled}
 use Rattle.meaning.specs.Tests.{checking, cached_test, tested}
-use Rattle.meaning.specs.Rows.{TestKind, Program, Library, Libraries, kind_for, is_found, name_of, value_or_empty, value_if, row_of}
+use Rattle.meaning.specs.Forms.{FormTest, form_name, says_found}
+use Rattle.meaning.specs.Entries.{sought_test, library_test, search_test, tests_of}
+use Rattle.meaning.specs.Rows.{Program, Formed, value_if, row_of}
+use Rattle.meaning.proofs.Batches.{entries_are}
 use Rattle.meaning.specs.Package.{package_string, initialised}
 use Rattle.meaning.specs.Play.{play, first_number, refused_after, last_words}
 use Rattle.meaning.specs.Tries.{first_probe, after_first, text_of}
@@ -83,7 +86,7 @@ effect_accounts (Search variable program FullName otherwise) st rs = kind_accoun
 effect_accounts (Searches variable programs otherwise) st rs =
     then_accounts (looks_all variable programs true st) rs st.vars (looks_deeds variable programs true st rs) _ (λ now left. default_deeds variable otherwise now)
     (looks_account variable programs true st rs) (λ now left. default_accounts variable otherwise now)
-effect_accounts (effects.Batch listed entries includes) st rs = batch_accounts (record { listed = listed; entries = entries; includes = includes }) st rs
+effect_accounts (effects.Batch listed entries includes) st rs = batch_accounts (tests_of listed entries includes) (entries_are listed entries includes) st rs
 effect_accounts Complete st rs =
     let first = settled (codes "prefix") (codes "/usr/local") st in
     joined st.vars first.vars (settled (codes "exec_prefix") (codes "${prefix}") first).vars (prefix_deeds (codes "prefix") st) (prefix_deeds (codes "exec_prefix") first)
@@ -146,15 +149,15 @@ run_accounts (Ends _ st) rs before a f go did runs x y = ended_there before st.v
 run_accounts (Asks jobs ask) rs before a f go did runs x y =
     run_accounts (ask (take (length jobs) rs)) (drop (length jobs) rs) before a f go did (runs (take (length jobs) rs)) x y
 
-found_accounts : (kind : TestKind) (st : State) (rs : List Reply) (go : Scope → State → Run) (did : Scope → State → List Reply → List Deed) → FollowChoice go did
-    → Accounts st.vars (kind_deeds kind st rs ++ deeds_answered (found_by as_is kind st yes_or_no) rs did) (play (found_by as_is kind st go) rs).state.vars
-found_accounts kind st rs go did y =
-    run_accounts (tested (row_of kind st) st) rs st.vars (kind_deeds kind st rs) (λ now. is_found kind (value_of now.vars (name_of kind))) go did (tested_open kind st) (kind_accounts kind st rs) y
+found_accounts : (t : FormTest) (st : State) (rs : List Reply) (go : Scope → State → Run) (did : Scope → State → List Reply → List Deed) → FollowChoice go did
+    → Accounts st.vars (kind_deeds (Formed t) st rs ++ deeds_answered (found_by as_is t st yes_or_no) rs did) (play (found_by as_is t st go) rs).state.vars
+found_accounts t st rs go did y =
+    run_accounts (tested (row_of (Formed t) st) st) rs st.vars (kind_deeds (Formed t) st rs) (λ now. says_found t.form.says (value_of now.vars (form_name t.form))) go did (tested_open (Formed t) st) (kind_accounts (Formed t) st rs) y
 
 first_accounts : (sought : Sought) (entries : List (List ℕ)) (includes : Option (List Part)) (st : State) (rs : List Reply) (go : Scope → State → Run) (did : Scope → State → List Reply → List Deed) → FollowChoice go did
     → Accounts st.vars (first_deeds sought entries includes st rs ++ deeds_answered (first_found as_is sought entries includes st yes_or_no) rs did) (play (first_found as_is sought entries includes st go) rs).state.vars
 first_accounts sought [] includes st rs go did y = y (answered false) st rs
-first_accounts sought (entry ∷ more) includes st rs go did y = found_accounts (kind_for sought entry includes true) st rs go did y
+first_accounts sought (entry ∷ more) includes st rs go did y = found_accounts (sought_test sought entry includes true) st rs go did y
 
 subject_accounts : (subject : Subject) (st : State) (rs : List Reply) (go : Scope → State → Run) (did : Scope → State → List Reply → List Deed) → FollowChoice go did
     → Accounts st.vars (subject_deeds subject st rs did) (play (after_subject as_is subject st go) rs).state.vars
@@ -165,10 +168,10 @@ subject_accounts (Asked (Given kind variable)) st rs go did y = given_accounts (
 subject_accounts (Asked (Tries kind program)) st rs go did y =
     compiled_answers did (job_of (first_probe kind (text_of program st.vars)) 0 st.vars st.defs) st _ _
     (first_answers did kind (λ b. yes_or_no (answered b)) (λ b. go (answered b)) (either_answers did go y)) rs
-subject_accounts (Asked (Checks sought entry includes)) st rs go did y = found_accounts (kind_for sought entry includes false) st rs go did y
+subject_accounts (Asked (Checks sought entry includes)) st rs go did y = found_accounts (sought_test sought entry includes false) st rs go did y
 subject_accounts (Asked (ChecksEach sought entries includes)) st rs go did y = first_accounts sought entries includes st rs go did y
-subject_accounts (Asked (questions.Library library function others adds)) st rs go did y = found_accounts (Library library function others adds) st rs go did y
-subject_accounts (Asked (questions.Libraries function libraries others)) st rs go did y = found_accounts (Libraries function libraries others) st rs go did y
+subject_accounts (Asked (questions.Library library function others adds)) st rs go did y = found_accounts (library_test library function others adds) st rs go did y
+subject_accounts (Asked (questions.Libraries function libraries others)) st rs go did y = found_accounts (search_test function libraries others) st rs go did y
 
 turns_account : (rounds : List Subject) (go : Scope → State → Run) (did : Scope → State → List Reply → List Deed) → FollowChoice go did → Follow (in_turn rounds go) (turn_deeds rounds go did)
 turns_account [] go did y st rs = nothing st.vars

@@ -1,6 +1,6 @@
 -- One entry of a batch, and those after it.
 use Rattle.std.proofs.Common.{◌≡◌, ℕ, Option, Some, None, List, [], ◌∷◌, ◌++◌, codes, Bool, true, false, cond, ◌⊎◌, inl, inr, refl, sym, ap, ◌∙◌, subst, ⊎_elim, append_assoc}
-use Rattle.std.specs.Prelude.{◌||◌, ◌==◌, option_map, bytes_eq, unwrap_or}
+use Rattle.std.specs.Prelude.{◌||◌, ◌&&◌, ◌==◌, not, option_map, bytes_eq, unwrap_or}
 use Rattle.std.proofs.lemmas.Bool.{cases_Bool}
 use Rattle.std.proofs.lemmas.List.{append-nil}
 use Rattle.crew_jobs.specs.declared.job.Job.{Job}
@@ -11,24 +11,27 @@ use Rattle.crew_trait.specs.declared.reply.Reply.TheVariants.{Answer}
 use Rattle.deftable.specs.Table.{value_of, with_entry, without_entry}
 use Rattle.deftable.specs.declared.note.Note.{Note}
 use Rattle.deftable.specs.declared.note.Stream.TheVariants.{Out}
-use Rattle.ac_tree.specs.declared.listed.Listed.{Listed}
-use Rattle.ac_tree.specs.declared.listed.Listed.TheVariants.{Header, Function, Declaration}
+use Rattle.test_forms.specs.declared.form.Gives.{Gives}
+use Rattle.test_forms.specs.declared.form.Gives.TheVariants.{Nothing, Have, HaveOrNot, AddsLibrary, AddsValue}
+use Rattle.test_forms.specs.declared.form.TestForm.{TestForm}
 use Rattle.meaning.specs.State.{piece, with_note, with_child, with_variable, State, How, Goes_on, Cut, Run, Ends, then_run, as_is}
 use Rattle.meaning.specs.Asking.{success, only_reply, without_compiler}
 use Rattle.meaning.specs.Tests.{guarded, checking, with_result, with_value, Row, tested_by, may_begin, tested}
-use Rattle.meaning.specs.Rows.{Single, entry_name, entry_message, symbol_part, defined_if, with_entry_defined, is_yes, row_of}
-use Rattle.meaning.specs.Batches.{Batch, jobs_in, with_body, yes_or_no, replied, commits, committed}
+use Rattle.meaning.specs.Rows.{row_of, Formed}
+use Rattle.meaning.specs.Forms.{FormTest, defined_if, form_name, form_used, is_linked, says_found, symbol_part, with_given, with_library, with_library_if, with_linked}
+use Rattle.meaning.proofs.Forms.{name_is_left}
+use Rattle.meaning.specs.Batches.{IsBatched, jobs_in, with_body, yes_or_no, replied, commits, committed}
 use Rattle.meaning_laws.specs.Logged.{children_of, paired}
 use Rattle.meaning_laws.specs.Cached.{IsUnset}
-use Rattle.meaning_laws.specs.Batched.{answer_to, value_by, entry_defs, defs_all, entry_result, entry_pieces}
+use Rattle.meaning_laws.specs.Batched.{answer_to, value_by, given_defs, form_defs, defs_all, test_result, test_pieces}
 use Rattle.meaning_laws.proofs.Values.{same_text, cond_true, cond_false, cases_value, value_here, value_there, without_unset}
 use Rattle.meaning_laws.proofs.CachedTests.{set_row, unset_cached}
 use Rattle.std.specs.List.{list_any}
 
 -- ---- one entry
 
-abbrev pub row_at : Batch → List ℕ → Option Job → Reply → State → Row
-row_at batch entry job reply st = with_body (replied (entry_name batch.listed entry) job reply) (row_of (Single batch.listed entry batch.includes true) st)
+abbrev pub row_at : FormTest → Option Job → Reply → State → Row
+row_at test job reply st = with_body (replied (form_name test.form) job reply) (row_of (Formed test) st)
 
 abbrev pub how_if : Bool → How
 how_if true = Cut
@@ -59,19 +62,19 @@ one_kids None None reply = []
 one_kids None (Some job) reply = (job, reply) ∷ []
 
 -- What is checked of an entry, and its result by its job and the value of its name.
-abbrev pub asks_line : Listed → List ℕ → Note
-asks_line listed entry = piece Out (codes "checking " ++ entry_message listed entry ++ codes "... ")
+abbrev pub asks_line : FormTest → Note
+asks_line test = piece Out (codes "checking " ++ test.form.message ++ codes "... ")
 
 abbrev pub result_line : Option Job → Option (List ℕ) → Note
-result_line job value = piece Out (entry_result job value ++ codes "\n")
+result_line job value = piece Out (test_result job value ++ codes "\n")
 
 -- The end of one entry.
-pub record One (batch : Batch) (entry : List ℕ) (asked : Option Job) (now : State) (run : Run) (flag : Bool) (vars : List (List ℕ × List ℕ)) (kids : List (Job × Reply)) : Type 0 where
+pub record One (test : FormTest) (asked : Option Job) (now : State) (run : Run) (flag : Bool) (vars : List (List ℕ × List ℕ)) (kids : List (Job × Reply)) : Type 0 where
   pub end : State
   pub is : run ≡ Ends (how_if flag) end
   pub after : end.vars ≡ vars
-  pub defs : end.defs ≡ entry_defs batch.listed entry (value_of end.vars (entry_name batch.listed entry)) now.defs
-  pub said : end.messages ≡ now.messages ++ asks_line batch.listed entry ∷ result_line asked (value_of end.vars (entry_name batch.listed entry)) ∷ []
+  pub defs : end.defs ≡ form_defs test.form (value_of end.vars (form_name test.form)) now.defs
+  pub said : end.messages ≡ now.messages ++ asks_line test ∷ result_line asked (value_of end.vars (form_name test.form)) ∷ []
   pub logged : children_of end.log ≡ kids
 
 children_both : (a b : List Entry) → children_of (a ++ b) ≡ children_of a ++ children_of b
@@ -95,69 +98,111 @@ pub if_alone : (b : Bool) (name : List ℕ) (st : State) → DefinesAlone st (de
 if_alone true name st = record { vars = refl; messages = refl; log = refl }
 if_alone false name st = record { vars = refl; messages = refl; log = refl }
 
-pub entry_alone : (listed : Listed) (entry : List ℕ) (found : Bool) (st : State) → DefinesAlone st (with_entry_defined listed entry found st)
-entry_alone Header entry found st = if_alone found (codes "HAVE_" ++ symbol_part entry) st
-entry_alone Function entry found st = if_alone found (codes "HAVE_" ++ symbol_part entry) st
-entry_alone Declaration entry found st = record { vars = refl; messages = refl; log = refl }
+-- Nothing was printed, and no child was asked for.
+pub record IsQuiet (before now : State) : Type 0 where
+  pub messages : now.messages ≡ before.messages
+  pub log : now.log ≡ before.log
+
+if_quiet : (b : Bool) (name : List ℕ) (st : State) → IsQuiet st (defined_if b name st)
+if_quiet true name st = record { messages = refl; log = refl }
+if_quiet false name st = record { messages = refl; log = refl }
+
+added_quiet : (b : Bool) (library : List ℕ) (st : State) → IsQuiet st (with_library_if b library st)
+added_quiet true library st = record { messages = refl; log = refl }
+added_quiet false library st = record { messages = refl; log = refl }
+
+put_quiet : (b : Bool) (text : List ℕ) (st : State) → IsQuiet st (cond b (with_library text st) st)
+put_quiet true text st = record { messages = refl; log = refl }
+put_quiet false text st = record { messages = refl; log = refl }
+
+linked_quiet : (value : Option (List ℕ)) (st : State) → IsQuiet st (with_linked value st)
+linked_quiet None st = record { messages = refl; log = refl }
+linked_quiet (Some value) st = put_quiet (is_linked (Some value) && not (bytes_eq value (codes "none required"))) value st
+
+given_quiet : (gives : Gives) (found : Bool) (value : Option (List ℕ)) (st : State) → IsQuiet st (with_given gives found value st)
+given_quiet Nothing found value st = record { messages = refl; log = refl }
+given_quiet (Have what) found value st = if_quiet found _ st
+given_quiet (HaveOrNot what) found value st = record { messages = refl; log = refl }
+given_quiet (AddsLibrary library) found value st = added_quiet found library st
+given_quiet AddsValue found value st = linked_quiet value st
+
+-- What is done with a value is quiet.
+pub used_quiet : (form : TestForm) (value : Option (List ℕ)) (st : State) → IsQuiet st (form_used form value st)
+used_quiet form value st = given_quiet form.gives (says_found form.says value) value st
 
 if_defs : (b : Bool) (name : List ℕ) (st : State) → (defined_if b name st).defs ≡ cond b (with_entry st.defs name (codes "1")) st.defs
 if_defs true name st = refl
 if_defs false name st = refl
 
-defined_as : (listed : Listed) (entry v : List ℕ) (st : State) → (with_entry_defined listed entry (is_yes (Some v)) st).defs ≡ entry_defs listed entry (Some v) st.defs
-defined_as Header entry v st = if_defs (is_yes (Some v)) (codes "HAVE_" ++ symbol_part entry) st
-defined_as Function entry v st = if_defs (is_yes (Some v)) (codes "HAVE_" ++ symbol_part entry) st
-defined_as Declaration entry v st = refl
+added_defs : (b : Bool) (library : List ℕ) (st : State) → (with_library_if b library st).defs ≡ cond b (with_entry st.defs (codes "HAVE_LIB" ++ symbol_part library) (codes "1")) st.defs
+added_defs true library st = refl
+added_defs false library st = refl
 
--- An entry whose name has this value, once the result is printed: what is defined then.
-value_defined : (listed : Listed) (entry v : List ℕ) (st : State) → value_of st.vars (entry_name listed entry) ≡ Some v → value_of (with_entry_defined listed entry (is_yes (Some v)) st).vars (entry_name listed entry) ≡ Some v
-value_defined listed entry v st e = ap (λ l. value_of l (entry_name listed entry)) (entry_alone listed entry (is_yes (Some v)) st).vars ∙ e
+put_defs : (b : Bool) (text : List ℕ) (st : State) → (cond b (with_library text st) st).defs ≡ st.defs
+put_defs true text st = refl
+put_defs false text st = refl
 
-found_defs : (listed : Listed) (entry v : List ℕ) (st : State) → value_of st.vars (entry_name listed entry) ≡ Some v
-    → (with_entry_defined listed entry (is_yes (Some v)) st).defs ≡ entry_defs listed entry (value_of (with_entry_defined listed entry (is_yes (Some v)) st).vars (entry_name listed entry)) st.defs
-found_defs listed entry v st e = defined_as listed entry v st ∙ ap (λ o. entry_defs listed entry o st.defs) (sym (value_defined listed entry v st e))
+linked_defs : (value : Option (List ℕ)) (st : State) → (with_linked value st).defs ≡ st.defs
+linked_defs None st = refl
+linked_defs (Some value) st = put_defs (is_linked (Some value) && not (bytes_eq value (codes "none required"))) value st
 
-found_said : (listed : Listed) (entry v : List ℕ) (job : Option Job) (st : State) (before : List Note) → value_of st.vars (entry_name listed entry) ≡ Some v → st.messages ≡ (before ++ asks_line listed entry ∷ []) ++ result_line job (Some v) ∷ []
-    → (with_entry_defined listed entry (is_yes (Some v)) st).messages ≡ before ++ asks_line listed entry ∷ result_line job (value_of (with_entry_defined listed entry (is_yes (Some v)) st).vars (entry_name listed entry)) ∷ []
-found_said listed entry v job st before e m =
-    (entry_alone listed entry (is_yes (Some v)) st).messages ∙ m ∙ append_assoc before (asks_line listed entry ∷ []) (result_line job (Some v) ∷ [])
-    ∙ ap (λ o. before ++ asks_line listed entry ∷ result_line job o ∷ []) (sym (value_defined listed entry v st e))
+-- What is defined with a value.
+given_as : (gives : Gives) (found : Bool) (value : Option (List ℕ)) (st : State) → (with_given gives found value st).defs ≡ given_defs gives found st.defs
+given_as Nothing found value st = refl
+given_as (Have what) found value st = if_defs found _ st
+given_as (HaveOrNot what) found value st = refl
+given_as (AddsLibrary library) found value st = added_defs found library st
+given_as AddsValue found value st = linked_defs value st
+
+-- A test whose name has this value, once the result is printed: what is defined then.
+value_defined : (test : FormTest) (v : List ℕ) (st : State) → value_of st.vars (form_name test.form) ≡ Some v → value_of (form_used test.form (Some v) st).vars (form_name test.form) ≡ Some v
+value_defined test v st e = name_is_left test.form (Some v) st ∙ e
+
+found_defs : (test : FormTest) (v : List ℕ) (st : State) → value_of st.vars (form_name test.form) ≡ Some v
+    → (form_used test.form (Some v) st).defs ≡ form_defs test.form (value_of (form_used test.form (Some v) st).vars (form_name test.form)) st.defs
+found_defs test v st e = given_as test.form.gives (says_found test.form.says (Some v)) (Some v) st ∙ ap (λ o. form_defs test.form o st.defs) (sym (value_defined test v st e))
+
+found_said : (test : FormTest) (v : List ℕ) (job : Option Job) (st : State) (before : List Note) → value_of st.vars (form_name test.form) ≡ Some v → st.messages ≡ (before ++ asks_line test ∷ []) ++ result_line job (Some v) ∷ []
+    → (form_used test.form (Some v) st).messages ≡ before ++ asks_line test ∷ result_line job (value_of (form_used test.form (Some v) st).vars (form_name test.form)) ∷ []
+found_said test v job st before e m =
+    (used_quiet test.form (Some v) st).messages ∙ m ∙ append_assoc before (asks_line test ∷ []) (result_line job (Some v) ∷ [])
+    ∙ ap (λ o. before ++ asks_line test ∷ result_line job o ∷ []) (sym (value_defined test v st e))
 
 -- An entry whose name is unset: nothing is defined, and `refused` is printed.
-unset_defs : (listed : Listed) (entry : List ℕ) (value : Option (List ℕ)) (defs : List (List ℕ × List ℕ)) → value ≡ None → defs ≡ entry_defs listed entry value defs
-unset_defs listed entry value defs e = ap (λ o. entry_defs listed entry o defs) (sym e)
+unset_defs : (test : FormTest) (value : Option (List ℕ)) (defs : List (List ℕ × List ℕ)) → value ≡ None → defs ≡ form_defs test.form value defs
+unset_defs test value defs e = ap (λ o. form_defs test.form o defs) (sym e)
 
-unset_said : (listed : Listed) (entry : List ℕ) (job : Option Job) (value : Option (List ℕ)) (before : List Note) → value ≡ None
-    → (before ++ asks_line listed entry ∷ []) ++ piece Out (codes "refused\n") ∷ [] ≡ before ++ asks_line listed entry ∷ result_line job value ∷ []
-unset_said listed entry job value before e =
-    append_assoc before (asks_line listed entry ∷ []) (piece Out (codes "refused\n") ∷ []) ∙ ap (λ o. before ++ asks_line listed entry ∷ result_line job o ∷ []) (sym e)
+unset_said : (test : FormTest) (job : Option Job) (value : Option (List ℕ)) (before : List Note) → value ≡ None
+    → (before ++ asks_line test ∷ []) ++ piece Out (codes "refused\n") ∷ [] ≡ before ++ asks_line test ∷ result_line job value ∷ []
+unset_said test job value before e =
+    append_assoc before (asks_line test ∷ []) (piece Out (codes "refused\n") ∷ []) ∙ ap (λ o. before ++ asks_line test ∷ result_line job o ∷ []) (sym e)
 
 -- The children in the log after pieces and a child.
-abbrev begins : Batch → List ℕ → State → State
-begins batch entry now = checking (entry_message batch.listed entry) now
+abbrev begins : FormTest → State → State
+begins test now = checking (test.form.message) now
 
 told_kids : (text : List ℕ) (st : State) → children_of (with_note Out text st).log ≡ children_of st.log
 told_kids text st = said st.log (piece Out text)
 
-begins_kids : (batch : Batch) (entry : List ℕ) (now : State) → children_of (begins batch entry now).log ≡ children_of now.log
-begins_kids batch entry now = told_kids (codes "checking " ++ entry_message batch.listed entry ++ codes "... ") now
+begins_kids : (test : FormTest) (now : State) → children_of (begins test now).log ≡ children_of now.log
+begins_kids test now = told_kids (codes "checking " ++ test.form.message ++ codes "... ") now
 
-child_kids : (batch : Batch) (entry : List ℕ) (job : Job) (reply : Reply) (now : State) → children_of (with_child job reply (begins batch entry now)).log ≡ children_of now.log ++ (job, reply) ∷ []
-child_kids batch entry job reply now = added (begins batch entry now).log job reply ∙ ap (λ l. l ++ (job, reply) ∷ []) (begins_kids batch entry now)
+child_kids : (test : FormTest) (job : Job) (reply : Reply) (now : State) → children_of (with_child job reply (begins test now)).log ≡ children_of now.log ++ (job, reply) ∷ []
+child_kids test job reply now = added (begins test now).log job reply ∙ ap (λ l. l ++ (job, reply) ∷ []) (begins_kids test now)
 
-answered_kids : (batch : Batch) (entry : List ℕ) (job : Job) (reply : Reply) (b : Bool) (now : State)
-    → (let s = with_variable (entry_name batch.listed entry) (yes_or_no b) (with_child job reply (begins batch entry now)) in
-    children_of (with_entry_defined batch.listed entry (is_yes (value_of s.vars (entry_name batch.listed entry))) (with_result (unwrap_or (value_of s.vars (entry_name batch.listed entry)) []) s)).log) ≡ children_of now.log ++ (job, reply) ∷ []
-answered_kids batch entry job reply b now =
-    let s = with_variable (entry_name batch.listed entry) (yes_or_no b) (with_child job reply (begins batch entry now)) in
-    let o = value_of s.vars (entry_name batch.listed entry) in
-    ap children_of (entry_alone batch.listed entry (is_yes o) (with_result (unwrap_or o []) s)).log ∙ told_kids (unwrap_or o [] ++ codes "\n") s ∙ child_kids batch entry job reply now
+answered_kids : (test : FormTest) (job : Job) (reply : Reply) (b : Bool) (now : State)
+    → (let s = with_variable (form_name test.form) (yes_or_no b) (with_child job reply (begins test now)) in
+    children_of (form_used test.form (value_of s.vars (form_name test.form)) (with_result (unwrap_or (value_of s.vars (form_name test.form)) []) s)).log) ≡ children_of now.log ++ (job, reply) ∷ []
+answered_kids test job reply b now =
+    let s = with_variable (form_name test.form) (yes_or_no b) (with_child job reply (begins test now)) in
+    let o = value_of s.vars (form_name test.form) in
+    ap children_of (used_quiet test.form o (with_result (unwrap_or o []) s)).log ∙ told_kids (unwrap_or o [] ++ codes "\n") s ∙ child_kids test job reply now
 
-set_kids : (batch : Batch) (entry v : List ℕ) (now : State)
-    → children_of (with_entry_defined batch.listed entry (is_yes (Some v)) (with_result (codes "(cached) " ++ v) (begins batch entry now))).log ≡ children_of now.log
-set_kids batch entry v now =
-    ap children_of (entry_alone batch.listed entry (is_yes (Some v)) (with_result (codes "(cached) " ++ v) (begins batch entry now))).log
-    ∙ told_kids ((codes "(cached) " ++ v) ++ codes "\n") (begins batch entry now) ∙ begins_kids batch entry now
+set_kids : (test : FormTest) (v : List ℕ) (now : State)
+    → children_of (form_used test.form (Some v) (with_result (codes "(cached) " ++ v) (begins test now))).log ≡ children_of now.log
+set_kids test v now =
+    ap children_of (used_quiet test.form (Some v) (with_result (codes "(cached) " ++ v) (begins test now))).log
+    ∙ told_kids ((codes "(cached) " ++ v) ++ codes "\n") (begins test now) ∙ begins_kids test now
 
 abbrev pub finds : List ℕ → Option (List ℕ) → State → Run
 finds name value now = Ends Goes_on (with_value name value now)
@@ -178,72 +223,72 @@ pub unset_stops : (r : Row) (st : State) → IsUnset r.test.name st.vars → r.r
 unset_stops r st e ready = ap (λ o. tested_by (may_begin o r.ready) r st) e ∙ ap (λ b. tested_by b r st) ready
 
 -- Its name is unset after the test, too.
-still_unset : (batch : Batch) (entry : List ℕ) (now : State) → value_of now.vars (entry_name batch.listed entry) ≡ None → value_of (without_entry now.vars (entry_name batch.listed entry)) (entry_name batch.listed entry) ≡ None
-still_unset batch entry now e = ap (λ l. value_of l (entry_name batch.listed entry)) (without_unset now.vars (entry_name batch.listed entry) e) ∙ e
+still_unset : (test : FormTest) (now : State) → value_of now.vars (form_name test.form) ≡ None → value_of (without_entry now.vars (form_name test.form)) (form_name test.form) ≡ None
+still_unset test now e = ap (λ l. value_of l (form_name test.form)) (without_unset now.vars (form_name test.form) e) ∙ e
 
 -- The state in which an entry has its answer, and its end.
-abbrev heard_at : Batch → List ℕ → Job → Reply → Bool → State → State
-heard_at batch entry job reply b now = with_variable (entry_name batch.listed entry) (yes_or_no b) (with_child job reply (begins batch entry now))
+abbrev heard_at : FormTest → Job → Reply → Bool → State → State
+heard_at test job reply b now = with_variable (form_name test.form) (yes_or_no b) (with_child job reply (begins test now))
 
-abbrev ends_by : Batch → List ℕ → State → Option (List ℕ) → State
-ends_by batch entry st value = with_entry_defined batch.listed entry (is_yes value) (with_result (unwrap_or value []) st)
+abbrev ends_by : FormTest → State → Option (List ℕ) → State
+ends_by test st value = form_used test.form value (with_result (unwrap_or value []) st)
 
-answered_defs : (batch : Batch) (entry : List ℕ) (st : State) (value : Option (List ℕ)) (v : List ℕ) → value_of st.vars (entry_name batch.listed entry) ≡ Some v → value ≡ Some v
-    → (ends_by batch entry st value).defs ≡ entry_defs batch.listed entry (value_of (ends_by batch entry st value).vars (entry_name batch.listed entry)) st.defs
-answered_defs batch entry st value v e is =
-    subst (λ o. (ends_by batch entry st o).defs ≡ entry_defs batch.listed entry (value_of (ends_by batch entry st o).vars (entry_name batch.listed entry)) st.defs) (sym is)
-    (found_defs batch.listed entry v (with_result v st) e)
+answered_defs : (test : FormTest) (st : State) (value : Option (List ℕ)) (v : List ℕ) → value_of st.vars (form_name test.form) ≡ Some v → value ≡ Some v
+    → (ends_by test st value).defs ≡ form_defs test.form (value_of (ends_by test st value).vars (form_name test.form)) st.defs
+answered_defs test st value v e is =
+    subst (λ o. (ends_by test st o).defs ≡ form_defs test.form (value_of (ends_by test st o).vars (form_name test.form)) st.defs) (sym is)
+    (found_defs test v (with_result v st) e)
 
-answered_said : (batch : Batch) (entry : List ℕ) (job : Job) (st : State) (before : List Note) (value : Option (List ℕ)) (v : List ℕ) → value_of st.vars (entry_name batch.listed entry) ≡ Some v → value ≡ Some v
-    → st.messages ≡ before ++ asks_line batch.listed entry ∷ []
-    → (ends_by batch entry st value).messages ≡ before ++ asks_line batch.listed entry ∷ result_line (Some job) (value_of (ends_by batch entry st value).vars (entry_name batch.listed entry)) ∷ []
-answered_said batch entry job st before value v e is m =
-    subst (λ o. (ends_by batch entry st o).messages ≡ before ++ asks_line batch.listed entry ∷ result_line (Some job) (value_of (ends_by batch entry st o).vars (entry_name batch.listed entry)) ∷ []) (sym is)
-    (found_said batch.listed entry v (Some job) (with_result v st) before e (ap (λ l. l ++ result_line (Some job) (Some v) ∷ []) m))
+answered_said : (test : FormTest) (job : Job) (st : State) (before : List Note) (value : Option (List ℕ)) (v : List ℕ) → value_of st.vars (form_name test.form) ≡ Some v → value ≡ Some v
+    → st.messages ≡ before ++ asks_line test ∷ []
+    → (ends_by test st value).messages ≡ before ++ asks_line test ∷ result_line (Some job) (value_of (ends_by test st value).vars (form_name test.form)) ∷ []
+answered_said test job st before value v e is m =
+    subst (λ o. (ends_by test st o).messages ≡ before ++ asks_line test ∷ result_line (Some job) (value_of (ends_by test st o).vars (form_name test.form)) ∷ []) (sym is)
+    (found_said test v (Some job) (with_result v st) before e (ap (λ l. l ++ result_line (Some job) (Some v) ∷ []) m))
 
-pub one_unset : (batch : Batch) (entry : List ℕ) (job : Option Job) (reply : Reply) (first now : State) → (row_at batch entry job reply first).ready ≡ true → value_of now.vars (entry_name batch.listed entry) ≡ None
-    → One batch entry job now (tested (row_at batch entry job reply first) now) (one_flag None job reply) (one_vars None job reply (entry_name batch.listed entry) now.vars) (children_of now.log ++ one_kids None job reply)
-one_unset batch entry None reply first now ready e =
+pub one_unset : (test : FormTest) (job : Option Job) (reply : Reply) (first now : State) → IsBatched test.form → (row_at test job reply first).ready ≡ true → value_of now.vars (form_name test.form) ≡ None
+    → One test job now (tested (row_at test job reply first) now) (one_flag None job reply) (one_vars None job reply (form_name test.form) now.vars) (children_of now.log ++ one_kids None job reply)
+one_unset test None reply first now h ready e =
     record {
       end = _;
-      is = unset_run (row_at batch entry None reply first) now e ready;
-      after = without_unset now.vars (entry_name batch.listed entry) e;
-      defs = unset_defs batch.listed entry _ now.defs (still_unset batch entry now e);
-      said = unset_said batch.listed entry None _ now.messages (still_unset batch entry now e);
-      logged = told_kids (codes "refused\n") (begins batch entry now) ∙ begins_kids batch entry now ∙ sym (append-nil (children_of now.log));
+      is = unset_run (row_at test None reply first) now e ready;
+      after = without_unset now.vars (form_name test.form) e;
+      defs = unset_defs test _ now.defs (still_unset test now e);
+      said = unset_said test None _ now.messages (still_unset test now e);
+      logged = told_kids (codes "refused\n") (begins test now) ∙ begins_kids test now ∙ sym (append-nil (children_of now.log));
     }
-one_unset batch entry (Some job) (Answer status text) first now ready e =
-    let st = heard_at batch entry job (Answer status text) (status == 0) now in
-    let here = value_here now.vars (entry_name batch.listed entry) (yes_or_no (status == 0)) in
+one_unset test (Some job) (Answer status text) first now h ready e =
+    let st = heard_at test job (Answer status text) (status == 0) now in
+    let here = value_here now.vars (form_name test.form) (yes_or_no (status == 0)) in
     record {
       end = _;
-      is = unset_run (row_at batch entry (Some job) (Answer status text) first) now e ready;
-      after = (entry_alone batch.listed entry _ _).vars;
-      defs = answered_defs batch entry st (value_of st.vars (entry_name batch.listed entry)) (yes_or_no (status == 0)) here here;
-      said = answered_said batch entry job st now.messages (value_of st.vars (entry_name batch.listed entry)) (yes_or_no (status == 0)) here here refl;
-      logged = answered_kids batch entry job (Answer status text) (status == 0) now;
+      is = unset_run (row_at test (Some job) (Answer status text) first) now e ready;
+      after = h.vars _ _;
+      defs = answered_defs test st (value_of st.vars (form_name test.form)) (yes_or_no (status == 0)) here here;
+      said = answered_said test job st now.messages (value_of st.vars (form_name test.form)) (yes_or_no (status == 0)) here here refl;
+      logged = answered_kids test job (Answer status text) (status == 0) now;
     }
-one_unset batch entry (Some job) refusal first now ready e =
+one_unset test (Some job) refusal first now h ready e =
     record {
       end = _;
-      is = unset_run (row_at batch entry (Some job) refusal first) now e ready;
-      after = without_unset now.vars (entry_name batch.listed entry) e;
-      defs = unset_defs batch.listed entry _ now.defs (still_unset batch entry now e);
-      said = unset_said batch.listed entry (Some job) _ now.messages (still_unset batch entry now e);
-      logged = told_kids (codes "refused\n") (with_child job refusal (begins batch entry now)) ∙ child_kids batch entry job refusal now;
+      is = unset_run (row_at test (Some job) refusal first) now e ready;
+      after = without_unset now.vars (form_name test.form) e;
+      defs = unset_defs test _ now.defs (still_unset test now e);
+      said = unset_said test (Some job) _ now.messages (still_unset test now e);
+      logged = told_kids (codes "refused\n") (with_child job refusal (begins test now)) ∙ child_kids test job refusal now;
     }
 
-pub one_set : (batch : Batch) (entry : List ℕ) (job : Option Job) (reply : Reply) (first now : State) (v : List ℕ) → value_of now.vars (entry_name batch.listed entry) ≡ Some v
-    → One batch entry None now (tested (row_at batch entry job reply first) now) false now.vars (children_of now.log)
-one_set batch entry job reply first now v e =
-    let st = with_result (codes "(cached) " ++ v) (begins batch entry now) in
+pub one_set : (test : FormTest) (job : Option Job) (reply : Reply) (first now : State) (v : List ℕ) → IsBatched test.form → value_of now.vars (form_name test.form) ≡ Some v
+    → One test None now (tested (row_at test job reply first) now) false now.vars (children_of now.log)
+one_set test job reply first now v h e =
+    let st = with_result (codes "(cached) " ++ v) (begins test now) in
     record {
       end = _;
-      is = set_row (row_at batch entry job reply first) v now e;
-      after = (entry_alone batch.listed entry _ _).vars;
-      defs = found_defs batch.listed entry v st e;
-      said = found_said batch.listed entry v None st now.messages e refl;
-      logged = set_kids batch entry v now;
+      is = set_row (row_at test job reply first) v now e;
+      after = h.vars _ _;
+      defs = found_defs test v st e;
+      said = found_said test v None st now.messages e refl;
+      logged = set_kids test v now;
     }
 
 pub commit_one : (b refused : Bool) (run : Run) (s : State) (rest : Bool → State → Run) → run ≡ Ends (how_if b) s → commits run refused rest ≡ rest (b || refused) s
@@ -263,12 +308,12 @@ pub record Stands (earlier : List (List ℕ)) (refused : Bool) (first now : Stat
   pub kept : (n v : List ℕ) → value_of first.vars n ≡ Some v → value_of now.vars n ≡ Some v
   pub others : (n : List ℕ) → list_any (bytes_eq n) earlier ≡ false → value_of now.vars n ≡ value_of first.vars n
 
-pub record Comes (batch : Batch) (entries : List (List ℕ)) (asks : List (List ℕ × Option Job)) (replies : List Reply) (refused : Bool) (now : State) (run : Run) : Type 0 where
+pub record Comes (tests : List FormTest) (asks : List (FormTest × Option Job)) (replies : List Reply) (refused : Bool) (now : State) (run : Run) : Type 0 where
   pub end : State
   pub is : run ≡ Ends (how_if (refused || refused_in replies)) end
-  pub value : (n : List ℕ) → value_of end.vars n ≡ value_by (value_of now.vars n) (answer_to n batch asks replies)
-  pub defs : end.defs ≡ defs_all batch.listed entries (value_of end.vars) now.defs
-  pub said : end.messages ≡ now.messages ++ entry_pieces batch.listed asks (value_of end.vars)
+  pub value : (n : List ℕ) → value_of end.vars n ≡ value_by (value_of now.vars n) (answer_to n asks replies)
+  pub defs : end.defs ≡ defs_all tests (value_of end.vars) now.defs
+  pub said : end.messages ≡ now.messages ++ test_pieces asks (value_of end.vars)
   pub logged : children_of end.log ≡ children_of now.log ++ paired (jobs_in asks) replies
 
 pub or_right : (b : Bool) → b || false ≡ b
@@ -296,64 +341,64 @@ pub by_none : (o : Option (List ℕ)) → o ≡ value_by o None
 by_none None = refl
 by_none (Some v) = refl
 
-pub all_committed : (batch : Batch) (first : State) (replies : List Reply) (refused : Bool) (now : State) → committed batch first [] replies refused now ≡ Ends (how_if (refused || false)) now
-all_committed batch first replies true now = refl
-all_committed batch first replies false now = refl
+pub all_committed : (first : State) (replies : List Reply) (refused : Bool) (now : State) → committed first [] replies refused now ≡ Ends (how_if (refused || false)) now
+all_committed first replies true now = refl
+all_committed first replies false now = refl
 
 -- An entry that asks for nothing: its name is set, or was refused before.
 none_flag : (o : Option (List ℕ)) (reply : Reply) (refused : Bool) → (o ≡ None → refused ≡ true) → one_flag o None reply || refused ≡ refused
 none_flag None reply refused h = sym (h refl)
 none_flag (Some v) reply refused h = refl
 
-one_quiet : (batch : Batch) (entry : List ℕ) (reply : Reply) (first now : State) → (row_at batch entry None reply first).ready ≡ true
-    → One batch entry None now (tested (row_at batch entry None reply first) now) (one_flag (value_of now.vars (entry_name batch.listed entry)) None reply) now.vars (children_of now.log)
-one_quiet batch entry reply first now ready =
+one_quiet : (test : FormTest) (reply : Reply) (first now : State) → IsBatched test.form → (row_at test None reply first).ready ≡ true
+    → One test None now (tested (row_at test None reply first) now) (one_flag (value_of now.vars (form_name test.form)) None reply) now.vars (children_of now.log)
+one_quiet test reply first now h ready =
     ⊎_elim
-    (λ e. subst (λ o. One batch entry None now (tested (row_at batch entry None reply first) now) (one_flag o None reply) now.vars (children_of now.log)) (sym e)
-    (subst (One batch entry None now (tested (row_at batch entry None reply first) now) true now.vars) (append-nil (children_of now.log)) (one_unset batch entry None reply first now ready e)))
-    (λ s. subst (λ o. One batch entry None now (tested (row_at batch entry None reply first) now) (one_flag o None reply) now.vars (children_of now.log)) (sym s.1) (one_set batch entry None reply first now s.0 s.1))
-    (cases_value (value_of now.vars (entry_name batch.listed entry)))
+    (λ e. subst (λ o. One test None now (tested (row_at test None reply first) now) (one_flag o None reply) now.vars (children_of now.log)) (sym e)
+    (subst (One test None now (tested (row_at test None reply first) now) true now.vars) (append-nil (children_of now.log)) (one_unset test None reply first now h ready e)))
+    (λ s. subst (λ o. One test None now (tested (row_at test None reply first) now) (one_flag o None reply) now.vars (children_of now.log)) (sym s.1) (one_set test None reply first now s.0 h s.1))
+    (cases_value (value_of now.vars (form_name test.form)))
 
 -- What an entry defines and prints, and then those after it. None of them has its name.
-value_stays : (batch : Batch) (entry : List ℕ) (tail : List (List ℕ × Option Job)) (replies : List Reply) (now end : State) → answer_to (entry_name batch.listed entry) batch tail replies ≡ None
-    → value_of end.vars (entry_name batch.listed entry) ≡ value_by (value_of now.vars (entry_name batch.listed entry)) (answer_to (entry_name batch.listed entry) batch tail replies)
-    → value_of end.vars (entry_name batch.listed entry) ≡ value_of now.vars (entry_name batch.listed entry)
-value_stays batch entry tail replies now end once is =
-    is ∙ ap (value_by (value_of now.vars (entry_name batch.listed entry))) once ∙ sym (by_none (value_of now.vars (entry_name batch.listed entry)))
+value_stays : (test : FormTest) (tail : List (FormTest × Option Job)) (replies : List Reply) (now end : State) → answer_to (form_name test.form) tail replies ≡ None
+    → value_of end.vars (form_name test.form) ≡ value_by (value_of now.vars (form_name test.form)) (answer_to (form_name test.form) tail replies)
+    → value_of end.vars (form_name test.form) ≡ value_of now.vars (form_name test.form)
+value_stays test tail replies now end once is =
+    is ∙ ap (value_by (value_of now.vars (form_name test.form))) once ∙ sym (by_none (value_of now.vars (form_name test.form)))
 
-defs_joined : (batch : Batch) (entry : List ℕ) (more : List (List ℕ)) (now mid end : State) → value_of end.vars (entry_name batch.listed entry) ≡ value_of mid.vars (entry_name batch.listed entry)
-    → mid.defs ≡ entry_defs batch.listed entry (value_of mid.vars (entry_name batch.listed entry)) now.defs → end.defs ≡ defs_all batch.listed more (value_of end.vars) mid.defs
-    → end.defs ≡ defs_all batch.listed (entry ∷ more) (value_of end.vars) now.defs
-defs_joined batch entry more now mid end at_end one rest =
-    rest ∙ ap (defs_all batch.listed more (value_of end.vars)) (one ∙ ap (λ o. entry_defs batch.listed entry o now.defs) (sym at_end))
+defs_joined : (test : FormTest) (more : List FormTest) (now mid end : State) → value_of end.vars (form_name test.form) ≡ value_of mid.vars (form_name test.form)
+    → mid.defs ≡ form_defs test.form (value_of mid.vars (form_name test.form)) now.defs → end.defs ≡ defs_all more (value_of end.vars) mid.defs
+    → end.defs ≡ defs_all (test ∷ more) (value_of end.vars) now.defs
+defs_joined test more now mid end at_end one rest =
+    rest ∙ ap (defs_all more (value_of end.vars)) (one ∙ ap (λ o. form_defs test.form o now.defs) (sym at_end))
 
-said_joined : (batch : Batch) (entry : List ℕ) (job : Option Job) (tail : List (List ℕ × Option Job)) (now mid end : State) → value_of end.vars (entry_name batch.listed entry) ≡ value_of mid.vars (entry_name batch.listed entry)
-    → mid.messages ≡ now.messages ++ asks_line batch.listed entry ∷ result_line job (value_of mid.vars (entry_name batch.listed entry)) ∷ []
-    → end.messages ≡ mid.messages ++ entry_pieces batch.listed tail (value_of end.vars)
-    → end.messages ≡ now.messages ++ entry_pieces batch.listed ((entry, job) ∷ tail) (value_of end.vars)
-said_joined batch entry job tail now mid end at_end one rest =
+said_joined : (test : FormTest) (job : Option Job) (tail : List (FormTest × Option Job)) (now mid end : State) → value_of end.vars (form_name test.form) ≡ value_of mid.vars (form_name test.form)
+    → mid.messages ≡ now.messages ++ asks_line test ∷ result_line job (value_of mid.vars (form_name test.form)) ∷ []
+    → end.messages ≡ mid.messages ++ test_pieces tail (value_of end.vars)
+    → end.messages ≡ now.messages ++ test_pieces ((test, job) ∷ tail) (value_of end.vars)
+said_joined test job tail now mid end at_end one rest =
     rest
-    ∙ ap (λ l. l ++ entry_pieces batch.listed tail (value_of end.vars)) (one ∙ ap (λ o. now.messages ++ asks_line batch.listed entry ∷ result_line job o ∷ []) (sym at_end))
-    ∙ append_assoc now.messages (asks_line batch.listed entry ∷ result_line job (value_of end.vars (entry_name batch.listed entry)) ∷ []) (entry_pieces batch.listed tail (value_of end.vars))
+    ∙ ap (λ l. l ++ test_pieces tail (value_of end.vars)) (one ∙ ap (λ o. now.messages ++ asks_line test ∷ result_line job o ∷ []) (sym at_end))
+    ∙ append_assoc now.messages (asks_line test ∷ result_line job (value_of end.vars (form_name test.form)) ∷ []) (test_pieces tail (value_of end.vars))
 
-pub quiet : (batch : Batch) (entry : List ℕ) (more : List (List ℕ)) (tail : List (List ℕ × Option Job)) (replies : List Reply) (refused : Bool) (first now : State) → (row_at batch entry None (only_reply replies) first).ready ≡ true
-    → (value_of now.vars (entry_name batch.listed entry) ≡ None → refused ≡ true)
-    → answer_to (entry_name batch.listed entry) batch tail replies ≡ None
-    → ((s : State) → s.vars ≡ now.vars → Comes batch more tail replies refused s (committed batch first tail replies refused s))
-    → Comes batch (entry ∷ more) ((entry, None) ∷ tail) replies refused now (committed batch first ((entry, None) ∷ tail) replies refused now)
-quiet batch entry more tail replies refused first now ready known once rest =
-    let name = entry_name batch.listed entry in
-    let one = one_quiet batch entry (only_reply replies) first now ready in
+pub quiet : (test : FormTest) (more : List FormTest) (tail : List (FormTest × Option Job)) (replies : List Reply) (refused : Bool) (first now : State) → IsBatched test.form → (row_at test None (only_reply replies) first).ready ≡ true
+    → (value_of now.vars (form_name test.form) ≡ None → refused ≡ true)
+    → answer_to (form_name test.form) tail replies ≡ None
+    → ((s : State) → s.vars ≡ now.vars → Comes more tail replies refused s (committed first tail replies refused s))
+    → Comes (test ∷ more) ((test, None) ∷ tail) replies refused now (committed first ((test, None) ∷ tail) replies refused now)
+quiet test more tail replies refused first now is_one ready known once rest =
+    let name = form_name test.form in
+    let one = one_quiet test (only_reply replies) first now is_one ready in
     let go = rest one.end one.after in
-    let stays = value_stays batch entry tail replies one.end go.end once (go.value name) in
+    let stays = value_stays test tail replies one.end go.end once (go.value name) in
     record {
       end = go.end;
-      is = commit_one (one_flag (value_of now.vars name) None (only_reply replies)) refused _ one.end (committed batch first tail replies) one.is
-          ∙ ap (λ b. committed batch first tail replies b one.end) (none_flag (value_of now.vars name) (only_reply replies) refused known)
+      is = commit_one (one_flag (value_of now.vars name) None (only_reply replies)) refused _ one.end (committed first tail replies) one.is
+          ∙ ap (λ b. committed first tail replies b one.end) (none_flag (value_of now.vars name) (only_reply replies) refused known)
           ∙ go.is;
-      value = λ n. go.value n ∙ ap (λ l. value_by (value_of l n) (answer_to n batch tail replies)) one.after;
-      defs = defs_joined batch entry more now one.end go.end stays one.defs go.defs;
-      said = said_joined batch entry None tail now one.end go.end stays one.said go.said;
+      value = λ n. go.value n ∙ ap (λ l. value_by (value_of l n) (answer_to n tail replies)) one.after;
+      defs = defs_joined test more now one.end go.end stays one.defs go.defs;
+      said = said_joined test None tail now one.end go.end stays one.said go.said;
       logged = go.logged ∙ ap (λ l. l ++ paired (jobs_in tail) replies) one.logged;
     }
 
@@ -373,24 +418,24 @@ unset_flag (Some b) e = cc
 by_answer : (s : Option Bool) (reply : Reply) → success reply ≡ s → option_map yes_or_no s ≡ value_by None (Some reply)
 by_answer s reply e = ap (option_map yes_or_no) (sym e)
 
-pub asked : (batch : Batch) (entry : List ℕ) (job : Job) (more : List (List ℕ)) (tail : List (List ℕ × Option Job)) (r : Reply) (rs : List Reply) (refused : Bool) (first now : State) → (row_at batch entry (Some job) r first).ready ≡ true
-    → value_of now.vars (entry_name batch.listed entry) ≡ None
-    → answer_to (entry_name batch.listed entry) batch tail rs ≡ None
-    → ((s : State) → s.vars ≡ set_by (success r) (entry_name batch.listed entry) now.vars → Comes batch more tail rs (flag_of (success r) || refused) s (committed batch first tail rs (flag_of (success r) || refused) s))
-    → Comes batch (entry ∷ more) ((entry, Some job) ∷ tail) (r ∷ rs) refused now (committed batch first ((entry, Some job) ∷ tail) (r ∷ rs) refused now)
-asked batch entry job more tail r rs refused first now ready e once rest =
-    let name = entry_name batch.listed entry in
-    let one = one_unset batch entry (Some job) r first now ready e in
+pub asked : (test : FormTest) (job : Job) (more : List FormTest) (tail : List (FormTest × Option Job)) (r : Reply) (rs : List Reply) (refused : Bool) (first now : State) → IsBatched test.form → (row_at test (Some job) r first).ready ≡ true
+    → value_of now.vars (form_name test.form) ≡ None
+    → answer_to (form_name test.form) tail rs ≡ None
+    → ((s : State) → s.vars ≡ set_by (success r) (form_name test.form) now.vars → Comes more tail rs (flag_of (success r) || refused) s (committed first tail rs (flag_of (success r) || refused) s))
+    → Comes (test ∷ more) ((test, Some job) ∷ tail) (r ∷ rs) refused now (committed first ((test, Some job) ∷ tail) (r ∷ rs) refused now)
+asked test job more tail r rs refused first now is_one ready e once rest =
+    let name = form_name test.form in
+    let one = one_unset test (Some job) r first now is_one ready e in
     let go = rest one.end one.after in
-    let stays = value_stays batch entry tail rs one.end go.end once (go.value name) in
+    let stays = value_stays test tail rs one.end go.end once (go.value name) in
     record {
       end = go.end;
-      is = commit_one (flag_of (success r)) refused _ one.end (committed batch first tail rs) one.is
+      is = commit_one (flag_of (success r)) refused _ one.end (committed first tail rs) one.is
           ∙ go.is ∙ ap (λ b. Ends (how_if b) go.end) (or_swap (flag_of (success r)) refused (refused_in rs));
-      value = λ n. go.value n ∙ ap (λ l. value_by (value_of l n) (answer_to n batch tail rs)) one.after
+      value = λ n. go.value n ∙ ap (λ l. value_by (value_of l n) (answer_to n tail rs)) one.after
           ∙ ⊎_elim (λ t. here n t) (λ f. there n f) (cases_Bool (bytes_eq n name));
-      defs = defs_joined batch entry more now one.end go.end stays one.defs go.defs;
-      said = said_joined batch entry (Some job) tail now one.end go.end stays one.said go.said;
+      defs = defs_joined test more now one.end go.end stays one.defs go.defs;
+      said = said_joined test (Some job) tail now one.end go.end stays one.said go.said;
       logged = go.logged ∙ ap (λ l. l ++ paired (jobs_in tail) rs) one.logged ∙ append_assoc (children_of now.log) ((job, r) ∷ []) (paired (jobs_in tail) rs);
     }
   where
@@ -398,21 +443,21 @@ asked batch entry job more tail r rs refused first now ready e once rest =
     value_left None o h = ap (value_by None) h
     value_left (Some b) o h = refl
 
-    here : (n : List ℕ) → bytes_eq n (entry_name batch.listed entry) ≡ true
-        → value_by (value_of (set_by (success r) (entry_name batch.listed entry) now.vars) n) (answer_to n batch tail rs) ≡ value_by (value_of now.vars n) (answer_to n batch ((entry, Some job) ∷ tail) (r ∷ rs))
+    here : (n : List ℕ) → bytes_eq n (form_name test.form) ≡ true
+        → value_by (value_of (set_by (success r) (form_name test.form) now.vars) n) (answer_to n tail rs) ≡ value_by (value_of now.vars n) (answer_to n ((test, Some job) ∷ tail) (r ∷ rs))
     here n t =
-        let name = entry_name batch.listed entry in
+        let name = form_name test.form in
         let same = same_text n name t in
-        ap (λ x. value_by (value_of (set_by (success r) name now.vars) x) (answer_to x batch tail rs)) same
-        ∙ ap (λ o. value_by o (answer_to name batch tail rs)) (set_here (success r) now.vars name e)
-        ∙ value_left (success r) (answer_to name batch tail rs) once
-        ∙ sym (ap (λ x. value_by (value_of now.vars x) (answer_to n batch ((entry, Some job) ∷ tail) (r ∷ rs))) same
-        ∙ ap (λ o. value_by o (answer_to n batch ((entry, Some job) ∷ tail) (r ∷ rs))) e
-        ∙ ap (value_by None) (cond_true (bytes_eq n name) (Some r) (answer_to n batch tail rs) t))
+        ap (λ x. value_by (value_of (set_by (success r) name now.vars) x) (answer_to x tail rs)) same
+        ∙ ap (λ o. value_by o (answer_to name tail rs)) (set_here (success r) now.vars name e)
+        ∙ value_left (success r) (answer_to name tail rs) once
+        ∙ sym (ap (λ x. value_by (value_of now.vars x) (answer_to n ((test, Some job) ∷ tail) (r ∷ rs))) same
+        ∙ ap (λ o. value_by o (answer_to n ((test, Some job) ∷ tail) (r ∷ rs))) e
+        ∙ ap (value_by None) (cond_true (bytes_eq n name) (Some r) (answer_to n tail rs) t))
 
-    there : (n : List ℕ) → bytes_eq n (entry_name batch.listed entry) ≡ false
-        → value_by (value_of (set_by (success r) (entry_name batch.listed entry) now.vars) n) (answer_to n batch tail rs) ≡ value_by (value_of now.vars n) (answer_to n batch ((entry, Some job) ∷ tail) (r ∷ rs))
+    there : (n : List ℕ) → bytes_eq n (form_name test.form) ≡ false
+        → value_by (value_of (set_by (success r) (form_name test.form) now.vars) n) (answer_to n tail rs) ≡ value_by (value_of now.vars n) (answer_to n ((test, Some job) ∷ tail) (r ∷ rs))
     there n f =
-        let name = entry_name batch.listed entry in
-        ap (λ o. value_by o (answer_to n batch tail rs)) (set_there (success r) now.vars name n f)
-        ∙ ap (value_by (value_of now.vars n)) (sym (cond_false (bytes_eq n name) (Some r) (answer_to n batch tail rs) f))
+        let name = form_name test.form in
+        ap (λ o. value_by o (answer_to n tail rs)) (set_there (success r) now.vars name n f)
+        ∙ ap (value_by (value_of now.vars n)) (sym (cond_false (bytes_eq n name) (Some r) (answer_to n tail rs) f))

@@ -1,7 +1,6 @@
 -- The premises of laws can be met: one run for each, and what it leaves; and laws at work on one source.
 use Rattle.std.proofs.Common.{◌≡◌, ℕ, codes, List, [], ◌∷◌, ◌++◌, length, false, true, Some, None, ◌⊎◌, inl, inr, refl, subst, arith}
 use Rattle.std.specs.Prelude.{Option, is_some}
-use Rattle.conftest_source.specs.Sources.{type_source, second_type_source}
 use Rattle.crew_jobs.specs.Probe.{words_of, job_of}
 use Rattle.crew_trait.specs.declared.reply.Reply.{Reply}
 use Rattle.crew_trait.specs.declared.reply.Reply.TheVariants.{Answer, StartRefused}
@@ -20,13 +19,18 @@ use Rattle.ac_tree.specs.declared.statement.Effect.TheVariants as effects
 use Rattle.ac_tree.specs.Commands.{HasCommands}
 use Rattle.ac_tree.specs.Script.{Script, Done, Then, Check}
 use Rattle.meaning.specs.State.{State, opened, piece, Cut}
-use Rattle.meaning.specs.Batches.{Batch, asking, jobs_in, batched}
+use Rattle.meaning.specs.Batches.{AreBatched, asking, jobs_in, batched}
 use Rattle.meaning.specs.Directories.{directories_of}
 use Rattle.meaning.specs.Meaning.{effect, meaning}
 use Rattle.meaning.specs.Play.{cut_line, play, whole}
-use Rattle.meaning.specs.Rows.{Sized, row_of, type_job}
+use Rattle.test_forms.specs.Macros.{type_form}
+use Rattle.meaning.specs.Forms.{FormTest}
+use Rattle.meaning.specs.Entries.{tests_of}
+use Rattle.meaning.specs.Rows.{row_of, Formed}
+use Rattle.meaning.proofs.Batches.{entries_are}
+use Rattle.meaning_laws.specs.Types.{size_text, text_job, value_text}
 use Rattle.meaning.specs.Tests.{tested}
-use Rattle.meaning_laws.specs.Batched.{lacks_compiler, entry_pieces, names_asked}
+use Rattle.meaning_laws.specs.Batched.{lacks_compiler, test_pieces, names_asked}
 use Rattle.meaning_laws.specs.Cached.{IsSet}
 use Rattle.meaning_laws.specs.Deeds.{Tested, batch_deeds, deeds, Among, Accounts}
 use Rattle.meaning_laws.specs.Finished.{finish, Enough}
@@ -50,8 +54,14 @@ said_out text = piece Out text
 
 -- ---- AC_CHECK_DECLS([f, g, f, h]): f is found, g is refused, and h isn't found.
 
-abbrev declarations : Batch
-declarations = record { listed = Declaration; entries = codes "f" ∷ codes "g" ∷ codes "f" ∷ codes "h" ∷ []; includes = None }
+abbrev names : List (List ℕ)
+names = codes "f" ∷ codes "g" ∷ codes "f" ∷ codes "h" ∷ []
+
+abbrev declarations : List FormTest
+declarations = tests_of Declaration names None
+
+may_be_asked_at_once : AreBatched declarations
+may_be_asked_at_once = entries_are Declaration names None
 
 abbrev replies : List Reply
 replies = good ∷ StartRefused ∷ bad ∷ []
@@ -60,11 +70,11 @@ has_compiler : lacks_compiler start ≡ false
 unfolding words_of value_of fields parts_by
 has_compiler = refl
 
-as_many_replies : length replies ≡ length (jobs_in (asking declarations 1 [] declarations.entries start))
+as_many_replies : length replies ≡ length (jobs_in (asking 1 [] declarations start))
 unfolding words_of value_of fields parts_by job_of
 as_many_replies = refl
 
-asked_once : names_asked Declaration (asking declarations 1 [] declarations.entries start) ≡ codes "ac_cv_have_decl_f" ∷ codes "ac_cv_have_decl_g" ∷ codes "ac_cv_have_decl_h" ∷ []
+asked_once : names_asked (asking 1 [] declarations start) ≡ codes "ac_cv_have_decl_f" ∷ codes "ac_cv_have_decl_g" ∷ codes "ac_cv_have_decl_h" ∷ []
 unfolding words_of value_of fields parts_by job_of
 asked_once = refl
 
@@ -83,7 +93,7 @@ printed_so : (finish (batched declarations start) replies).state.messages ≡ de
 unfolding words_of value_of with_entry without_entry fields parts_by job_of
 printed_so = refl
 
-pieces_so : entry_pieces Declaration (asking declarations 1 [] declarations.entries start) (value_of (finish (batched declarations start) replies).state.vars) ≡ declarations_printed
+pieces_so : test_pieces (asking 1 [] declarations start) (value_of (finish (batched declarations start) replies).state.vars) ≡ declarations_printed
 unfolding words_of value_of with_entry without_entry fields parts_by job_of
 pieces_so = refl
 
@@ -104,7 +114,7 @@ no_deeds_without_compiler = refl
 -- ---- the same as a whole run
 
 abbrev script : Script
-script = Then declares.Nothing (effects.Batch Declaration declarations.entries None) Done
+script = Then declares.Nothing (effects.Batch Declaration names None) Done
 
 script_has_replies : HasReplies (played script start replies) replies
 unfolding effect meaning words_of value_of with_entry without_entry fields parts_by job_of
@@ -120,11 +130,11 @@ script_tells = refl
 
 -- ---- AC_CHECK_TYPES([t])
 
-type_has_jobs : (is_some (type_job type_source (codes "t") None start) ≡ true) × (is_some (type_job second_type_source (codes "t") None start) ≡ true)
+type_has_jobs : (is_some (text_job (size_text (codes "t")) None start) ≡ true) × (is_some (text_job (value_text (codes "t")) None start) ≡ true)
 unfolding words_of value_of fields parts_by job_of
 type_has_jobs = (refl, refl)
 
-type_is_defined : (finish (tested (row_of (Sized (codes "t") None true) start) start) (good ∷ bad ∷ [])).state.defs ≡ (codes "HAVE_T", codes "1") ∷ []
+type_is_defined : (finish (tested (row_of (Formed (record { form = type_form (codes "t") true; given = None })) start) start) (good ∷ bad ∷ [])).state.defs ≡ (codes "HAVE_T", codes "1") ∷ []
 unfolding words_of value_of with_entry without_entry fields parts_by job_of
 type_is_defined = refl
 

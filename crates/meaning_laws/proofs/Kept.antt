@@ -9,9 +9,10 @@ use Rattle.ac_tree.specs.Script.{Script}
 use Rattle.meaning.specs.State.{State, with_note, with_child, with_variable, with_definition, without_variable, How, Goes_on, Cut, Run, Ends, then_run}
 use Rattle.meaning.specs.Asking.{success, only_reply}
 use Rattle.meaning.specs.Tests.{broken, cached_test, tested_by, may_begin, tested}
-use Rattle.meaning.specs.Rows.{TestKind, Single, entry_name, name_of, row_of}
+use Rattle.meaning.specs.Rows.{TestKind, name_of, row_of, Formed}
+use Rattle.meaning.specs.Forms.{FormTest, form_name}
 use Rattle.meaning.specs.Meaning.{check, meaning}
-use Rattle.meaning.specs.Batches.{Batch, asking, jobs_in, yes_or_no, replied, replies_after, committed, batched}
+use Rattle.meaning.specs.Batches.{asking, jobs_in, yes_or_no, replied, replies_after, committed, batched}
 use Rattle.meaning_laws.specs.Ends.{AtEnds, Breaks}
 use Rattle.meaning_laws.specs.Cached.{IsSet, IsUnset, StandsOnce, UnsetIfBroken, NamesStandOnce, BrokenRowIsUnset, BrokenCheckIsUnset, SetStaysSet}
 use Rattle.meaning_laws.proofs.Values.{Entries, not_same, set_write, value_without, once_with, once_without}
@@ -63,24 +64,23 @@ replied_keeps I c name (Some job) reply st h =
     ends_heard I (λ how now. I now) (success reply) (with_child job reply st) (λ found now. Ends Goes_on (with_variable name (yes_or_no found) now)) (λ now k. k)
     (λ found now k. c.variables name (yes_or_no found) now k) (c.children job reply st h)
 
-committed_keeps : (I : State → Type 0) → Closed I → (batch : Batch) (first : State) (asks : List (List ℕ × Option Job)) (replies : List Reply) (refused : Bool) (st : State) → I st → Keeps I (committed batch first asks replies refused st)
-committed_keeps I c batch first [] replies true st h = h
-committed_keeps I c batch first [] replies false st h = h
-committed_keeps I c batch first ((entry, job) ∷ more) replies refused st h =
-    let kind = Single batch.listed entry batch.includes true in
-    let row = row_at batch entry job (only_reply replies) first in
-    ends_commits (λ how now. I now) (λ how now. I now) (tested row st) refused (committed batch first more (replies_after job replies))
-    (row_holds (KeepsFrom I) (steps_keep I c) (may_begin (value_of st.vars (entry_name batch.listed entry)) row.ready) row st
-    (λ now k. replied_keeps I c (entry_name batch.listed entry) job (only_reply replies) now k) (λ value now. after_holds (KeepsFrom I) (steps_keep I c) kind value now) h)
-    (λ how b now k. committed_keeps I c batch first more (replies_after job replies) b now k) (λ how now k. k)
+committed_keeps : (I : State → Type 0) → Closed I → (first : State) (asks : List (FormTest × Option Job)) (replies : List Reply) (refused : Bool) (st : State) → I st → Keeps I (committed first asks replies refused st)
+committed_keeps I c first [] replies true st h = h
+committed_keeps I c first [] replies false st h = h
+committed_keeps I c first ((test, job) ∷ more) replies refused st h =
+    let row = row_at test job (only_reply replies) first in
+    ends_commits (λ how now. I now) (λ how now. I now) (tested row st) refused (committed first more (replies_after job replies))
+    (row_holds (KeepsFrom I) (steps_keep I c) (may_begin (value_of st.vars (form_name test.form)) row.ready) row st
+    (λ now k. replied_keeps I c (form_name test.form) job (only_reply replies) now k) (λ value now. after_holds (KeepsFrom I) (steps_keep I c) (Formed test) value now) h)
+    (λ how b now k. committed_keeps I c first more (replies_after job replies) b now k) (λ how now k. k)
 
-batched_keeps : (I : State → Type 0) → Closed I → (batch : Batch) (st : State) → I st → Keeps I (batched batch st)
-batched_keeps I c batch st h =
-    let asks = asking batch 1 [] batch.entries st in
-    ends_asks_all (λ how now. I now) (jobs_in asks) (λ replies. committed batch st asks replies false st) (λ replies. committed_keeps I c batch st asks replies false st h)
+batched_keeps : (I : State → Type 0) → Closed I → (tests : List FormTest) (st : State) → I st → Keeps I (batched tests st)
+batched_keeps I c tests st h =
+    let asks = asking 1 [] tests st in
+    ends_asks_all (λ how now. I now) (jobs_in asks) (λ replies. committed st asks replies false st) (λ replies. committed_keeps I c st asks replies false st h)
 
 pub all_keep : (I : State → Type 0) → Closed I → AllSteps (KeepsFrom I)
-all_keep I c = record { steps = steps_keep I c; batches = batched_keeps I c }
+all_keep I c = record { steps = steps_keep I c; batches = λ tests all st h. batched_keeps I c tests st h }
 
 pub meaning_keeps : (I : State → Type 0) → Closed I → (script : Script) (st : State) → I st → Keeps I (meaning script st)
 meaning_keeps I c script st h = meaning_holds (KeepsFrom I) (all_keep I c) script st h

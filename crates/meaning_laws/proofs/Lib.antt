@@ -21,4 +21,5 @@ pub mod Refusals
 pub mod Types
 pub mod Searches
 pub mod Programs
+pub mod Singles
 mod Examples

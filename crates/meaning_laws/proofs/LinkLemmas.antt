@@ -2,9 +2,12 @@
 use Rattle.std.proofs.Common.{◌≡◌, ℕ, Option, Some, None, List, [], ◌++◌, codes, Bool, true, false, cond, refl}
 use Rattle.std.specs.Prelude.{◌&&◌, not, bytes_eq, unwrap_or}
 use Rattle.deftable.specs.Table.{value_of, with_entry}
-use Rattle.shellword.specs.declared.part.Part.{Part}
 use Rattle.meaning.specs.State.{State}
-use Rattle.meaning.specs.Rows.{Library, is_yes, is_linked, with_library, with_library_if, with_linked, after_of}
+use Rattle.test_forms.specs.declared.form.Gives.{Gives}
+use Rattle.test_forms.specs.declared.form.Gives.TheVariants.{Nothing, Have, HaveOrNot, AddsLibrary, AddsValue}
+use Rattle.test_forms.specs.declared.form.TestForm.{TestForm}
+use Rattle.meaning.specs.Forms.{form_used, is_linked, says_found, with_given, with_library, with_library_if, with_linked}
+use Rattle.meaning.proofs.Forms.{defined_vars}
 use Rattle.meaning_laws.specs.Deeds.{is_added}
 use Rattle.meaning_laws.proofs.Values.{Entries, value_there}
 
@@ -25,19 +28,22 @@ linked_vars : (b : Bool) (value : List ℕ) (st : State) → (cond b (with_libra
 linked_vars true value st = refl
 linked_vars false value st = refl
 
--- The variables after a test of one library, and after a search.
-pub checked_vars : (library function : List ℕ) (others : Option (List Part)) (adds : Bool) (value : Option (List ℕ)) (st : State)
-    → (after_of (Library library function others adds) value st).vars ≡ put_if (adds && is_yes value) (codes "-l" ++ library) st.vars
-checked_vars library function others true value st = library_vars (is_yes value) library st
-checked_vars library function others false value st = refl
-
-pub searched_vars : (value : Option (List ℕ)) (st : State) → (with_linked value st).vars ≡ put_if (is_added value) (unwrap_or value []) st.vars
+searched_vars : (value : Option (List ℕ)) (st : State) → (with_linked value st).vars ≡ put_if (is_added value) (unwrap_or value []) st.vars
 searched_vars None st = refl
 searched_vars (Some value) st = linked_vars (is_linked (Some value) && not (bytes_eq value (codes "none required"))) value st
 
--- Their names are not LIBS.
-pub checked_apart : (text : List ℕ) → bytes_eq (codes "ac_cv_lib_" ++ text) (codes "LIBS") ≡ false
-checked_apart text = refl
+-- The variables after what a form gives.
+abbrev pub given_vars : Gives → Bool → Option (List ℕ) → Entries → Entries
+given_vars (AddsLibrary library) found value vars = put_if found (codes "-l" ++ library) vars
+given_vars AddsValue found value vars = put_if (is_added value) (unwrap_or value []) vars
+given_vars other found value vars = vars
 
-pub searched_apart : (text : List ℕ) → bytes_eq (codes "ac_cv_search_" ++ text) (codes "LIBS") ≡ false
-searched_apart text = refl
+given_by : (gives : Gives) (found : Bool) (value : Option (List ℕ)) (st : State) → (with_given gives found value st).vars ≡ given_vars gives found value st.vars
+given_by Nothing found value st = refl
+given_by (Have what) found value st = defined_vars found _ st
+given_by (HaveOrNot what) found value st = refl
+given_by (AddsLibrary library) found value st = library_vars found library st
+given_by AddsValue found value st = searched_vars value st
+
+pub used_vars : (form : TestForm) (value : Option (List ℕ)) (st : State) → (form_used form value st).vars ≡ given_vars form.gives (says_found form.says value) value st.vars
+used_vars form value st = given_by form.gives (says_found form.says value) value st

@@ -4,7 +4,12 @@ use Rattle.std.specs.Prelude.{◌&&◌, not, bytes_eq, unwrap_or}
 use Rattle.deftable.specs.Table.{value_of}
 use Rattle.meaning.specs.State.{State, How, Goes_on, Completed, ended, as_is}
 use Rattle.meaning.specs.Tests.{may_begin, tested}
-use Rattle.meaning.specs.Rows.{TestKind, Library, Libraries, shell_part, is_yes, is_linked, is_found, name_of, row_of}
+use Rattle.shellword.specs.declared.part.Part.{Part}
+use Rattle.test_forms.specs.Macros.{library_form}
+use Rattle.meaning.specs.Forms.{FormTest, form_name, is_linked, is_yes, says_found}
+use Rattle.meaning.specs.Entries.{library_test, search_test}
+use Rattle.meaning.specs.Rows.{Formed, row_of}
+use Rattle.meaning.proofs.Forms.{name_apart}
 use Rattle.meaning.specs.Meaning.{found_by}
 use Rattle.meaning_laws.specs.Ends.{AtEnds, Breaks}
 use Rattle.meaning_laws.specs.Deeds.{is_added}
@@ -12,17 +17,18 @@ use Rattle.meaning_laws.specs.Questions.{yes_or_no}
 use Rattle.meaning_laws.specs.Linking.{libs_of, put_before, libs_checked, libs_searched, LibsChecked, LibsSearched}
 use Rattle.meaning_laws.proofs.Values.{Entries, value_here, value_there, cond_true, cond_false}
 use Rattle.meaning_laws.proofs.Endings.{ends_then, ends_ended}
-use Rattle.meaning_laws.proofs.LinkLemmas.{put_if, put_other, checked_apart, searched_apart}
+use Rattle.meaning_laws.proofs.LinkLemmas.{put_if, put_other}
 use Rattle.meaning_laws.proofs.TestDeeds.{TestWrites, AfterVars, KindEnds, kind_ends}
 
 -- A fact of the ends of a question, from one where it is answered and one where the run ends.
-question_ends : (kind : TestKind) (st : State) (Q : How → State → Type 0)
-    → ((mid : Entries) (now : State) → TestWrites (name_of kind) st.vars mid → AfterVars kind mid now.vars → Q (cond (is_found kind (value_of now.vars (name_of kind))) Goes_on Completed) now)
-    → ((how : How) (now : State) → Breaks how → now.vars ≡ st.vars → Q how now) → AtEnds Q (found_by as_is kind st yes_or_no)
-question_ends kind st Q on off =
-    let P = λ (how : How) (now : State). KindEnds kind st.vars how now.vars in
-    ends_then P Q (ended as_is (tested (row_of kind st) st)) _
-    (ends_ended P P as_is (tested (row_of kind st) st) (kind_ends kind st st (may_begin (value_of st.vars (name_of kind)) (row_of kind st).ready)) (λ how now h. h))
+question_ends : (t : FormTest) (st : State) (Q : How → State → Type 0)
+    → ((mid : Entries) (now : State) → TestWrites (form_name t.form) st.vars mid → AfterVars (Formed t) mid now.vars → Q (cond (says_found t.form.says (value_of now.vars (form_name t.form))) Goes_on Completed) now)
+    → ((how : How) (now : State) → Breaks how → now.vars ≡ st.vars → Q how now) → AtEnds Q (found_by as_is t st yes_or_no)
+question_ends t st Q on off =
+    let row = row_of (Formed t) st in
+    let P = λ (how : How) (now : State). KindEnds (Formed t) st.vars how now.vars in
+    ends_then P Q (ended as_is (tested row st)) _
+    (ends_ended P P as_is (tested row st) (kind_ends (Formed t) st st (may_begin (value_of st.vars (form_name t.form)) row.ready)) (λ how now h. h))
     (λ now k. let g = k.goes refl in on g.0 now g.1.0 g.1.1)
     (λ how now breaks k. off how now breaks (k.breaks breaks))
 
@@ -49,16 +55,22 @@ checked_off : (library : List ℕ) (adds : Bool) (how : How) (libs : Option (Lis
 checked_off library true Goes_on libs breaks = absurd (breaks refl)
 checked_off library _ _ libs breaks = refl
 
+-- With a library that is added, or not.
+checked_vars : (library function : List ℕ) (others : Option (List Part)) (adds : Bool) (mid now : Entries) → AfterVars (Formed (library_test library function others adds)) mid now
+    → now ≡ put_if (adds && is_yes (value_of mid (form_name (library_form library function adds)))) (codes "-l" ++ library) mid
+checked_vars library function others true mid now after = after
+checked_vars library function others false mid now after = after
+
 pub libs_are_checked : LibsChecked
 libs_are_checked library function others adds st =
-    let kind = Library library function others adds in
-    let name = name_of kind in
-    let text = shell_part (library ++ codes "_" ++ function) in
-    question_ends kind st (λ how now. libs_of now ≡ libs_checked library adds how (libs_of st))
-    (λ mid now own after.
+    let t = library_test library function others adds in
+    let name = form_name t.form in
+    question_ends t st (λ how now. libs_of now ≡ libs_checked library adds how (libs_of st))
+    (λ mid now own put.
+    let after = checked_vars library function others adds mid now.vars put in
     let found = is_yes (value_of mid name) in
     let same : value_of now.vars name ≡ value_of mid name =
-    ap (λ l. value_of l name) after ∙ put_other (adds && found) (codes "-l" ++ library) mid name (checked_apart text) in
+    ap (λ l. value_of l name) after ∙ put_other (adds && found) (codes "-l" ++ library) mid name (name_apart t.form) in
     ap (λ l. value_of l (codes "LIBS")) after
     ∙ checked_put library adds found mid
     ∙ ap (λ o. libs_checked library adds (cond (is_yes o) Goes_on Completed) (value_of mid (codes "LIBS"))) (sym same)
@@ -87,13 +99,13 @@ searched_off (Some value) _ libs breaks = refl
 
 pub libs_are_searched : LibsSearched
 libs_are_searched function libraries others st =
-    let kind = Libraries function libraries others in
-    let name = name_of kind in
-    question_ends kind st (λ how now. libs_of now ≡ libs_searched (value_of now.vars name) how (libs_of st))
+    let t = search_test function libraries others in
+    let name = form_name t.form in
+    question_ends t st (λ how now. libs_of now ≡ libs_searched (value_of now.vars name) how (libs_of st))
     (λ mid now own after.
     let o = value_of mid name in
     let same : value_of now.vars name ≡ o =
-    ap (λ l. value_of l name) after ∙ put_other (is_added o) (unwrap_or o []) mid name (searched_apart (shell_part function)) in
+    ap (λ l. value_of l name) after ∙ put_other (is_added o) (unwrap_or o []) mid name (name_apart t.form) in
     ap (λ l. value_of l (codes "LIBS")) after
     ∙ searched_put o mid
     ∙ ap (λ v. libs_searched v (cond (is_linked v) Goes_on Completed) (value_of mid (codes "LIBS"))) (sym same)

@@ -11,7 +11,8 @@ use Rattle.meaning.specs.Asking.{success, only_reply, after_child}
 use Rattle.meaning.specs.Tests.{broken}
 use Rattle.meaning.specs.Play.{first_number, refused_after, with_cut_line, cut_line, last_words}
 use Rattle.meaning.specs.Meaning.{meaning}
-use Rattle.meaning.specs.Batches.{Batch, asking, jobs_in, asks_all, committed, batched}
+use Rattle.meaning.specs.Forms.{FormTest}
+use Rattle.meaning.specs.Batches.{AreBatched, asking, jobs_in, asks_all, committed, batched}
 use Rattle.meaning_laws.specs.Logged.{children_of, paired, Logs, ChildrenAreLogged}
 use Rattle.meaning_laws.specs.Batched.{lacks_compiler}
 use Rattle.meaning_laws.proofs.BatchEntries.{said, added}
@@ -52,13 +53,13 @@ asks_all_logs : (b : List (Job × Reply)) (jobs : List Job) (next : List Reply �
 asks_all_logs b [] next h = subst (λ l. Logs l (next [])) (append-nil b) (h [] refl)
 asks_all_logs b (job ∷ jobs) next h = h
 
-batch_logs : (batch : Batch) (st : State) → Logs (kids st) (batched batch st)
-batch_logs batch st =
-    let asks = asking batch 1 [] batch.entries st in
+batch_logs : (tests : List FormTest) → AreBatched tests → (st : State) → Logs (kids st) (batched tests st)
+batch_logs tests all st =
+    let asks = asking 1 [] tests st in
     ⊎_elim
-    (λ lacks. let s = batch_stops batch st lacks in subst (Logs (kids st)) (sym s.is) s.logged)
-    (λ has. asks_all_logs (kids st) (jobs_in asks) (λ replies. committed batch st asks replies false st)
-    (λ replies len. let c = batch_commits batch st replies has len in subst (Logs (kids st ++ paired (jobs_in asks) replies)) (sym c.is) c.logged))
+    (λ lacks. let s = batch_stops tests st all lacks in subst (Logs (kids st)) (sym s.is) s.logged)
+    (λ has. asks_all_logs (kids st) (jobs_in asks) (λ replies. committed st asks replies false st)
+    (λ replies len. let c = batch_commits tests st replies all has len in subst (Logs (kids st ++ paired (jobs_in asks) replies)) (sym c.is) c.logged))
     (cases_Bool (lacks_compiler st))
 
 steps_log : AllSteps (λ st run. Logs (kids st) run)

@@ -1,5 +1,5 @@
 -- The names of tests are cache names.
-use Rattle.std.proofs.Common.{◌≡◌, ℕ, Bool, List, [], ◌∷◌, ◌++◌, codes, true, false, cond, refl, ap}
+use Rattle.std.proofs.Common.{◌≡◌, ℕ, Bool, List, [], ◌∷◌, true, false, cond, refl, ap}
 use Rattle.std.specs.Prelude.{◌&&◌, ◌||◌, ◌==◌}
 use Rattle.std.specs.Int.{is_in_range}
 use Rattle.std.specs.List.{list_all}
@@ -8,11 +8,9 @@ use Rattle.deftable.specs.CacheName.{is_cache_name, has_cv}
 use Rattle.deftable.specs.ShellName.{starts_name, continues_name, IsShellName}
 use Rattle.m4quote.specs.Names.{sh_byte}
 use Rattle.m4quote.specs.Text.{is_word_byte}
-use Rattle.ac_tree.specs.declared.listed.Listed.{Listed}
-use Rattle.ac_tree.specs.declared.listed.Listed.TheVariants.{Header, Function, Declaration}
-use Rattle.ac_tree.specs.declared.listed.Sought.{Sought}
-use Rattle.ac_tree.specs.declared.listed.Sought.TheVariants as seeks
-use Rattle.ac_tree.specs.TestNames.{shell_part, entry_name, type_name, sought_name, library_name, libraries_name, program_name, path_name}
+use Rattle.test_forms.specs.declared.form.TestForm.{TestForm}
+use Rattle.meaning.specs.Forms.{form_name}
+use Rattle.ac_tree.specs.TestNames.{shell_part, program_name, path_name}
 
 abbrev pub IsCached : List ℕ → Type 0
 IsCached name = is_cache_name name ≡ true
@@ -42,27 +40,9 @@ all_name (b ∷ bs) e =
     let h = and_parts (starts_name b) (list_all continues_name bs) e in
     and_from (continues_name b) (list_all continues_name bs) (continues_so b h.0) h.1
 
-pub entry_cached : (listed : Listed) (entry : List ℕ) → IsCached (entry_name listed entry)
+pub form_cached : (form : TestForm) → IsCached (form_name form)
 unfolding is_cache_name has_cv
-entry_cached Header entry = ap (λ b. b && true) (all_sh entry)
-entry_cached Function entry = ap (λ b. b && true) (all_sh entry)
-entry_cached Declaration entry = ap (λ b. b && true) (all_sh entry)
-
-pub type_cached : (name : List ℕ) → IsCached (type_name name)
-unfolding is_cache_name has_cv
-type_cached name = ap (λ b. b && true) (all_sh name)
-
-pub sought_cached : (sought : Sought) (entry : List ℕ) → IsCached (sought_name sought entry)
-sought_cached (seeks.ListEntry listed) entry = entry_cached listed entry
-sought_cached seeks.«Type» entry = type_cached entry
-
-pub library_cached : (library function : List ℕ) → IsCached (library_name library function)
-unfolding is_cache_name has_cv
-library_cached library function = ap (λ b. b && true) (all_sh (library ++ codes "_" ++ function))
-
-pub libraries_cached : (function : List ℕ) → IsCached (libraries_name function)
-unfolding is_cache_name has_cv
-libraries_cached function = ap (λ b. b && true) (all_sh function)
+form_cached form = ap (λ b. b && true) (all_sh form.key)
 
 pub program_cached : (variable : List ℕ) → IsShellName variable → IsCached (program_name variable)
 unfolding is_cache_name has_cv

@@ -14,11 +14,11 @@ use Rattle.shellword.specs.declared.part.Part.{Part}
 use Rattle.shellword.specs.Value.{word_value}
 use Rattle.ac_tree.specs.declared.statement.Effect.TheVariants as effects
 use Rattle.ac_tree.specs.TestNames.{program_name}
-use Rattle.meaning.specs.State.{State, piece, with_child, with_variable, Goes_on, Run, Ends, then_run, as_is}
+use Rattle.meaning.specs.State.{State, piece, with_child, with_variable, Goes_on, Run, Ends, then_run, as_is, value_or_empty}
 use Rattle.meaning.specs.Asking.{success, after_child, same, attempted}
 use Rattle.meaning.specs.Directories.{directories_of}
 use Rattle.meaning.specs.Tests.{checking, with_result, Row, tested}
-use Rattle.meaning.specs.Rows.{Program, attempts_in, value_or_empty, value_if, row_of}
+use Rattle.meaning.specs.Rows.{Program, attempts_in, value_if, row_of}
 use Rattle.meaning.specs.Meaning.{check_prog, has_value, looks_all, defaulted, effect}
 use Rattle.meaning_laws.specs.Cached.{with_cached}
 use Rattle.meaning_laws.specs.Logged.{children_of}

@@ -8,7 +8,8 @@ use Rattle.crew_trait.specs.declared.reply.Reply.{Reply}
 use Rattle.meaning.specs.State.{State, with_child, How, Goes_on, Stopped, Cut, Run, Ends, Asks, then_run, ended, as_is}
 use Rattle.meaning.specs.Asking.{success, after_child}
 use Rattle.meaning.specs.Tests.{broken}
-use Rattle.meaning.specs.Batches.{Batch, asking, jobs_in, asks_all, batched}
+use Rattle.meaning.specs.Forms.{FormTest}
+use Rattle.meaning.specs.Batches.{AreBatched, asking, jobs_in, asks_all, batched}
 use Rattle.meaning.specs.Meaning.{meaning}
 use Rattle.meaning.specs.Play.{first_refused, refused_here}
 use Rattle.meaning_laws.specs.Batched.{lacks_compiler, cut_by, all_set}
@@ -63,12 +64,12 @@ stop_tells : (goes : Bool) (st : State) → Tells false (Ends (cond goes Goes_on
 stop_tells true st = refl
 stop_tells false st = refl
 
-batch_tells : (batch : Batch) (st : State) → Tells false (batched batch st)
-batch_tells batch st =
+batch_tells : (tests : List FormTest) → AreBatched tests → (st : State) → Tells false (batched tests st)
+batch_tells tests all st =
     ⊎_elim
-    (λ e. let s = batch_stops batch st e in subst (Tells false) (sym s.is) (stop_tells (all_set batch batch.entries st) s.now))
-    (λ c. asks_tell (jobs_in (asking batch 1 [] batch.entries st)) _
-    (λ replies len. let end = batch_commits batch st replies c len in subst (Tells (refused_in replies)) (sym end.is) (cut_tells replies end.now)))
+    (λ e. let s = batch_stops tests st all e in subst (Tells false) (sym s.is) (stop_tells (all_set tests st) s.now))
+    (λ c. asks_tell (jobs_in (asking 1 [] tests st)) _
+    (λ replies len. let end = batch_commits tests st replies all c len in subst (Tells (refused_in replies)) (sym end.is) (cut_tells replies end.now)))
     (cases_Bool (lacks_compiler st))
 
 -- ---- statements

@@ -25,16 +25,20 @@ use Rattle.ac_tree.specs.declared.tree.Subject.{Subject}
 use Rattle.ac_tree.specs.declared.tree.Subject.TheVariants.{Nothing, Word, Asked}
 use Rattle.ac_tree.specs.Script.{Script, Done, Then, Choice, Check, Cases, No_case, Case}
 use Rattle.ac_tree.specs.declared.listed.Sought.{Sought}
-use Rattle.ac_tree.specs.declared.listed.Listed.TheVariants.{Header, Function, Declaration}
+use Rattle.test_forms.specs.declared.form.Gives.{Gives}
+use Rattle.test_forms.specs.declared.form.Gives.TheVariants as forms
 use Rattle.meaning.specs.State.{State, with_note, with_variable, with_definition, Scope, answered, Goes_on, Completed, Stopped, Run, Ends, Asks, then_run, as_is, ended}
 use Rattle.meaning.specs.Messages.{form_of, with_message}
 use Rattle.meaning.specs.Asking.{no_compiler, without_compiler, child, compiled, same, Attempt, attempted}
 use Rattle.meaning.specs.Tests.{Test, guarded, checking, cached_test, with_value, tested_by, may_begin, tested, Row}
-use Rattle.meaning.specs.Rows.{TestKind, Program, Single, Sized, Library, Libraries, kind_for, symbol_part, is_yes, is_linked, is_found, with_library, with_library_if, defined_if, name_of, attempts_of, otherwise_of, after_of, row_of}
+use Rattle.meaning.specs.Forms.{FormTest, defined_if, digit_of, form_name, is_linked, says_found, symbol_part, with_given, with_library, with_library_if, with_linked}
+use Rattle.meaning.specs.Entries.{sought_test, library_test, search_test, tests_of}
+use Rattle.meaning.specs.Rows.{TestKind, Program, Formed, name_of, attempts_of, otherwise_of, after_of, row_of}
 use Rattle.meaning.specs.Package.{with_package, package_string, literal, initialised}
 use Rattle.meaning.specs.Tries.{first_probe, after_first, text_of}
 use Rattle.meaning.specs.Meaning.{settled, is_unsettled, has_value, check_prog, looks, looks_all, defaulted, effect, value_name, after_option, found_by, first_found, after_question, after_subject, rounds_of, in_turn, is_taken, check, meaning, chosen}
-use Rattle.meaning.specs.Batches.{Batch, batched}
+use Rattle.meaning.specs.Batches.{AreBatched, batched}
+use Rattle.meaning.proofs.Batches.{entries_are}
 use Rattle.meaning_laws.specs.Cached.{IsUnset}
 use Rattle.meaning_laws.proofs.Values.{cases_value}
 use Rattle.meaning_laws.proofs.CachedTests.{set_cached, unset_cached}
@@ -56,10 +60,10 @@ pub record Steps (R : State → Run → Type 0) : Type 0 where
   pub guards : (name : List ℕ) (st : State) (run : Run) → IsUnset name st.vars → R st run → R st (guarded name run)
   pub joins : (st : State) (run : Run) (rest : State → Run) → R st run → ((now : State) → R now (rest now)) → R st (then_run run rest)
 
--- A batch has it, too.
+-- A batch of tests that may be in one has it, too.
 pub record AllSteps (R : State → Run → Type 0) : Type 0 where
   pub steps : Steps R
-  pub batches : (batch : Batch) (st : State) → R st (batched batch st)
+  pub batches : (tests : List FormTest) → AreBatched tests → (st : State) → R st (batched tests st)
 
 -- ---- changes
 
@@ -128,20 +132,21 @@ library_if_holds R c true library st =
     c.definitions (codes "HAVE_LIB" ++ symbol_part library) (codes "1") st (Ends Goes_on (with_library (codes "-l" ++ library) now)) (library_holds R c (codes "-l" ++ library) now)
 library_if_holds R c false library st = c.goes st
 
+linked_holds : (R : State → Run → Type 0) → Steps R → (value : Option (List ℕ)) (st : State) → R st (Ends Goes_on (with_linked value st))
+linked_holds R c None st = c.goes st
+linked_holds R c (Some value) st =
+    either_state R st (is_linked (Some value) && not (bytes_eq value (codes "none required"))) (with_library value st) st (library_holds R c value st) (c.goes st)
+
+form_holds : (R : State → Run → Type 0) → Steps R → (gives : Gives) (found : Bool) (value : Option (List ℕ)) (st : State) → R st (Ends Goes_on (with_given gives found value st))
+form_holds R c forms.Nothing found value st = c.goes st
+form_holds R c (forms.Have what) found value st = defined_holds R c found (codes "HAVE_" ++ symbol_part what) st
+form_holds R c (forms.HaveOrNot what) found value st = defines_holds R c (codes "HAVE_" ++ symbol_part what) (digit_of found) st
+form_holds R c (forms.AddsLibrary library) found value st = library_if_holds R c found library st
+form_holds R c forms.AddsValue found value st = linked_holds R c value st
+
 pub after_holds : (R : State → Run → Type 0) → Steps R → (kind : TestKind) (value : Option (List ℕ)) (st : State) → R st (Ends Goes_on (after_of kind value st))
 after_holds R c (Program s own) value st = sets_holds R c s.variable (unwrap_or value []) st
-after_holds R c (Single listed entry includes false) value st = c.goes st
-after_holds R c (Single Header entry includes true) value st = defined_holds R c (is_yes value) (codes "HAVE_" ++ symbol_part entry) st
-after_holds R c (Single Function entry includes true) value st = defined_holds R c (is_yes value) (codes "HAVE_" ++ symbol_part entry) st
-after_holds R c (Single Declaration entry includes true) value st =
-    defines_holds R c (codes "HAVE_DECL_" ++ symbol_part entry) (cond (is_yes value) (codes "1") (codes "0")) st
-after_holds R c (Sized name includes false) value st = c.goes st
-after_holds R c (Sized name includes true) value st = defined_holds R c (is_yes value) (codes "HAVE_" ++ symbol_part name) st
-after_holds R c (Library library function others false) value st = c.goes st
-after_holds R c (Library library function others true) value st = library_if_holds R c (is_yes value) library st
-after_holds R c (Libraries function libraries others) None st = c.goes st
-after_holds R c (Libraries function libraries others) (Some value) st =
-    either_state R st (is_linked (Some value) && not (bytes_eq value (codes "none required"))) (with_library value st) st (library_holds R c value st) (c.goes st)
+after_holds R c (Formed t) value st = form_holds R c t.form.gives (says_found t.form.says value) value st
 
 pub row_holds : (R : State → Run → Type 0) → Steps R → (b : Bool) (r : Row) (st : State) → ((now : State) → R now (r.test.body now)) → ((value : Option (List ℕ)) (now : State) → R now (Ends Goes_on (r.after value now))) → R st (tested_by b r st)
 row_holds R c true r st body after = c.joins st (cached_test r.test st) _ (cached_holds R c r.test st body) (λ now. after (value_of now.vars r.test.name) now)
@@ -193,7 +198,7 @@ effect_holds R a (Search variable program (Text found) otherwise) st = kind_hold
 effect_holds R a (Search variable program FullName otherwise) st = kind_holds R a.steps (Program _ _) st
 effect_holds R a (Searches variable programs otherwise) st =
     a.steps.joins st (looks_all variable programs true st) _ (looks_holds R a.steps variable programs true st) (λ now. defaulted_holds R a.steps variable (option_map (λ t. word_value t now.vars) otherwise) now)
-effect_holds R a (effects.Batch listed entries includes) st = a.batches (record { listed = listed; entries = entries; includes = includes }) st
+effect_holds R a (effects.Batch listed entries includes) st = a.batches (tests_of listed entries includes) (entries_are listed entries includes) st
 effect_holds R a Complete st =
     let first = settled (codes "prefix") (codes "/usr/local") st in
     let last = settled (codes "exec_prefix") (codes "${prefix}") first in
@@ -219,24 +224,25 @@ first_holds R children kinds_are.Link go k b st = k b st
 first_holds R children kinds_are.Preproc go k b st = k b st
 
 -- The question of a test.
-found_holds : (R : State → Run → Type 0) → Steps R → (kind : TestKind) (st : State) (go : Scope → State → Run) → ((scope : Scope) (now : State) → R now (go scope now)) → R st (found_by as_is kind st go)
-found_holds R c kind st go k =
-    c.joins st (ended as_is (tested (row_of kind st) st)) _ (subst (R st) (sym (ended_as_is (tested (row_of kind st) st))) (kind_holds R c kind st))
-    (λ now. k (answered (is_found kind (value_of now.vars (name_of kind)))) now)
+found_holds : (R : State → Run → Type 0) → Steps R → (t : FormTest) (st : State) (go : Scope → State → Run) → ((scope : Scope) (now : State) → R now (go scope now)) → R st (found_by as_is t st go)
+found_holds R c t st go k =
+    let run = tested (row_of (Formed t) st) st in
+    c.joins st (ended as_is run) _ (subst (R st) (sym (ended_as_is run)) (kind_holds R c (Formed t) st))
+    (λ now. k (answered (says_found t.form.says (value_of now.vars (form_name t.form)))) now)
 
 first_found_holds : (R : State → Run → Type 0) → Steps R → (sought : Sought) (entries : List (List ℕ)) (includes : Option (List Part)) (st : State) (go : Scope → State → Run) → ((scope : Scope) (now : State) → R now (go scope now))
     → R st (first_found as_is sought entries includes st go)
 first_found_holds R c sought [] includes st go k = k (answered false) st
-first_found_holds R c sought (entry ∷ more) includes st go k = found_holds R c (kind_for sought entry includes true) st go k
+first_found_holds R c sought (entry ∷ more) includes st go k = found_holds R c (sought_test sought entry includes true) st go k
 
 pub asked_holds : (R : State → Run → Type 0) → Steps R → (question : asks.Question) (st : State) (go : Scope → State → Run) → ((scope : Scope) (now : State) → R now (go scope now)) → R st (after_question as_is question st go)
 asked_holds R c (Given kind variable) st go k = given_holds R c (value_of st.vars variable) kind st go k
 asked_holds R c (Tries kind program) st go k =
     compiled_holds R c (job_of (first_probe kind (text_of program st.vars)) 0 st.vars st.defs) st _ (first_holds R c.children kind (λ b. go (answered b)) (λ b now. k (answered b) now))
-asked_holds R c (Checks sought entry includes) st go k = found_holds R c (kind_for sought entry includes false) st go k
+asked_holds R c (Checks sought entry includes) st go k = found_holds R c (sought_test sought entry includes false) st go k
 asked_holds R c (ChecksEach sought entries includes) st go k = first_found_holds R c sought entries includes st go k
-asked_holds R c (questions.Library library function others adds) st go k = found_holds R c (Library library function others adds) st go k
-asked_holds R c (questions.Libraries function libraries others) st go k = found_holds R c (Libraries function libraries others) st go k
+asked_holds R c (questions.Library library function others adds) st go k = found_holds R c (library_test library function others adds) st go k
+asked_holds R c (questions.Libraries function libraries others) st go k = found_holds R c (search_test function libraries others) st go k
 
 pub begun_holds : (R : State → Run → Type 0) → Steps R → (subject : Subject) (st : State) (go : Scope → State → Run) → ((scope : Scope) (now : State) → R now (go scope now)) → R st (after_subject as_is subject st go)
 unfolding after_subject

@@ -1,24 +1,27 @@
 -- What the deeds of one test account for.
 use Rattle.std.proofs.Common.{◌≡◌, ℕ, Option, Some, None, List, [], ◌∷◌, ◌++◌, codes, Bool, true, false, ◌⊎◌, inl, inr, refl, sym, ap, ◌∙◌, subst, ⊎_elim}
-use Rattle.std.specs.Prelude.{◌&&◌, bytes_eq, unwrap_or}
+use Rattle.std.specs.Prelude.{bytes_eq, unwrap_or}
 use Rattle.std.proofs.lemmas.Bool.{cases_Bool}
 use Rattle.std.proofs.lemmas.List.{append-nil}
 use Rattle.crew_trait.specs.declared.reply.Reply.{Reply}
 use Rattle.deftable.specs.Table.{value_of, with_entry}
 use Rattle.meaning.specs.State.{State, How, Goes_on, Completed}
 use Rattle.meaning.specs.Tests.{Test, checking, cached_test, tested_by, may_begin, tested}
-use Rattle.meaning.specs.Rows.{TestKind, Program, Single, Sized, Library, Libraries, entry_name, shell_part, symbol_part, is_yes, name_of, after_of, row_of, attempts_of, otherwise_of}
+use Rattle.test_forms.specs.declared.form.Gives.{Gives}
+use Rattle.test_forms.specs.declared.form.Gives.TheVariants.{Nothing, Have, HaveOrNot, AddsLibrary, AddsValue}
+use Rattle.meaning.specs.Forms.{form_name, says_found}
+use Rattle.meaning.specs.Rows.{TestKind, Program, Formed, name_of, after_of, row_of, attempts_of, otherwise_of}
+use Rattle.meaning.proofs.Forms.{name_apart}
 use Rattle.meaning.specs.Play.{play}
 use Rattle.meaning_laws.specs.Ends.{AtEnds, Breaks}
 use Rattle.meaning_laws.specs.Cached.{IsSet, IsUnset}
 use Rattle.meaning_laws.specs.Commands.{WritesOwn}
-use Rattle.meaning_laws.specs.Deeds.{Deed, Assigned, Tested, left_set, is_added, libs_if, assigned_by, kind_deeds, Accounts}
+use Rattle.meaning_laws.specs.Deeds.{Deed, Assigned, Tested, left_set, is_added, libs_if, added_deeds, assigned_by, kind_deeds, Accounts}
 use Rattle.meaning_laws.proofs.Values.{same_text, cases_value, value_here, value_there, set_write, rewritten}
 use Rattle.meaning_laws.proofs.Endings.{ends_then, ends_map, ends_attempted}
 use Rattle.meaning_laws.proofs.CachedTests.{set_cached, broken_ends, broken_vars}
 use Rattle.meaning_laws.proofs.CommandLemmas.{own_unset, row_alone}
-use Rattle.meaning_laws.proofs.BatchEntries.{if_alone, entry_alone}
-use Rattle.meaning_laws.proofs.LinkLemmas.{put_if, put_other, checked_vars, searched_vars, checked_apart, searched_apart}
+use Rattle.meaning_laws.proofs.LinkLemmas.{put_if, put_other, given_vars, used_vars}
 use Rattle.meaning_laws.proofs.DeedLemmas.{Variables, name_in, nothing, unchanged, from_test, written_or, written_here, writes, writes_more, ends_account}
 
 -- One test.
@@ -70,24 +73,13 @@ set_deeds name before mid own =
 -- How a test in a statement ends: it leaves the variables, or wrote its name alone and then what follows.
 abbrev pub AfterVars : TestKind → Variables → Variables → Type 0
 AfterVars (Program s own) mid now = (value : List ℕ) × (now ≡ with_entry mid s.variable value)
-AfterVars (Single listed entry includes defines) mid now = now ≡ mid
-AfterVars (Sized name includes defines) mid now = now ≡ mid
-AfterVars (Library library function others adds) mid now =
-    now ≡ put_if (adds && is_yes (value_of mid (name_of (Library library function others adds)))) (codes "-l" ++ library) mid
-AfterVars (Libraries function libraries others) mid now =
-    let value = value_of mid (name_of (Libraries function libraries others)) in
-    now ≡ put_if (is_added value) (unwrap_or value []) mid
+AfterVars (Formed t) mid now =
+    let value = value_of mid (form_name t.form) in
+    now ≡ given_vars t.form.gives (says_found t.form.says value) value mid
 
 after_through : (kind : TestKind) (st : State) → AfterVars kind st.vars (after_of kind (value_of st.vars (name_of kind)) st).vars
 after_through (Program s own) st = (unwrap_or (value_of st.vars s.name) [], refl)
-after_through (Single listed entry includes false) st = refl
-after_through (Single listed entry includes true) st = (entry_alone listed entry (is_yes (value_of st.vars (entry_name listed entry))) st).vars
-after_through (Sized name includes false) st = refl
-after_through (Sized name includes true) st =
-    (if_alone (is_yes (value_of st.vars (name_of (Sized name includes true)))) (codes "HAVE_" ++ symbol_part name) st).vars
-after_through (Library library function others adds) st =
-    checked_vars library function others adds (value_of st.vars (name_of (Library library function others adds))) st
-after_through (Libraries function libraries others) st = searched_vars (value_of st.vars (name_of (Libraries function libraries others))) st
+after_through (Formed t) st = used_vars t.form (value_of st.vars (form_name t.form)) st
 
 pub record KindEnds (kind : TestKind) (before : Variables) (how : How) (now : Variables) : Type 0 where
   pub breaks : Breaks how → now ≡ before
@@ -162,21 +154,22 @@ linked_accounts adds text name before mid now ne alone is =
     (subst (λ c. Accounts before (left_set name (value_of before name) (value_of (put_if b text mid) name) ++ libs_if c) (put_if b text mid)) (sym same)
     (libs_accounts b text name before mid alone))
 
+given_accounts : (gives : Gives) (found : Option (List ℕ) → Bool) (name : List ℕ) (before mid now : Variables) → bytes_eq name (codes "LIBS") ≡ false → TestWrites name before mid
+    → now ≡ given_vars gives (found (value_of mid name)) (value_of mid name) mid
+    → Accounts before (left_set name (value_of before name) (value_of now name) ++ added_deeds gives (found (value_of now name)) (value_of now name)) now
+given_accounts Nothing found name before mid now ne alone is = same_accounts name before mid now alone is
+given_accounts (Have what) found name before mid now ne alone is = same_accounts name before mid now alone is
+given_accounts (HaveOrNot what) found name before mid now ne alone is = same_accounts name before mid now alone is
+given_accounts (AddsLibrary library) found name before mid now ne alone is = linked_accounts found (codes "-l" ++ library) name before mid now ne alone is
+given_accounts AddsValue found name before mid now ne alone is = linked_accounts is_added (unwrap_or (value_of mid name) []) name before mid now ne alone is
+
 after_accounts : (kind : TestKind) (before mid now : Variables) → TestWrites (name_of kind) before mid → AfterVars kind mid now
     → Accounts before (left_set (name_of kind) (value_of before (name_of kind)) (value_of now (name_of kind)) ++ assigned_by kind (value_of now (name_of kind))) now
 after_accounts (Program s own) before mid now alone after =
     subst (λ l. Accounts before (left_set s.name (value_of before s.name) (value_of l s.name) ++ Assigned s.variable ∷ []) l) (sym after.1)
     (variable_accounts s.name s.variable after.0 before mid alone)
-after_accounts (Single listed entry includes defines) before mid now alone after =
-    same_accounts (entry_name listed entry) before mid now alone after
-after_accounts (Sized name includes defines) before mid now alone after =
-    same_accounts (codes "ac_cv_type_" ++ shell_part name) before mid now alone after
-after_accounts (Library library function others adds) before mid now alone after =
-    linked_accounts (λ value. adds && is_yes value) (codes "-l" ++ library) (name_of (Library library function others adds)) before mid now
-    (checked_apart (shell_part (library ++ codes "_" ++ function))) alone after
-after_accounts (Libraries function libraries others) before mid now alone after =
-    linked_accounts is_added (unwrap_or (value_of mid (name_of (Libraries function libraries others))) []) (name_of (Libraries function libraries others)) before mid now
-    (searched_apart (shell_part function)) alone after
+after_accounts (Formed t) before mid now alone after =
+    given_accounts t.form.gives (says_found t.form.says) (form_name t.form) before mid now (name_apart t.form) alone after
 
 pub kind_accounts : (kind : TestKind) (st : State) (rs : List Reply) → Accounts st.vars (kind_deeds kind st rs) (play (tested (row_of kind st) st) rs).state.vars
 kind_accounts kind st rs =

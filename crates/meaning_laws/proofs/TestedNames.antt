@@ -1,6 +1,6 @@
 -- The names of completed tests are cache names.
 use Rattle.std.proofs.Common.{ℕ, Option, Some, None, List, [], ◌∷◌, ◌++◌, length, take, drop, codes, Bool, true, false, cond, subst, ⊎_elim}
-use Rattle.std.specs.Prelude.{◌||◌, ◌&&◌, not, flat_map}
+use Rattle.std.specs.Prelude.{◌||◌, not, flat_map}
 use Rattle.std.specs.List.{AllByRecursion}
 use Rattle.crew_jobs.specs.declared.job.Job.{Job}
 use Rattle.crew_trait.specs.declared.reply.Reply.{Reply}
@@ -8,8 +8,6 @@ use Rattle.crew_trait.specs.declared.reply.Reply.TheVariants.{Answer, StartRefus
 use Rattle.deftable.specs.Table.{value_of}
 use Rattle.shellword.specs.declared.part.Part.{Part}
 use Rattle.shellword.specs.Value.{word_value}
-use Rattle.ac_tree.specs.declared.listed.Sought.{Sought}
-use Rattle.ac_tree.specs.declared.listed.Sought.TheVariants as seeks
 use Rattle.ac_tree.specs.declared.feature.OptionKind.{OptionKind}
 use Rattle.ac_tree.specs.declared.statement.Effect.{Effect}
 use Rattle.ac_tree.specs.declared.statement.Effect.TheVariants as effects
@@ -24,15 +22,19 @@ use Rattle.ac_tree.specs.Commands.{HasCommands, HasCommandsIn}
 use Rattle.ac_tree.specs.Script.{Script, Done, Then, Choice, Check, Cases, No_case, Case}
 use Rattle.ac_tree.specs.TestNames.{NamesVariable, HasTestNames, HasTestNamesIn}
 use Rattle.deftable.specs.ShellName.{IsShellName}
-use Rattle.meaning.specs.State.{State, Scope, no_choice, about, answered, Goes_on, Completed, Run, Ends, Asks, as_is}
+use Rattle.meaning.specs.State.{State, Scope, no_choice, about, answered, Goes_on, Completed, Run, Ends, Asks, as_is, value_or_empty}
 use Rattle.meaning.specs.Tests.{cached_test, tested}
-use Rattle.meaning.specs.Rows.{TestKind, Program, Single, Sized, Library, Libraries, kind_for, entry_name, name_of, is_yes, value_or_empty, value_if, row_of}
-use Rattle.meaning.specs.Batches.{Batch, asking}
+use Rattle.test_forms.specs.declared.form.Gives.{Gives}
+use Rattle.test_forms.specs.declared.form.Gives.TheVariants as forms
+use Rattle.meaning.specs.Forms.{FormTest, form_name, says_found}
+use Rattle.meaning.specs.Entries.{sought_test, library_test, search_test, tests_of}
+use Rattle.meaning.specs.Rows.{TestKind, Program, Formed, name_of, value_if, row_of}
+use Rattle.meaning.specs.Batches.{asking}
 use Rattle.meaning.specs.Meaning.{settled, is_unsettled, check_prog, has_value, looks, looks_all, effect, after_question, after_subject, rounds_of, in_turn, is_taken, check, meaning, chosen}
 use Rattle.meaning_laws.specs.Batched.{answer_to, names_asked}
-use Rattle.meaning_laws.specs.Deeds.{Deed, Assigned, Tested, deeds_after, left_set, is_added, libs_if, assigned_by, kind_deeds, look_deeds, looks_deeds, default_deeds, prefix_deeds, replied_deeds, effect_deeds, given_deeds, question_deeds, deeds_answered, subject_deeds, turn_deeds, check_deeds, deeds, case_deeds, Among, TestedAreCached}
+use Rattle.meaning_laws.specs.Deeds.{Deed, Assigned, Tested, deeds_after, left_set, is_added, libs_if, added_deeds, assigned_by, kind_deeds, look_deeds, looks_deeds, default_deeds, prefix_deeds, replied_deeds, effect_deeds, given_deeds, question_deeds, deeds_answered, subject_deeds, turn_deeds, check_deeds, deeds, case_deeds, Among, TestedAreCached}
 use Rattle.meaning_laws.specs.Questions.{yes_or_no}
-use Rattle.meaning_laws.proofs.Names.{IsCached, entry_cached, type_cached, library_cached, libraries_cached, program_cached, path_cached}
+use Rattle.meaning_laws.proofs.Names.{IsCached, form_cached, program_cached, path_cached}
 
 -- If the deed is a completed test, its name is a cache name.
 abbrev HasName : Deed → Type 0
@@ -70,21 +72,22 @@ of_libs : (b : Bool) → HaveNames (libs_if b)
 of_libs true = (tt, tt)
 of_libs false = tt
 
+of_added : (gives : Gives) (found : Bool) (value : Option (List ℕ)) → HaveNames (added_deeds gives found value)
+of_added (forms.AddsLibrary library) found value = of_libs found
+of_added forms.AddsValue found value = of_libs (is_added value)
+of_added _ found value = tt
+
 of_assigned : (kind : TestKind) (value : Option (List ℕ)) → HaveNames (assigned_by kind value)
 of_assigned (Program s own) value = (tt, tt)
-of_assigned (Single listed entry includes defines) value = tt
-of_assigned (Sized name includes defines) value = tt
-of_assigned (Library library function others adds) value = of_libs (adds && is_yes value)
-of_assigned (Libraries function libraries others) value = of_libs (is_added value)
+of_assigned (Formed t) value = of_added t.form.gives (says_found t.form.says value) value
 
 of_kind : (kind : TestKind) → IsCached (name_of kind) → (st : State) (rs : List Reply) → HaveNames (kind_deeds kind st rs)
 of_kind kind c st rs =
     of_after (tested (row_of kind st) st) rs _
     (λ now left. of_both (left_set (name_of kind) (value_of st.vars (name_of kind)) (value_of now.vars (name_of kind))) _ (of_left (name_of kind) c _ _) (of_assigned kind (value_of now.vars (name_of kind))))
 
-of_sought : (sought : Sought) (entry : List ℕ) (includes : Option (List Part)) (defines : Bool) (st : State) (rs : List Reply) → HaveNames (kind_deeds (kind_for sought entry includes defines) st rs)
-of_sought (seeks.ListEntry listed) entry includes defines st rs = of_kind (Single listed entry includes defines) (entry_cached listed entry) st rs
-of_sought seeks.«Type» entry includes defines st rs = of_kind (Sized entry includes defines) (type_cached entry) st rs
+of_form : (t : FormTest) (st : State) (rs : List Reply) → HaveNames (kind_deeds (Formed t) st rs)
+of_form t st rs = of_kind (Formed t) (form_cached t.form) st rs
 
 -- Statements.
 of_look : (variable program : List ℕ) (always : Bool) (st : State) (rs : List Reply) → IsShellName variable → HaveNames (look_deeds variable program always st rs)
@@ -111,12 +114,12 @@ of_reply name c (Some (Answer status text)) = (c, tt)
 of_reply name c (Some StartRefused) = tt
 of_reply name c (Some EndRefused) = tt
 
-of_asked : (batch : Batch) (asks : List (List ℕ × Option Job)) (reply : List ℕ → Option Reply) → HaveNames (flat_map (λ name. replied_deeds name (reply name)) (names_asked batch.listed asks))
-of_asked batch [] reply = tt
-of_asked batch ((entry, None) ∷ more) reply = of_asked batch more reply
-of_asked batch ((entry, Some job) ∷ more) reply =
-    let name = entry_name batch.listed entry in
-    of_both (replied_deeds name (reply name)) _ (of_reply name (entry_cached batch.listed entry) (reply name)) (of_asked batch more reply)
+of_asked : (asks : List (FormTest × Option Job)) (reply : List ℕ → Option Reply) → HaveNames (flat_map (λ name. replied_deeds name (reply name)) (names_asked asks))
+of_asked [] reply = tt
+of_asked ((test, None) ∷ more) reply = of_asked more reply
+of_asked ((test, Some job) ∷ more) reply =
+    let name = form_name test.form in
+    of_both (replied_deeds name (reply name)) _ (of_reply name (form_cached test.form) (reply name)) (of_asked more reply)
 
 of_effect : (e : Effect) (st : State) (rs : List Reply) → NamesVariable e → HaveNames (effect_deeds e st rs)
 unfolding effect_deeds
@@ -128,9 +131,8 @@ of_effect (Searches variable programs otherwise) st rs n =
     of_both (looks_deeds variable programs true st rs) _ (of_looks variable programs true st rs n)
     (of_after (looks_all variable programs true st) rs (λ now left. default_deeds variable otherwise now) (λ now left. of_default variable otherwise now))
 of_effect (effects.Batch listed entries includes) st rs n =
-    let batch : Batch = record { listed = listed; entries = entries; includes = includes } in
-    let asks = asking batch 1 [] entries st in
-    of_asked batch asks (λ name. answer_to name batch asks rs)
+    let asks = asking 1 [] (tests_of listed entries includes) st in
+    of_asked asks (λ name. answer_to name asks rs)
 of_effect Complete st rs n =
     of_both (prefix_deeds (codes "prefix") st) _ (of_prefix (codes "prefix") st) (of_prefix (codes "exec_prefix") (settled (codes "prefix") (codes "/usr/local") st))
 of_effect _ st rs n = tt
@@ -143,11 +145,11 @@ of_given (Some value) kind = (tt, tt)
 of_question : (question : asks.Question) (st : State) (rs : List Reply) → HaveNames (question_deeds question st rs)
 of_question (Given kind variable) st rs = of_given (value_of st.vars variable) kind
 of_question (Tries kind program) st rs = tt
-of_question (Checks sought entry includes) st rs = of_sought sought entry includes false st rs
+of_question (Checks sought entry includes) st rs = of_form (sought_test sought entry includes false) st rs
 of_question (ChecksEach sought [] includes) st rs = tt
-of_question (ChecksEach sought (entry ∷ more) includes) st rs = of_sought sought entry includes true st rs
-of_question (questions.Library library function others adds) st rs = of_kind (Library library function others adds) (library_cached library function) st rs
-of_question (questions.Libraries function libraries others) st rs = of_kind (Libraries function libraries others) (libraries_cached function) st rs
+of_question (ChecksEach sought (entry ∷ more) includes) st rs = of_form (sought_test sought entry includes true) st rs
+of_question (questions.Library library function others adds) st rs = of_form (library_test library function others adds) st rs
+of_question (questions.Libraries function libraries others) st rs = of_form (search_test function libraries others) st rs
 
 of_subject : (subject : Subject) (st : State) (rs : List Reply) (rest : Scope → State → List Reply → List Deed) → ((scope : Scope) (now : State) (left : List Reply) → HaveNames (rest scope now left)) → HaveNames (subject_deeds subject st rs rest)
 of_subject Nothing st rs rest h = h no_choice st rs

@@ -39,7 +39,7 @@ abbrev pub BrokenIsUnset : Type 0
 BrokenIsUnset = (test : Test) (st : State) → KeepsOnce test.name test.body
     → UnsetIfBroken test.name (cached_test test st)
 
--- The test of a kind that begins, and doesn't continue, leaves its name unset. (own)
+-- A test that begins, and doesn't continue, leaves its name unset. (own)
 abbrev pub BrokenRowIsUnset : Type 0
 BrokenRowIsUnset = (kind : TestKind) (st : State) → UnsetIfBroken (name_of kind) (tested (row_of kind st) st)
 

@@ -28,7 +28,7 @@ BrokenLeavesVariables = (test : Test) (st : State) → WritesAlone test.name tes
 abbrev pub SameIfBroken : State → Run → Type 0
 SameIfBroken st run = AtEnds (λ how now. Breaks how → (now.vars ≡ st.vars) × (now.defs ≡ st.defs)) run
 
--- The test of each kind leaves them as they were if it doesn't continue. (own)
+-- Each test leaves them as they were if it doesn't continue. (own)
 abbrev pub BrokenRowLeavesVariables : Type 0
 BrokenRowLeavesVariables = (kind : TestKind) (st : State) → SameIfBroken st (tested (row_of kind st) st)
 

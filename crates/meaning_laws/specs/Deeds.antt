@@ -21,11 +21,15 @@ use Rattle.ac_tree.specs.declared.tree.Subject.TheVariants.{Nothing, Word, Asked
 use Rattle.ac_tree.specs.Commands.{HasCommands}
 use Rattle.ac_tree.specs.Script.{Script, Done, Then, Choice, Check, Cases, No_case, Case}
 use Rattle.ac_tree.specs.TestNames.{HasTestNames}
-use Rattle.meaning.specs.State.{State, Scope, no_choice, about, answered, Goes_on, Completed, Stopped, Cut, Run, Ends, Asks, as_is}
+use Rattle.test_forms.specs.declared.form.Gives.{Gives}
+use Rattle.test_forms.specs.declared.form.Gives.TheVariants as gives
+use Rattle.meaning.specs.State.{State, Scope, no_choice, about, answered, Goes_on, Completed, Stopped, Cut, Run, Ends, Asks, as_is, value_or_empty}
 use Rattle.meaning.specs.Tests.{cached_test, tested}
 use Rattle.meaning.specs.Rows as rows
-use Rattle.meaning.specs.Rows.{TestKind, Program, Single, Sized, Library, Libraries, kind_for, name_of, is_yes, is_linked, value_or_empty, value_if, row_of}
-use Rattle.meaning.specs.Batches.{Batch, asking, batched}
+use Rattle.meaning.specs.Rows.{TestKind, Program, name_of, value_if, row_of, Formed}
+use Rattle.meaning.specs.Forms.{FormTest, is_linked, says_found}
+use Rattle.meaning.specs.Batches.{AreBatched, asking, batched}
+use Rattle.meaning.specs.Entries.{sought_test, library_test, search_test, tests_of}
 use Rattle.meaning.specs.Play.{play, whole}
 use Rattle.meaning.specs.Meaning.{settled, is_unsettled, check_prog, path_prog, has_value, is_full_name, looks, looks_all, effect, value_name, after_question, after_subject, rounds_of, in_turn, is_taken, check, meaning, chosen}
 use Rattle.meaning_laws.specs.Cached.{IsSet, IsUnset}
@@ -63,14 +67,18 @@ abbrev pub libs_if : Bool → List Deed
 libs_if true = Assigned (codes "LIBS") ∷ []
 libs_if false = []
 
--- What a kind of test assigns after its test, by the value of its name: a program's variable, and LIBS if it gets a
--- library. (Autoconf's manual, "Generic Programs" and "Library Files")
+-- What the form of a test assigns after it, by whether it has found what it looks for, and the value of its name: LIBS, if it
+-- gets a library. (Autoconf's manual, "Library Files")
+abbrev pub added_deeds : Gives → Bool → Option (List ℕ) → List Deed
+added_deeds (gives.AddsLibrary library) found value = libs_if found
+added_deeds gives.AddsValue found value = libs_if (is_added value)
+added_deeds other found value = []
+
+-- What a test assigns after it, by the value of its name: a program's variable, or what its form does. (Autoconf's manual,
+-- "Generic Programs" and "Library Files")
 abbrev pub assigned_by : TestKind → Option (List ℕ) → List Deed
 assigned_by (Program s own) value = Assigned s.variable ∷ []
-assigned_by (Single listed entry includes defines) value = []
-assigned_by (Sized name includes defines) value = []
-assigned_by (Library library function others adds) value = libs_if (adds && is_yes value)
-assigned_by (Libraries function libraries others) value = libs_if (is_added value)
+assigned_by (Formed t) value = added_deeds t.form.gives (says_found t.form.says value) value
 
 -- The deeds of a test in a statement. (own)
 abbrev pub kind_deeds : TestKind → State → List Reply → List Deed
@@ -114,10 +122,10 @@ replied_deeds name (Some StartRefused) = []
 replied_deeds name (Some EndRefused) = []
 
 -- The deeds of a batch, by the reply to each name that asks for a child. A batch that is cut has them too. (own)
-abbrev pub batch_deeds : Batch → State → List Reply → List Deed
-batch_deeds batch st replies =
-    let asks : List (List ℕ × Option Job) = asking batch 1 [] batch.entries st in
-    flat_map (λ name. replied_deeds name (answer_to name batch asks replies)) (names_asked batch.listed asks)
+abbrev pub batch_deeds : List FormTest → State → List Reply → List Deed
+batch_deeds tests st replies =
+    let asks : List (FormTest × Option Job) = asking 1 [] tests st in
+    flat_map (λ name. replied_deeds name (answer_to name asks replies)) (names_asked asks)
 
 -- The deeds of what a statement does. (own)
 unfoldable pub effect_deeds : Effect → State → List Reply → List Deed
@@ -135,7 +143,7 @@ effect_deeds (Searches variable programs otherwise) st replies =
     looks_deeds variable programs true st replies
     ++ deeds_after (looks_all variable programs true st) replies (λ now left. default_deeds variable otherwise now)
 effect_deeds (effects.Batch listed entries includes) st replies =
-    batch_deeds (record { listed = listed; entries = entries; includes = includes }) st replies
+    batch_deeds (tests_of listed entries includes) st replies
 effect_deeds Complete st replies =
     prefix_deeds (codes "prefix") st
     ++ prefix_deeds (codes "exec_prefix") (settled (codes "prefix") (codes "/usr/local") st)
@@ -149,16 +157,16 @@ given_deeds (Some value) kind = Assigned (value_name kind) ∷ []
 -- The deeds of the test of the first entry of a list. (own)
 abbrev pub first_deeds : Sought → List (List ℕ) → Option (List Part) → State → List Reply → List Deed
 first_deeds sought [] includes st replies = []
-first_deeds sought (entry ∷ more) includes st replies = kind_deeds (kind_for sought entry includes true) st replies
+first_deeds sought (entry ∷ more) includes st replies = kind_deeds (Formed (sought_test sought entry includes true)) st replies
 
 -- The deeds of a question itself: an option that is given, or a test. (own)
 abbrev pub question_deeds : asks.Question → State → List Reply → List Deed
 question_deeds (Given kind variable) st replies = given_deeds (value_of st.vars variable) kind
 question_deeds (Tries kind program) st replies = []
-question_deeds (Checks sought entry includes) st replies = kind_deeds (kind_for sought entry includes false) st replies
+question_deeds (Checks sought entry includes) st replies = kind_deeds (Formed (sought_test sought entry includes false)) st replies
 question_deeds (ChecksEach sought entries includes) st replies = first_deeds sought entries includes st replies
-question_deeds (questions.Library library function others adds) st replies = kind_deeds (Library library function others adds) st replies
-question_deeds (questions.Libraries function libraries others) st replies = kind_deeds (Libraries function libraries others) st replies
+question_deeds (questions.Library library function others adds) st replies = kind_deeds (Formed (library_test library function others adds)) st replies
+question_deeds (questions.Libraries function libraries others) st replies = kind_deeds (Formed (search_test function libraries others)) st replies
 
 -- The deeds after the answer of a question that is asked with `yes_or_no`, if there is one. (own)
 abbrev pub deeds_answered : Run → List Reply → (Scope → State → List Reply → List Deed) → List Deed
@@ -233,9 +241,9 @@ DeedsAccount = (script : Script) (st : State) (replies : List Reply) → HasComm
 -- The names whose tests a batch completes, by the replies, are exactly those that were unset when it began and that it leaves
 -- set, also if there are fewer replies than jobs, and if there is no compiler. (own)
 abbrev pub AnswersAreLeft : Type 0
-AnswersAreLeft = (batch : Batch) (st : State) (replies : List Reply) (name : List ℕ)
-    → Among (Tested name) (batch_deeds batch st replies)
-    ↔ (IsUnset name st.vars × IsSet name (play (batched batch st) replies).state.vars)
+AnswersAreLeft = (tests : List FormTest) (st : State) (replies : List Reply) (name : List ℕ) → AreBatched tests
+    → Among (Tested name) (batch_deeds tests st replies)
+    ↔ (IsUnset name st.vars × IsSet name (play (batched tests st) replies).state.vars)
 
 -- Each name that a completed test left set is a cache name. (Autoconf's manual, "Cache Variable Names")
 abbrev pub TestedAreCached : Type 0

@@ -4,7 +4,7 @@ use Rattle.deftable.specs.Table.{value_of}
 use Rattle.shellword.specs.declared.part.Part.{Part}
 use Rattle.ac_tree.specs.declared.statement.Question.TheVariants.{Library, Libraries}
 use Rattle.meaning.specs.State.{State, How, Goes_on, as_is}
-use Rattle.meaning.specs.Rows.{shell_part}
+use Rattle.meaning.specs.Forms.{shell_part}
 use Rattle.meaning.specs.Meaning.{after_question}
 use Rattle.meaning_laws.specs.Ends.{AtEnds}
 use Rattle.meaning_laws.specs.Questions.{yes_or_no}

@@ -10,10 +10,9 @@ use Rattle.shellword.specs.declared.part.Part.{Part}
 use Rattle.shellword.specs.Value.{word_value}
 use Rattle.ac_tree.specs.declared.statement.Effect.TheVariants as effects
 use Rattle.ac_tree.specs.TestNames.{program_name}
-use Rattle.meaning.specs.State.{State, Goes_on, Run, Ends}
+use Rattle.meaning.specs.State.{State, Goes_on, Run, Ends, value_or_empty}
 use Rattle.meaning.specs.Asking.{success, only_reply}
 use Rattle.meaning.specs.Directories.{directories_of}
-use Rattle.meaning.specs.Rows.{value_or_empty}
 use Rattle.meaning.specs.Meaning.{has_value, effect}
 use Rattle.meaning.specs.Play.{first_refused}
 use Rattle.meaning_laws.specs.Logged.{children_of}

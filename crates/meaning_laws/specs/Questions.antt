@@ -2,7 +2,11 @@
 use Rattle.std.specs.Prelude.{◌≡◌, ℕ, List, Option, Some, codes, if◌then◌else◌}
 use Rattle.deftable.specs.Table.{value_of}
 use Rattle.meaning.specs.State.{State, Scope, answered, How, Goes_on, Completed, Run, Ends, as_is}
-use Rattle.meaning.specs.Rows.{TestKind, Libraries, name_of, is_found, after_of, row_of}
+use Rattle.test_forms.specs.declared.form.Says.{Says}
+use Rattle.test_forms.specs.declared.form.Says.TheVariants.{Yes, AllButNo}
+use Rattle.test_forms.specs.declared.form.TestForm.{TestForm}
+use Rattle.meaning.specs.Forms.{FormTest, form_name, form_used, says_found}
+use Rattle.meaning.specs.Rows.{Formed, row_of}
 use Rattle.meaning.specs.Meaning.{found_by}
 use Rattle.meaning_laws.specs.Ends.{AtEnds}
 use Rattle.meaning_laws.specs.Cached.{with_cached}
@@ -11,28 +15,28 @@ use Rattle.meaning_laws.specs.Cached.{with_cached}
 abbrev pub yes_or_no : Scope → State → Run
 yes_or_no scope st = Ends (if scope.answer then Goes_on else Completed) st
 
--- The value of a test says that it has found what it looks for: that of a search for libraries is set and is not `no`, and
--- that of any other test is `yes`. (Autoconf's manual, "Caching Results" and "Library Files")
-abbrev pub SaysFound : TestKind → Option (List ℕ) → Type 0
-SaysFound (Libraries function libraries others) value = (text : List ℕ) × ((value ≡ Some text) × (text ≡ codes "no" → ⊥))
-SaysFound kind value = value ≡ Some (codes "yes")
+-- The value of a test says that it has found what it looks for: it is `yes`, or it is set and is not `no`, by what the form
+-- asks. (Autoconf's manual, "Caching Results" and "Library Files")
+abbrev pub SaysFound : Says → Option (List ℕ) → Type 0
+SaysFound Yes value = value ≡ Some (codes "yes")
+SaysFound AllButNo value = (text : List ℕ) × ((value ≡ Some text) × (text ≡ codes "no" → ⊥))
 
 -- If the answer is yes, the value of the test says that it has found what it looks for. If the answer is no, it doesn't.
 -- (own)
-pub record IsAnswer (kind : TestKind) (how : How) (now : State) : Type 0 where
-  pub yes : how ≡ Goes_on → SaysFound kind (value_of now.vars (name_of kind))
-  pub no : how ≡ Completed → SaysFound kind (value_of now.vars (name_of kind)) → ⊥
+pub record IsAnswer (form : TestForm) (how : How) (now : State) : Type 0 where
+  pub yes : how ≡ Goes_on → SaysFound form.says (value_of now.vars (form_name form))
+  pub no : how ≡ Completed → SaysFound form.says (value_of now.vars (form_name form)) → ⊥
 
 -- The question of a test is answered by the value that its name has when the test is over. (Autoconf's manual, "Existing
 -- Tests" and "Library Files")
 abbrev pub FoundByValue : Type 0
-FoundByValue = (kind : TestKind) (st : State) → AtEnds (λ how now. IsAnswer kind how now) (found_by as_is kind st yes_or_no)
+FoundByValue = (t : FormTest) (st : State) → AtEnds (λ how now. IsAnswer t.form how now) (found_by as_is t st yes_or_no)
 
 -- If the name is set, the question asks for nothing: it prints the value, does with it what the test does, and continues
 -- with yes if it says that the test has found what it looks for, and with no if it doesn't. A change for runs that end in
 -- the question changes nothing then. (Autoconf's manual, "Caching Results" and "Library Files")
 abbrev pub FoundByCached : Type 0
-FoundByCached = (early : How → State → State) (kind : TestKind) (value : List ℕ) (st : State) (go : Scope → State → Run)
-    → ((now : State) → early Goes_on now ≡ now) → value_of st.vars (name_of kind) ≡ Some value
-    → found_by early kind st go
-    ≡ go (answered (is_found kind (Some value))) (after_of kind (Some value) (with_cached (row_of kind st).test value st))
+FoundByCached = (early : How → State → State) (t : FormTest) (value : List ℕ) (st : State) (go : Scope → State → Run)
+    → ((now : State) → early Goes_on now ≡ now) → value_of st.vars (form_name t.form) ≡ Some value
+    → found_by early t st go
+    ≡ go (answered (says_found t.form.says (Some value))) (form_used t.form (Some value) (with_cached (row_of (Formed t) st).test value st))

@@ -1,6 +1,7 @@
 -- A law of types: which children the test of a type has, and its value by their replies.
 use Rattle.std.specs.Prelude.{◌≡◌, ℕ, Bool, true, false, List, [], ◌∷◌, ◌++◌, Option, Some, None, codes}
-use Rattle.conftest_source.specs.Sources.{type_source, second_type_source}
+use Rattle.conftest_source.specs.Sources.{program_source}
+use Rattle.crew_jobs.specs.Probe.{Compile, job_of}
 use Rattle.crew_jobs.specs.declared.job.Job.{Job}
 use Rattle.crew_trait.specs.declared.reply.Reply.{Reply}
 use Rattle.deftable.specs.Table.{value_of}
@@ -9,9 +10,24 @@ use Rattle.ac_tree.specs.TestNames.{type_name}
 use Rattle.meaning.specs.State.{State, Goes_on}
 use Rattle.meaning.specs.Asking.{success}
 use Rattle.meaning.specs.Tests.{tested}
-use Rattle.meaning.specs.Rows.{Sized, type_job, row_of}
+use Rattle.test_forms.specs.Macros.{type_form}
+use Rattle.meaning.specs.Forms.{includes_in, value_in}
+use Rattle.meaning.specs.Rows.{Formed, row_of}
 use Rattle.meaning_laws.specs.Logged.{children_of}
 use Rattle.meaning_laws.specs.Finished.{Finished, finish}
+
+-- What the first program of a type has in `main`: it takes the size of the type. (Autoconf's manual, "Generic Types")
+abbrev pub size_text : List ℕ → List ℕ
+size_text name = codes "if (sizeof (" ++ name ++ codes ")) return 0;"
+
+-- The second takes the size of the name in parentheses, which a value has. (Autoconf's manual, "Generic Types")
+abbrev pub value_text : List ℕ → List ℕ
+value_text name = codes "if (sizeof ((" ++ name ++ codes "))) return 0;"
+
+-- The job that compiles a program with this text after the includes; none if there is no compiler. (Autoconf's manual,
+-- "Generic Types")
+abbrev pub text_job : List ℕ → Option (List Part) → State → Option Job
+text_job text includes st = job_of (Compile (program_source (includes_in (value_in includes st)) text)) 0 st.vars st.defs
 
 -- The value of a type's test: `yes` if its size compiles and that of its name in parentheses doesn't, and `no` otherwise.
 -- (Autoconf's manual, "Generic Types")
@@ -37,7 +53,7 @@ pub record TypeEnds (name : List ℕ) (compiles encloses : Bool) (first second :
 abbrev pub TypeByReplies : Type 0
 TypeByReplies = (name : List ℕ) (includes : Option (List Part)) (defines : Bool) (st : State) (job second_job : Job) (reply second_reply : Reply) (compiles encloses : Bool)
     → value_of st.vars (type_name name) ≡ None
-    → type_job type_source name includes st ≡ Some job → type_job second_type_source name includes st ≡ Some second_job
+    → text_job (size_text name) includes st ≡ Some job → text_job (value_text name) includes st ≡ Some second_job
     → success reply ≡ Some compiles → success second_reply ≡ Some encloses
     → TypeEnds name compiles encloses (job, reply) (second_job, second_reply) st
-    (finish (tested (row_of (Sized name includes defines) st) st) (reply ∷ second_reply ∷ []))
+    (finish (tested (row_of (Formed (record { form = type_form name defines; given = includes })) st) st) (reply ∷ second_reply ∷ []))

@@ -7,7 +7,7 @@
 //! name alone), `specs/Questions.antt` (questions that test: their answer), `specs/Linking.antt`
 //! (tests of libraries: what they leave in LIBS), `specs/Deeds.antt` (what each name that is set at
 //! the end comes from), `specs/Logged.antt` (the children in the log), then `specs/Batched.antt`
-//! (batches: lists of tests whose children are asked for at once). `specs/Finished.antt` is a run
+//! (batches: lists of tests whose children are asked for at once, each of which may be in one). `specs/Finished.antt` is a run
 //! under given replies, with which `specs/Refusals.antt` says which runs are cut,
 //! `specs/Types.antt` what the test of a type finds, and `specs/Programs.antt` what AC_CHECK_PROGS
 //! and AC_PROG_CC find.
@@ -18,7 +18,7 @@
 //! definitions are as they were.
 #![tactic(auto)]
 
-ghost use Rattle.meaning_laws.specs.Batched.{BatchCommits, BatchAsksUnset, BatchStops, BatchKeepsSet, BatchAsksFew, BatchAsksOnce};
+ghost use Rattle.meaning_laws.specs.Batched.{BatchCommits, BatchAsksUnset, BatchStops, BatchKeepsSet, BatchAsksFew, BatchAsksOnce, EntriesAreBatched, EntriesAreSingle, SinglesAreReplied};
 ghost use Rattle.meaning_laws.specs.Cached.{NamesStandOnce, BrokenIsUnset, BrokenRowIsUnset, BrokenCheckIsUnset, SetStaysSet, SetTestsAskNothing, SetRowAsksNothing};
 ghost use Rattle.meaning_laws.specs.Commands.{BrokenLeavesVariables, BrokenRowLeavesVariables, CommandsWriteAlone, BrokenCheckLeavesVariables};
 ghost use Rattle.meaning_laws.specs.Deeds.{DeedsAccount, AnswersAreLeft, TestedAreCached};
@@ -40,7 +40,7 @@ pub fn broken_is_unset()
     ensures unset { BrokenIsUnset }
 {}
 
-/// The test of each kind leaves its name unset if it doesn't continue.
+/// Each test of a statement or a question leaves its name unset if it doesn't continue.
 pub fn broken_row_is_unset()
     ensures unset { BrokenRowIsUnset }
 {}
@@ -71,7 +71,8 @@ pub fn broken_leaves_variables()
     ensures unchanged { BrokenLeavesVariables }
 {}
 
-/// The test of each kind leaves variables and definitions as they were if it doesn't continue.
+/// Each test of a statement or a question leaves variables and definitions as they were if it doesn't
+/// continue.
 pub fn broken_row_leaves_variables()
     ensures unchanged { BrokenRowLeavesVariables }
 {}
@@ -108,8 +109,9 @@ pub fn tested_names_are_cached()
 {}
 
 /// A question of a test is answered by the cached value when the test is over: yes if it is `yes`,
-/// and no if it isn't. A search for libraries is answered with yes if it is set and is not `no`. If
-/// the name is set, the question asks for nothing, and the value that the name has decides.
+/// and no if it isn't. If the form says so, as that of a search for libraries does, the answer is
+/// yes if the value is set and is not `no`. If the name is set, the question asks for nothing, and
+/// the value that the name has decides.
 pub fn found_by_value()
     ensures value { FoundByValue }
     ensures cached { FoundByCached }
@@ -130,33 +132,46 @@ pub fn children_are_logged()
 {}
 
 /// If there is a compiler, a batch is cut exactly if one of its children is refused. Each name has
-/// its value from before, or the one that the reply to its child gives. By these values the entries
-/// are defined and printed, one after the other, and an entry whose child was refused is not
-/// defined. The children are logged in the order of the list.
+/// its value from before, or the one that the reply to its child gives. By these values the results
+/// are defined and printed, one after the other, and a test whose child was refused defines nothing.
+/// The children are logged in the order of the list.
 pub fn batch_commits()
     ensures commits { BatchCommits }
 {}
 
-/// If there is a compiler, a batch asks for a child for each name of an entry that is unset when it
+/// If there is a compiler, a batch asks for a child for each name of a test that is unset when it
 /// begins, and for no other name.
 pub fn batch_asks_unset()
     ensures unset { BatchAsksUnset }
 {}
 
 /// If there is no compiler, a batch asks for nothing and leaves the variables as they were. The run
-/// stops with status 1, unless the name of each entry is set.
+/// stops with status 1, unless the name of each test is set.
 pub fn batch_stops()
     ensures stops { BatchStops }
 {}
 
 /// If each of its names is set, a batch asks for nothing and leaves the variables as they were,
-/// whether or not there is a compiler. It defines and prints what the values say, an entry after
-/// the other.
+/// whether or not there is a compiler. It defines and prints what the values say, a test after the
+/// other.
 pub fn batch_keeps_set()
     ensures set { BatchKeepsSet }
 {}
 
-/// A batch asks for no more children than it has entries.
+/// The tests of headers, functions and declarations may be in a batch, as the other laws of batches
+/// want of each test: it has a first try, and what is done with its value sets no variable.
+pub fn entries_are_batched()
+    ensures entries { EntriesAreBatched }
+{}
+
+/// A test of one try, after which the value is `yes` or `no`, does with its reply what it does in a
+/// batch. Those of headers, functions and declarations are such tests.
+pub fn singles_are_replied()
+    ensures replied { SinglesAreReplied }
+    ensures entries { EntriesAreSingle }
+{}
+
+/// A batch asks for no more children than it has tests.
 pub fn batch_asks_few()
     ensures within { BatchAsksFew }
 {}

@@ -1,5 +1,5 @@
 -- The ends of a test of one name: its own name was written and what follows was done, or all is as before.
-use Rattle.std.proofs.Common.{◌≡◌, ℕ, List, [], ◌∷◌, ◌++◌, codes, Bool, true, false, cond, Option, Some, None, inl, inr, refl, sym, ap, ◌∙◌, subst, ⊎_elim}
+use Rattle.std.proofs.Common.{◌≡◌, ℕ, List, [], ◌∷◌, ◌++◌, map, codes, Bool, true, false, cond, Option, Some, None, inl, inr, refl, sym, ap, ◌∙◌, subst, ⊎_elim}
 use Rattle.std.specs.Prelude.{unwrap_or, not, ◌&&◌, bytes_eq}
 use Rattle.crew_jobs.specs.declared.job.Job.{Job}
 use Rattle.deftable.specs.Table.{value_of}
@@ -10,14 +10,18 @@ use Rattle.ac_tree.specs.Script.{Script}
 use Rattle.meaning.specs.State.{State, with_definition, How, Goes_on, Run, Ends, as_is}
 use Rattle.meaning.specs.Asking.{success, only_reply, compiled, same, Attempt}
 use Rattle.meaning.specs.Tests.{Test, broken, checking, cached_test, Row, tested_by, may_begin, tested, with_value, by_attempts}
-use Rattle.meaning.specs.Rows.{TestKind, Program, Single, Sized, Library, Libraries, is_yes, is_linked, symbol_part, with_library, with_library_if, with_linked, name_of, attempts_of, attempts_with, libraries_after, otherwise_of, after_of, row_of}
+use Rattle.test_forms.specs.declared.form.Gives.{Gives}
+use Rattle.test_forms.specs.declared.form.Gives.TheVariants.{Nothing, Have, HaveOrNot, AddsLibrary, AddsValue}
+use Rattle.test_forms.specs.declared.form.TryForm.{TryForm}
+use Rattle.meaning.specs.Forms.{FormTest, attempt_of_try, form_name, is_linked, says_found, symbol_part, value_in, with_given, with_library, with_library_if, with_linked}
+use Rattle.meaning.specs.Rows.{TestKind, Program, Formed, name_of, attempts_of, otherwise_of, after_of, row_of}
+use Rattle.meaning.proofs.Forms.{defined_vars}
 use Rattle.meaning.specs.Meaning.{check, meaning}
 use Rattle.meaning_laws.specs.Ends.{AtEnds, Breaks}
 use Rattle.meaning_laws.specs.Cached.{IsSet, with_cached}
 use Rattle.meaning_laws.proofs.Values.{cases_value, value_here}
 use Rattle.meaning_laws.proofs.Endings.{ends_then, ends_map, ends_either, ends_heard}
 use Rattle.meaning_laws.proofs.CachedTests.{set_cached, set_row_asks_nothing, broken_ends, broken_vars}
-use Rattle.meaning_laws.proofs.BatchEntries.{if_alone, entry_alone}
 use Rattle.meaning_laws.proofs.CommandLemmas.{OwnOnly, own_unset, broken_defs, row_alone, commands_write_alone}
 use Rattle.meaning_resumption.specs.Joint.{checks}
 use Rattle.meaning_resumption.proofs.Near.{Within, IsCached, Alike, Every, Like}
@@ -137,20 +141,18 @@ linked_values (Some value) n st c =
 -- The variable of a program is an ordinary name.
 abbrev pub PlainKind : TestKind → Type 0
 PlainKind (Program search own) = IsOrdinary search.variable
-PlainKind (Single listed entry includes defines) = Unit {0}
-PlainKind (Sized name includes defines) = Unit {0}
-PlainKind (Library library function others adds) = Unit {0}
-PlainKind (Libraries function libraries others) = Unit {0}
+PlainKind (Formed t) = Unit {0}
+
+given_values : (gives : Gives) (found : Bool) (o : Option (List ℕ)) (n : List ℕ) (st : State) → IsCached n → value_of (with_given gives found o st).vars n ≡ value_of st.vars n
+given_values Nothing found o n st c = refl
+given_values (Have what) found o n st c = ap (λ l. value_of l n) (defined_vars found _ st)
+given_values (HaveOrNot what) found o n st c = refl
+given_values (AddsLibrary library) found o n st c = if_values found library n st c
+given_values AddsValue found o n st c = linked_values o n st c
 
 pub after_values : (kind : TestKind) → PlainKind kind → (o : Option (List ℕ)) (n : List ℕ) (st : State) → IsCached n → value_of (after_of kind o st).vars n ≡ value_of st.vars n
 after_values (Program search own) p o n st c = value_else st.vars search.variable (unwrap_or o []) n (λ e. cached_apart n search.variable c p (sym e))
-after_values (Single listed entry includes true) p o n st c = ap (λ l. value_of l n) (entry_alone listed entry (is_yes o) st).vars
-after_values (Single listed entry includes false) p o n st c = refl
-after_values (Sized name includes true) p o n st c = ap (λ l. value_of l n) (if_alone (is_yes o) (codes "HAVE_" ++ symbol_part name) st).vars
-after_values (Sized name includes false) p o n st c = refl
-after_values (Library library function others true) p o n st c = if_values (is_yes o) library n st c
-after_values (Library library function others false) p o n st c = refl
-after_values (Libraries function libraries others) p o n st c = linked_values o n st c
+after_values (Formed t) p o n st c = given_values t.form.gives (says_found t.form.says o) o n st c
 
 pub row_form : (kind : TestKind) (st : State) → value_of st.vars (name_of kind) ≡ None → AtEnds (Form (after_of kind) (name_of kind) st) (tested (row_of kind st) st)
 row_form kind st none = tested_form (row_of kind st) st none (row_alone kind st (checking (row_of kind st).test.message st))
@@ -223,9 +225,9 @@ attempts_settle : (name : List ℕ) (attempts : List Attempt) (v : List ℕ) (st
 attempts_settle name [] v st g = λ e. (v, value_here st.vars name v)
 attempts_settle name (a ∷ more) v st g = job_settles name a more v st a.job g.0 (λ now. attempts_settle name more v now g.1)
 
-with_give : (function : List ℕ) (after : List ℕ) (st : State) (libraries : List (List ℕ)) → AllGive (attempts_with function after st libraries)
-with_give function after st [] = tt
-with_give function after st (library ∷ more) = ((codes "-l" ++ library, refl), with_give function after st more)
+tries_give : (entry : List ℕ) (given : Option (List ℕ)) (st : State) (tries : List TryForm) → AllGive (map (attempt_of_try entry given st.vars st.defs) tries)
+tries_give entry given st [] = tt
+tries_give entry given st (a ∷ more) = ((a.value, refl), tries_give entry given st more)
 
 row_settles : (kind : TestKind) → PlainKind kind → ((st now : State) → AtEnds (Sets_it (name_of kind)) (by_attempts (name_of kind) (attempts_of kind st) (otherwise_of kind) now)) → IsCached (name_of kind) → Settles (name_of kind) (λ st. tested (row_of kind st) st)
 row_settles kind plain body c st =
@@ -247,22 +249,7 @@ row_settles kind plain body c st =
         (λ how now breaks h e. absurd (breaks e))
     by_ready false none = λ e. cc
 
--- The kind is that of a question.
-abbrev pub IsAsked : TestKind → Type 0
-IsAsked (Program search own) = ⊥
-IsAsked (Single listed entry includes defines) = Unit {0}
-IsAsked (Sized name includes defines) = Unit {0}
-IsAsked (Library library function others adds) = Unit {0}
-IsAsked (Libraries function libraries others) = Unit {0}
-
-pub asked_settles : (kind : TestKind) → IsAsked kind → IsCached (name_of kind) → Settles (name_of kind) (λ st. tested (row_of kind st) st)
-asked_settles (Program search own) a c = absurd a
-asked_settles (Single listed entry includes defines) a c =
-    row_settles (Single listed entry includes defines) tt (λ st now. attempts_settle _ (attempts_of (Single listed entry includes defines) st) (codes "no") now ((codes "yes", refl), tt)) c
-asked_settles (Sized name includes defines) a c =
-    row_settles (Sized name includes defines) tt (λ st now. attempts_settle _ (attempts_of (Sized name includes defines) st) (codes "yes") now ((codes "no", refl), ((codes "no", refl), tt))) c
-asked_settles (Library library function others adds) a c =
-    row_settles (Library library function others adds) tt (λ st now. attempts_settle _ (attempts_of (Library library function others adds) st) (codes "no") now ((codes "yes", refl), tt)) c
-asked_settles (Libraries function libraries others) a c =
-    row_settles (Libraries function libraries others) tt
-    (λ st now. attempts_settle _ (attempts_of (Libraries function libraries others) st) (codes "no") now ((codes "none required", refl), with_give function (libraries_after others st) st libraries)) c
+-- The test of a form sets its name if it continues.
+pub formed_settles : (t : FormTest) → IsCached (form_name t.form) → Settles (form_name t.form) (λ st. tested (row_of (Formed t) st) st)
+formed_settles t c =
+    row_settles (Formed t) tt (λ st now. attempts_settle _ (attempts_of (Formed t) st) t.form.otherwise now (tries_give t.form.entry (value_in t.given st) st t.form.tries)) c

@@ -1,6 +1,6 @@
 -- States that are alike have runs that are alike: attempts, tests, and the commands of AC_CACHE_CHECK.
-use Rattle.std.proofs.Common.{◌≡◌, ℕ, List, [], ◌∷◌, ◌++◌, codes, Bool, true, false, cond, length, take, drop, Option, Some, None, inl, inr, refl, sym, ap, ◌∙◌, subst, ⊎_elim}
-use Rattle.std.specs.Prelude.{is_some, unwrap_or, not, ◌&&◌, bytes_eq, ◌==◌, option_to_list}
+use Rattle.std.proofs.Common.{◌≡◌, ℕ, List, [], ◌∷◌, ◌++◌, map, codes, Bool, true, false, cond, length, take, drop, Option, Some, None, inl, inr, refl, sym, ap, ◌∙◌, subst, ⊎_elim}
+use Rattle.std.specs.Prelude.{unwrap_or, not, ◌&&◌, bytes_eq, ◌==◌, option_to_list}
 use Rattle.crew_jobs.specs.declared.job.Job.{Job}
 use Rattle.crew_jobs.specs.Probe as probe
 use Rattle.crew_jobs.specs.Probe.{words_of, compile_words, link_words, link_words_with, preprocessor, preprocess_words, job_if, run_of, job_of}
@@ -14,8 +14,11 @@ use Rattle.shellword.specs.declared.part.Part.{Part}
 use Rattle.shellword.specs.declared.part.Part.TheVariants as parts
 use Rattle.shellword.specs.Truth.{Joined, single, joined, condition_truth, element_truth, joint_truth, truth}
 use Rattle.shellword.specs.Value.{or_empty, word_value}
-use Rattle.ac_tree.specs.declared.listed.Listed.{Listed}
-use Rattle.ac_tree.specs.declared.listed.Listed.TheVariants.{Header, Function, Declaration}
+use Rattle.test_forms.specs.declared.form.Gives.{Gives}
+use Rattle.test_forms.specs.declared.form.Gives.TheVariants as uses
+use Rattle.test_forms.specs.declared.form.Snippet.{Snippet}
+use Rattle.test_forms.specs.declared.form.Snippet.TheVariants as snippets
+use Rattle.test_forms.specs.declared.form.TryForm.{TryForm}
 use Rattle.ac_tree.specs.declared.program.Program as programs
 use Rattle.ac_tree.specs.declared.program.Program.TheVariants as texts
 use Rattle.ac_tree.specs.declared.program.Try as kinds
@@ -27,11 +30,13 @@ use Rattle.ac_tree.specs.Uses.{program_texts}
 use Rattle.meaning.specs.State.{State, with_child, with_variable, with_definition, without_variable, Scope, How, Goes_on, Completed, Stopped, Cut, Run, Ends, Asks, then_run, as_is}
 use Rattle.meaning.specs.Asking.{success, only_reply, after_child, child, compiled, same, Attempt, attempted}
 use Rattle.meaning.specs.Tests.{Test, broken, guarded, checking, with_result, cached_test, Row, tested_by, may_begin, tested, with_value, by_attempts}
-use Rattle.meaning.specs.Rows.{TestKind, Program, Single, Sized, Library, Libraries, symbol_part, includes_text, entry_probe, entry_job, type_job, others_text, libraries_after, vars_with, library_job, function_job, attempt_with, attempts_with, program_attempts, is_yes, is_linked, with_library, with_library_if, with_linked, defined_if, with_entry_defined, value_or_empty, name_of, message_of, attempts_of, otherwise_of, shown_of, is_ready, after_of, row_of}
+use Rattle.meaning.specs.Rows.{TestKind, Program, Formed, program_attempts, name_of, message_of, attempts_of, otherwise_of, shown_of, is_ready, after_of, row_of}
+use Rattle.meaning.specs.Forms.{FormTest, attempt_of_try, defined_if, digit_of, form_attempts, includes_in, is_linked, libs_with, may_start, says_found, snippet_job, symbol_part, value_in, with_given, with_library, with_library_if, with_linked}
+use Rattle.meaning.specs.Batches.{first_job, test_job}
 use Rattle.meaning.specs.Directories.{directories_of}
 use Rattle.meaning.specs.Tries.{text_of, first_probe, after_first, tried}
 use Rattle.meaning.specs.Meaning.{is_taken}
-use Rattle.conftest_source.specs.Sources.{type_source, second_type_source, function_source, program_source}
+use Rattle.conftest_source.specs.Sources.{header_source, function_source, program_source}
 use Rattle.meaning_laws.specs.Ends.{AtEnds}
 use Rattle.meaning_laws.specs.Cached.{StandsOnce, KeepsOnce}
 use Rattle.meaning_laws.proofs.Values.{cases_value, value_without, not_same, once_unset, once_with}
@@ -181,13 +186,9 @@ text_same at names (parts.Quoted b ∷ more) s t reads r h = ap (λ l. b ∷ l) 
 text_same at names (parts.Variable name ∷ more) s t reads r h =
     ap (λ o. or_empty o ++ word_value more s.vars) (h.value name (reads name r.0)) ∙ ap (λ l. or_empty (value_of t.vars name) ++ l) (text_same at names more s t reads r.1 h)
 
-pub includes_same : (at : List ℕ → Type 0) (names : List (List ℕ)) (text : Option (List Part)) (s t : State) → Reads at names → ReadsAll names (option_to_list text) → Alike at s t → includes_text text s.vars ≡ includes_text text t.vars
-includes_same at names None s t reads r h = refl
-includes_same at names (Some text) s t reads r h = text_same at names text s t reads r.0 h
-
-others_same : (at : List ℕ → Type 0) (names : List (List ℕ)) (text : Option (List Part)) (s t : State) → Reads at names → ReadsAll names (option_to_list text) → Alike at s t → others_text text s.vars ≡ others_text text t.vars
-others_same at names None s t reads r h = refl
-others_same at names (Some text) s t reads r h = text_same at names text s t reads r.0 h
+pub given_same : (at : List ℕ → Type 0) (names : List (List ℕ)) (text : Option (List Part)) (s t : State) → Reads at names → ReadsAll names (option_to_list text) → Alike at s t → value_in text s ≡ value_in text t
+given_same at names None s t reads r h = refl
+given_same at names (Some text) s t reads r h = ap Some (text_same at names text s t reads r.0 h)
 
 program_same : (at : List ℕ → Type 0) (names : List (List ℕ)) (program : programs.Program) (s t : State) → Reads at names → ReadsAll names (program_texts program) → Alike at s t → text_of program s.vars ≡ text_of program t.vars
 program_same at names (texts.Program prologue body) s t reads r h =
@@ -294,68 +295,62 @@ job_same (probe.Find file) number s t d d2 h e = refl
 
 -- ---- rows
 
--- Each variable of the texts of a kind may be read.
+-- Each variable of the text that a test was given may be read.
 abbrev pub ReadsKind : List (List ℕ) → TestKind → Type 0
 ReadsKind names (Program s own) = Unit {0}
-ReadsKind names (Single listed entry includes defines) = ReadsAll names (option_to_list includes)
-ReadsKind names (Sized name includes defines) = ReadsAll names (option_to_list includes)
-ReadsKind names (Library library function others adds) = ReadsAll names (option_to_list others)
-ReadsKind names (Libraries function libraries others) = ReadsAll names (option_to_list others)
+ReadsKind names (Formed t) = ReadsAll names (option_to_list t.given)
 
 ordinary_of : (at : List ℕ → Type 0) (names : List (List ℕ)) → Reads at names → (n : List ℕ) → IsOrdinary n → at n
 ordinary_of at names reads n p = reads n (inl p)
 
-pub entry_same : (at : List ℕ → Type 0) (names : List (List ℕ)) (listed : Listed) (entry : List ℕ) (includes : Option (List Part)) (number : ℕ) (s t : State) → Reads at names → ReadsAll names (option_to_list includes) → Alike at s t → entry_job listed entry includes number s ≡ entry_job listed entry includes number t
-entry_same at names listed entry includes number s t reads r h =
-    ap (λ x. job_of (entry_probe listed entry x) number s.vars s.defs) (includes_same at names includes s t reads r h)
-    ∙ job_same (entry_probe listed entry (includes_text includes t.vars)) number s.vars t.vars s.defs t.defs (tools_same at s t (ordinary_of at names reads) h) h.defs
+libs_same : (at : List ℕ → Type 0) (library : List ℕ) (given : Option (List ℕ)) (s t : State) → ((n : List ℕ) → IsOrdinary n → at n) → Alike at s t → libs_with library given s.vars ≡ libs_with library given t.vars
+libs_same at library given s t ordinary h =
+    ap (λ o. codes "-l" ++ library ++ codes " " ++ (unwrap_or given [] ++ codes " " ++ unwrap_or o [])) (h.value (codes "LIBS") (ordinary (codes "LIBS") libs_plain))
 
-type_same : (at : List ℕ → Type 0) (names : List (List ℕ)) (program : List ℕ → List ℕ → List ℕ) (name : List ℕ) (includes : Option (List Part)) (s t : State) → Reads at names → ReadsAll names (option_to_list includes) → Alike at s t → type_job program name includes s ≡ type_job program name includes t
-type_same at names program name includes s t reads r h =
-    ap (λ x. job_of (probe.Compile (program x name)) 0 s.vars s.defs) (includes_same at names includes s t reads r h)
-    ∙ job_same (probe.Compile (program (includes_text includes t.vars) name)) 0 s.vars t.vars s.defs t.defs (tools_same at s t (ordinary_of at names reads) h) h.defs
+snippet_same : (at : List ℕ → Type 0) (snippet : Snippet) (entry : List ℕ) (given : Option (List ℕ)) (number : ℕ) (s t : State) → ((n : List ℕ) → IsOrdinary n → at n) → Alike at s t
+    → snippet_job snippet entry given number s.vars s.defs ≡ snippet_job snippet entry given number t.vars t.defs
+snippet_same at snippets.Header entry given number s t ordinary h =
+    job_same (probe.Compile (header_source (includes_in given) entry)) number s.vars t.vars s.defs t.defs (tools_same at s t ordinary h) h.defs
+snippet_same at snippets.Function entry given number s t ordinary h =
+    job_same (probe.Link (function_source entry)) number s.vars t.vars s.defs t.defs (tools_same at s t ordinary h) h.defs
+snippet_same at (snippets.Library library) entry given number s t ordinary h =
+    let libs = libs_with library given s.vars in
+    job_same (probe.Link (function_source entry)) number (with_entry s.vars (codes "LIBS") libs) (with_entry t.vars (codes "LIBS") libs) s.defs t.defs (tools_with s.vars t.vars libs (tools_same at s t ordinary h)) h.defs
+    ∙ ap (λ x. job_of (probe.Link (function_source entry)) number (with_entry t.vars (codes "LIBS") x) t.defs) (libs_same at library given s t ordinary h)
+snippet_same at (snippets.Body text) entry given number s t ordinary h =
+    job_same (probe.Compile (program_source (includes_in given) text)) number s.vars t.vars s.defs t.defs (tools_same at s t ordinary h) h.defs
 
-linked_same : (at : List ℕ → Type 0) (names : List (List ℕ)) (others : Option (List Part)) (s t : State) → Reads at names → ReadsAll names (option_to_list others) → Alike at s t → libraries_after others s ≡ libraries_after others t
-linked_same at names others s t reads r h =
-    ap (λ x. x ++ codes " " ++ value_or_empty s (codes "LIBS")) (others_same at names others s t reads r h)
-    ∙ ap (λ o. others_text others t.vars ++ codes " " ++ unwrap_or o []) (h.value (codes "LIBS") (reads (codes "LIBS") (inl libs_plain)))
+-- The job of the first try.
+first_same : (at : List ℕ → Type 0) (tries : List TryForm) (entry : List ℕ) (given : Option (List ℕ)) (number : ℕ) (s t : State) → ((n : List ℕ) → IsOrdinary n → at n) → Alike at s t
+    → first_job tries entry given number s.vars s.defs ≡ first_job tries entry given number t.vars t.defs
+first_same at [] entry given number s t ordinary h = refl
+first_same at (a ∷ more) entry given number s t ordinary h = snippet_same at a.snippet entry given number s t ordinary h
 
-library_same : (at : List ℕ → Type 0) (function library : List ℕ) (a b : List ℕ) (s t : State) → ((n : List ℕ) → IsOrdinary n → at n) → a ≡ b → Alike at s t → library_job function library a s ≡ library_job function library b t
-library_same at function library a b s t ordinary e h =
-    ap (λ x. library_job function library x s) e
-    ∙ job_same (probe.Link (function_source function)) 0 (vars_with library b s) (vars_with library b t) s.defs t.defs (tools_with s.vars t.vars (codes "-l" ++ library ++ codes " " ++ b) (tools_same at s t ordinary h)) h.defs
+pub test_job_same : (at : List ℕ → Type 0) (names : List (List ℕ)) (test : FormTest) (number : ℕ) (s t : State) → Reads at names → ReadsAll names (option_to_list test.given) → Alike at s t → test_job test number s ≡ test_job test number t
+test_job_same at names test number s t reads r h =
+    ap (λ given. first_job test.form.tries test.form.entry given number s.vars s.defs) (given_same at names test.given s t reads r h)
+    ∙ first_same at test.form.tries test.form.entry (value_in test.given t) number s t (ordinary_of at names reads) h
 
-function_same : (at : List ℕ → Type 0) (function : List ℕ) (s t : State) → ((n : List ℕ) → IsOrdinary n → at n) → Alike at s t → function_job function s ≡ function_job function t
-function_same at function s t ordinary h = job_same (probe.Link (function_source function)) 0 s.vars t.vars s.defs t.defs (tools_same at s t ordinary h) h.defs
+abbrev attempt_by : TryForm → Option Job → Attempt
+attempt_by a job = record { job = job; ends_on = a.ends_on; value = Some a.value }
 
-abbrev attempt_by : Bool → List ℕ → Option Job → Attempt
-attempt_by ends_on value job = record { job = job; ends_on = ends_on; value = Some value }
-
-with_same : (at : List ℕ → Type 0) (function : List ℕ) (a b : List ℕ) (s t : State) (libraries : List (List ℕ)) → ((n : List ℕ) → IsOrdinary n → at n) → a ≡ b → Alike at s t → attempts_with function a s libraries ≡ attempts_with function b t libraries
-with_same at function a b s t [] ordinary e h = refl
-with_same at function a b s t (library ∷ more) ordinary e h =
-    ap (λ j. attempt_by true (codes "-l" ++ library) j ∷ attempts_with function a s more) (library_same at function library a b s t ordinary e h)
-    ∙ ap (λ l. attempt_with function b t (codes "-l" ++ library) library ∷ l) (with_same at function a b s t more ordinary e h)
+tries_same : (at : List ℕ → Type 0) (tries : List TryForm) (entry : List ℕ) (given : Option (List ℕ)) (s t : State) → ((n : List ℕ) → IsOrdinary n → at n) → Alike at s t
+    → map (attempt_of_try entry given s.vars s.defs) tries ≡ map (attempt_of_try entry given t.vars t.defs) tries
+tries_same at [] entry given s t ordinary h = refl
+tries_same at (a ∷ more) entry given s t ordinary h =
+    ap (λ j. attempt_by a j ∷ map (attempt_of_try entry given s.vars s.defs) more) (snippet_same at a.snippet entry given 0 s t ordinary h)
+    ∙ ap (λ l. attempt_of_try entry given t.vars t.defs a ∷ l) (tries_same at more entry given s t ordinary h)
 
 attempts_same : (at : List ℕ → Type 0) (names : List (List ℕ)) (kind : TestKind) (s t : State) → Reads at names → ReadsKind names kind → Alike at s t → attempts_of kind s ≡ attempts_of kind t
 unfolding is_cache_name has_cv
 attempts_same at names (Program search own) s t reads r h = ap (λ o. program_attempts own search (directories_of (unwrap_or o []))) (h.value (codes "PATH") (reads (codes "PATH") (inl refl)))
-attempts_same at names (Single listed entry includes defines) s t reads r h = ap (λ j. attempt_by true (codes "yes") j ∷ []) (entry_same at names listed entry includes 0 s t reads r h)
-attempts_same at names (Sized name includes defines) s t reads r h =
-    ap (λ j. attempt_by false (codes "no") j ∷ attempt_by true (codes "no") (type_job second_type_source name includes s) ∷ []) (type_same at names type_source name includes s t reads r h)
-    ∙ ap (λ j. attempt_by false (codes "no") (type_job type_source name includes t) ∷ attempt_by true (codes "no") j ∷ []) (type_same at names second_type_source name includes s t reads r h)
-attempts_same at names (Library library function others adds) s t reads r h =
-    ap (λ j. attempt_by true (codes "yes") j ∷ []) (library_same at function library _ _ s t (ordinary_of at names reads) (linked_same at names others s t reads r h) h)
-attempts_same at names (Libraries function libraries others) s t reads r h =
-    ap (λ j. attempt_by true (codes "none required") j ∷ attempts_with function (libraries_after others s) s libraries) (function_same at function s t (ordinary_of at names reads) h)
-    ∙ ap (λ l. attempt_by true (codes "none required") (function_job function t) ∷ l) (with_same at function _ _ s t libraries (ordinary_of at names reads) (linked_same at names others s t reads r h) h)
+attempts_same at names (Formed test) s t reads r h =
+    ap (λ given. form_attempts test.form given s.vars s.defs) (given_same at names test.given s t reads r h)
+    ∙ tries_same at test.form.tries test.form.entry (value_in test.given t) s t (ordinary_of at names reads) h
 
 ready_same : (at : List ℕ → Type 0) (names : List (List ℕ)) (kind : TestKind) (s t : State) → Reads at names → ReadsKind names kind → Alike at s t → is_ready kind s ≡ is_ready kind t
 ready_same at names (Program search own) s t reads r h = refl
-ready_same at names (Single listed entry includes defines) s t reads r h = ap is_some (entry_same at names listed entry includes 0 s t reads r h)
-ready_same at names (Sized name includes defines) s t reads r h = ap is_some (type_same at names type_source name includes s t reads r h)
-ready_same at names (Library library function others adds) s t reads r h = ap is_some (library_same at function library _ _ s t (ordinary_of at names reads) (linked_same at names others s t reads r h) h)
-ready_same at names (Libraries function libraries others) s t reads r h = ap is_some (function_same at function s t (ordinary_of at names reads) h)
+ready_same at names (Formed test) s t reads r h = ap may_start (attempts_same at names (Formed test) s t reads r h)
 
 abbrev pub row_by : TestKind → List Attempt → Bool → Row
 row_by kind attempts ready = record {
@@ -375,11 +370,6 @@ defined_alike : (at : List ℕ → Type 0) (b : Bool) (name : List ℕ) (s t : S
 defined_alike at true name s t h = definition_alike at name (codes "1") s t h
 defined_alike at false name s t h = h
 
-entry_alike : (at : List ℕ → Type 0) (listed : Listed) (entry : List ℕ) (found : Bool) (s t : State) → Alike at s t → Alike at (with_entry_defined listed entry found s) (with_entry_defined listed entry found t)
-entry_alike at Header entry found s t h = defined_alike at found (codes "HAVE_" ++ symbol_part entry) s t h
-entry_alike at Function entry found s t h = defined_alike at found (codes "HAVE_" ++ symbol_part entry) s t h
-entry_alike at Declaration entry found s t h = definition_alike at (codes "HAVE_DECL_" ++ symbol_part entry) (cond found (codes "1") (codes "0")) s t h
-
 library_alike : (at : List ℕ → Type 0) (text : List ℕ) (s t : State) → at (codes "LIBS") → Alike at s t → Alike at (with_library text s) (with_library text t)
 library_alike at text s t a h = written_alike at (codes "LIBS") _ _ s t (ap (λ o. text ++ codes " " ++ unwrap_or o []) (h.value (codes "LIBS") a)) h
 
@@ -395,15 +385,16 @@ linked_alike : (at : List ℕ → Type 0) (o : Option (List ℕ)) (s t : State) 
 linked_alike at None s t a h = h
 linked_alike at (Some value) s t a h = cond_alike at (is_linked (Some value) && not (bytes_eq value (codes "none required"))) _ _ _ _ (library_alike at value s t a h) h
 
+given_alike : (at : List ℕ → Type 0) (gives : Gives) (found : Bool) (o : Option (List ℕ)) (s t : State) → at (codes "LIBS") → Alike at s t → Alike at (with_given gives found o s) (with_given gives found o t)
+given_alike at uses.Nothing found o s t a h = h
+given_alike at (uses.Have what) found o s t a h = defined_alike at found (codes "HAVE_" ++ symbol_part what) s t h
+given_alike at (uses.HaveOrNot what) found o s t a h = definition_alike at (codes "HAVE_" ++ symbol_part what) (digit_of found) s t h
+given_alike at (uses.AddsLibrary library) found o s t a h = if_alike at found library s t a h
+given_alike at uses.AddsValue found o s t a h = linked_alike at o s t a h
+
 pub after_alike : (at : List ℕ → Type 0) (kind : TestKind) (o : Option (List ℕ)) (s t : State) → at (codes "LIBS") → Alike at s t → Alike at (after_of kind o s) (after_of kind o t)
 after_alike at (Program search own) o s t a h = variable_alike at search.variable (unwrap_or o []) s t h
-after_alike at (Single listed entry includes true) o s t a h = entry_alike at listed entry (is_yes o) s t h
-after_alike at (Single listed entry includes false) o s t a h = h
-after_alike at (Sized name includes true) o s t a h = defined_alike at (is_yes o) (codes "HAVE_" ++ symbol_part name) s t h
-after_alike at (Sized name includes false) o s t a h = h
-after_alike at (Library library function others true) o s t a h = if_alike at (is_yes o) library s t a h
-after_alike at (Library library function others false) o s t a h = h
-after_alike at (Libraries function libraries others) o s t a h = linked_alike at o s t a h
+after_alike at (Formed test) o s t a h = given_alike at test.form.gives (says_found test.form.says o) o s t a h
 
 -- ---- the test of a row
 

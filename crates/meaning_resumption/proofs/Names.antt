@@ -1,21 +1,18 @@
 -- Names, and the values of names.
 use Rattle.std.proofs.Common.{◌≡◌, ℕ, Bool, List, [], ◌∷◌, ◌++◌, codes, true, false, cond, Option, Some, None, ◌⊎◌, inl, inr, refl, sym, ap, ◌∙◌, ⊎_elim}
-use Rattle.std.specs.Prelude.{bytes_eq, ◌&&◌, ◌||◌, ◌==◌}
-use Rattle.std.specs.Int.{is_in_range}
-use Rattle.std.specs.List.{list_all}
-use Rattle.std.proofs.lemmas.Bool.{and_from, and_parts, cases_Bool}
+use Rattle.std.specs.Prelude.{bytes_eq, ◌&&◌}
+use Rattle.std.proofs.lemmas.Bool.{and_parts, cases_Bool}
 use Rattle.cachefile.specs.Text.{is_one_line, is_saved, saved_value}
 use Rattle.deftable.specs.CacheName.{is_cache_name, has_cv}
-use Rattle.deftable.specs.ShellName.{starts_name, continues_name, IsShellName}
 use Rattle.deftable.specs.Table.{value_of, with_entry}
-use Rattle.m4quote.specs.Names.{sh_byte}
-use Rattle.m4quote.specs.Text.{is_word_byte}
 use Rattle.ac_tree.specs.declared.listed.Listed.{Listed}
 use Rattle.ac_tree.specs.declared.listed.Listed.TheVariants.{Header, Function, Declaration}
 use Rattle.ac_tree.specs.declared.listed.Sought.{Sought}
 use Rattle.ac_tree.specs.declared.listed.Sought.TheVariants as seeks
 use Rattle.ac_tree.specs.Resumable.{Among, IsOrdinary}
-use Rattle.ac_tree.specs.TestNames.{shell_part, entry_name, type_name, sought_name, library_name, libraries_name, program_name, path_name}
+use Rattle.ac_tree.specs.TestNames.{entry_name, sought_name}
+use Rattle.meaning.specs.Forms.{form_name}
+use Rattle.meaning.specs.Entries.{listed_form, sought_form}
 use Rattle.meaning_laws.proofs.Values.{same_text, not_same, apart, value_here, value_there}
 use Rattle.meaning_resumption.proofs.Near.{IsCached}
 
@@ -82,3 +79,13 @@ cached_so n v e = (and_parts (is_cache_name n) (is_one_line v) e).0
 pub ordinary_unsaved : (n : List ℕ) (o : Option (List ℕ)) → IsOrdinary n → saved_value n o ≡ None
 ordinary_unsaved n None p = refl
 ordinary_unsaved n (Some v) p = ap (λ b. cond (b && is_one_line v) (Some v) None) p
+
+-- The name of an entry's test is that of its form.
+pub entry_named : (listed : Listed) (entry : List ℕ) (defines : Bool) → form_name (listed_form listed entry defines) ≡ entry_name listed entry
+entry_named Header entry defines = refl
+entry_named Function entry defines = refl
+entry_named Declaration entry defines = refl
+
+pub sought_named : (sought : Sought) (entry : List ℕ) (defines : Bool) → form_name (sought_form sought entry defines) ≡ sought_name sought entry
+sought_named (seeks.ListEntry listed) entry defines = entry_named listed entry defines
+sought_named seeks.«Type» entry defines = refl

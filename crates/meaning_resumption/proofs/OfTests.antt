@@ -20,7 +20,9 @@ use Rattle.ac_tree.specs.Script.{Script, Done, Then, Choice, Check, Cases, No_ca
 use Rattle.ac_tree.specs.Uses.{Uses, uses_of, uses_asked}
 use Rattle.meaning.specs.State.{State, Scope, no_choice, about, Run, as_is}
 use Rattle.meaning.specs.Tests.{checking}
-use Rattle.meaning.specs.Batches.{Batch, asking}
+use Rattle.meaning.specs.Forms.{FormTest}
+use Rattle.meaning.specs.Entries.{tests_of}
+use Rattle.meaning.specs.Batches.{asking}
 use Rattle.meaning.specs.Meaning.{effect, after_question, after_subject, rounds_of, in_turn, is_taken, meaning, chosen}
 use Rattle.meaning_laws.specs.Questions.{yes_or_no}
 use Rattle.meaning_resumption.specs.Joint.{checks}
@@ -42,13 +44,13 @@ tests_use uses st run rs h = by_tries uses.tries h
     by_tries true k = absurd k
     by_tries false k = tests_first uses.tests st (jobs_asked run rs)
 
-tests_entries : (batch : Batch) (asks : List (List ℕ × Option Job)) → Each IsOfTest (entry_shares batch asks)
-tests_entries batch [] = tt
-tests_entries batch ((entry, None) ∷ more) = tests_entries batch more
-tests_entries batch ((entry, Some job) ∷ more) = (refl, tests_entries batch more)
+tests_entries : (asks : List (FormTest × Option Job)) → Each IsOfTest (entry_shares asks)
+tests_entries [] = tt
+tests_entries ((test, None) ∷ more) = tests_entries more
+tests_entries ((test, Some job) ∷ more) = (refl, tests_entries more)
 
 tests_effect : (d : Declares) (e : Effect) (st : State) (rs : List Reply) → MayTry None (uses_of d e).tries → Each IsOfTest (effect_shares d e st rs)
-tests_effect d (effects.Batch listed entries includes) st rs h = tests_entries (record { listed = listed; entries = entries; includes = includes }) (asking (record { listed = listed; entries = entries; includes = includes }) 1 [] entries st)
+tests_effect d (effects.Batch listed entries includes) st rs h = tests_entries (asking 1 [] (tests_of listed entries includes) st)
 tests_effect d e st rs h = tests_use (uses_of d e) st (effect e st) rs h
 
 -- A round tries no program.

@@ -5,9 +5,9 @@ use Rattle.deftable.specs.Table.{value_of}
 use Rattle.shellword.specs.declared.part.Part.{Part}
 use Rattle.shellword.specs.Value.{word_value}
 use Rattle.ac_tree.specs.Resumable.{IsOrdinary, MayRead, ReadsAll}
-use Rattle.meaning.specs.State.{State, with_variable, How, Goes_on, Run, Ends, then_run}
+use Rattle.meaning.specs.State.{State, with_variable, How, Goes_on, Run, Ends, then_run, value_or_empty}
 use Rattle.meaning.specs.Tests.{tested, with_value}
-use Rattle.meaning.specs.Rows.{TestKind, Program, value_or_empty, value_if, name_of, row_of}
+use Rattle.meaning.specs.Rows.{TestKind, Program, value_if, name_of, row_of}
 use Rattle.meaning.specs.Meaning.{has_value, defaulted}
 use Rattle.meaning_laws.specs.Ends.{AtEnds, Breaks}
 use Rattle.meaning_laws.proofs.Values.{cases_value, value_here}

@@ -1,7 +1,6 @@
 -- What the clause on a test's jobs refuses: shares that all have one name, whatever the script.
-use Rattle.std.proofs.Common.{◌≡◌, ℕ, codes, List, [], ◌∷◌, Option, Some, None, inl, inr, refl, sym, ap, ◌∙◌, subst}
+use Rattle.std.proofs.Common.{◌≡◌, ℕ, codes, List, [], ◌∷◌, Some, None, inl, inr, refl, sym, ap, ◌∙◌, subst}
 use Rattle.std.specs.List.{AllByRecursion}
-use Rattle.crew_jobs.specs.declared.job.Job.{Job}
 use Rattle.crew_trait.specs.declared.reply.Reply.{Reply}
 use Rattle.ac_tree.specs.declared.listed.Listed.TheVariants.{Function}
 use Rattle.ac_tree.specs.declared.listed.Sought.TheVariants.{ListEntry}
@@ -12,9 +11,9 @@ use Rattle.ac_tree.specs.declared.tree.Subject.TheVariants.{Asked}
 use Rattle.ac_tree.specs.Commands.{HasCommands}
 use Rattle.ac_tree.specs.Script.{Script, Done, Choice, No_case}
 use Rattle.meaning.specs.State.{State}
-use Rattle.meaning.specs.Rows.{TestKind, name_of}
+use Rattle.meaning.specs.Forms.{FormTest, form_name}
 use Rattle.meaning_resumption.specs.Joint.{test_in}
-use Rattle.meaning_resumption.specs.Asked.{Share, shares, case_shares, Asker, a_statement, a_question, a_check, Has, HasWithin, HasItsJobs, of_statement, of_question, of_entry, of_check, of_try}
+use Rattle.meaning_resumption.specs.Asked.{Share, shares, case_shares, Asker, a_statement, a_question, Has, HasWithin, HasItsJobs, of_statement, of_question, of_entry, of_check, of_try}
 use Rattle.meaning_resumption.proofs.Counter.{on_values, vars_with, good}
 
 -- AC_CHECK_FUNC([g])
@@ -41,8 +40,8 @@ only_g asker (inr (inr none)) = absurd none
 same_asked : (q other : Question) → a_question q ≡ a_question other → q ≡ other
 same_asked q other e = cc
 
-same_kind : (kind other : TestKind) → Some kind ≡ Some other → kind ≡ other
-same_kind kind other e = cc
+same_test : (t other : FormTest) → Some t ≡ Some other → t ≡ other
+same_test t other e = cc
 
 same_name : (name other : List ℕ) → Some name ≡ Some other → name ≡ other
 same_name name other e = cc
@@ -50,10 +49,10 @@ same_name name other e = cc
 -- A share of this script has the name of its test, or none.
 named : (script : Script) (share : Share) → HasItsJobs script share → script ≡ one_test → (name : List ℕ) → share.name ≡ Some name → name ≡ codes "ac_cv_func_g"
 named script share (of_statement whole d e st rs own there uses) same name is = let z = only_g (a_statement d e) (subst (Has (a_statement d e)) same there) in cc
-named script share (of_question whole q kind st rs there test) same name is =
+named script share (of_question whole q t st rs there test) same name is =
     let asks : q ≡ asks_g = same_asked q asks_g (only_g (a_question q) (subst (Has (a_question q)) same there)) in
-    sym (same_name (name_of kind) name is) ∙ ap name_of (same_kind kind _ (sym test ∙ ap test_in asks))
-named script share (of_entry whole d batch place earlier entry st job there among is_its) same name is = let z = only_g _ (subst (Has _) same there) in cc
+    sym (same_name (form_name t.form) name is) ∙ ap (λ (x : FormTest). form_name x.form) (same_test t _ (sym test ∙ ap test_in asks))
+named script share (of_entry whole d listed entries includes place earlier entry st job there among is_its) same name is = let z = only_g _ (subst (Has _) same there) in cc
 named script share (of_check whole message own commands st rs there) same name is = let z = only_g _ (subst (Has _) same there) in cc
 named script share (of_try whole kind program st rs there) same name is = cc
 

@@ -7,27 +7,29 @@ use Rattle.shellword.specs.declared.part.Part.{Part}
 use Rattle.ac_tree.specs.declared.feature.OptionKind.{OptionKind}
 use Rattle.ac_tree.specs.declared.feature.OptionKind.TheVariants.{Feature, Package}
 use Rattle.ac_tree.specs.declared.listed.Sought.{Sought}
-use Rattle.ac_tree.specs.declared.listed.Sought.TheVariants as seeks
 use Rattle.ac_tree.specs.declared.statement.Question.TheVariants as questions
 use Rattle.ac_tree.specs.declared.statement.Question.TheVariants.{Given, Tries, Checks, ChecksEach}
 use Rattle.ac_tree.specs.declared.tree.Subject.{Subject}
 use Rattle.ac_tree.specs.declared.tree.Subject.TheVariants.{Nothing, Word, Asked}
 use Rattle.ac_tree.specs.Resumable.{Among, IsOrdinary, MayRead, ReadsAll, tests_at, first_alone, ResumableSubject}
 use Rattle.ac_tree.specs.TestNames.{sought_name}
-use Rattle.meaning.specs.State.{State, Scope, answered, about, with_variable, Run, then_run, ended, as_is}
+use Rattle.meaning.specs.State.{State, Scope, answered, about, with_variable, Run, then_run, as_is}
 use Rattle.meaning.specs.Tests.{tested}
-use Rattle.meaning.specs.Rows.{TestKind, Program, Single, Sized, Library, Libraries, kind_for, name_of, is_found, after_of, row_of}
-use Rattle.meaning.specs.Meaning.{value_name, after_option, after_subject, rounds_of, in_turn}
+use Rattle.test_forms.specs.Macros.{library_form, search_form}
+use Rattle.meaning.specs.Forms.{FormTest, form_name, form_used, says_found}
+use Rattle.meaning.specs.Entries.{sought_form, sought_test, library_test, search_test}
+use Rattle.meaning.specs.Rows.{Formed, row_of}
+use Rattle.meaning.specs.Meaning.{value_name, after_option, found_by, after_subject, rounds_of, in_turn}
 use Rattle.meaning_laws.proofs.Values.{value_here}
 use Rattle.meaning_laws.proofs.Statements.{ended_as_is}
 use Rattle.meaning_resumption.specs.Alone.{tested_rounds, AloneAt, AloneRounds}
 use Rattle.meaning_resumption.specs.Joint.{Joint, Pair, joint_then, joint_one, given_then, begins_test, begins, scope_at, joint_rounds}
 use Rattle.meaning_resumption.specs.Same.{AndThen, SameOne, SameAt, SameRounds}
 use Rattle.meaning_resumption.proofs.Near.{Within, IsCached, Alike, Every, IsPart}
-use Rattle.meaning_laws.proofs.Names.{sought_cached, library_cached, libraries_cached}
-use Rattle.meaning_resumption.proofs.Names.{same_or_not, among_left, among_right, among_wider, value_else}
-use Rattle.meaning_resumption.proofs.Liking.{Reads, wider_reads, ReadsKind, variable_alike, text_same}
-use Rattle.meaning_resumption.proofs.Forms.{PlainKind, IsAsked, asked_settles, row_test}
+use Rattle.meaning_laws.proofs.Names.{form_cached}
+use Rattle.meaning_resumption.proofs.Names.{same_or_not, among_left, among_right, among_wider, value_else, sought_named}
+use Rattle.meaning_resumption.proofs.Liking.{Reads, wider_reads, variable_alike, text_same}
+use Rattle.meaning_resumption.proofs.Forms.{formed_settles, row_test}
 use Rattle.meaning_resumption.proofs.Parts.{part_then, part_is, part_scope}
 use Rattle.meaning_resumption.proofs.Single.{all_readable, still_part, test_part}
 use Rattle.meaning_resumption.proofs.Statements.{id_part, write_values, may_assign}
@@ -56,23 +58,19 @@ given_values : (kind : OptionKind) (o : Option (List ℕ)) (n : List ℕ) (st : 
 given_values kind None n st c = refl
 given_values kind (Some v) n st c = write_values (value_name kind) v n st (value_plain kind) c
 
-kind_part : (tested_before known : List (List ℕ)) (kind : TestKind) (fits : List (List ℕ) → Type 0) → Within tested_before known → IsAsked kind → IsCached (name_of kind) → ReadsKind tested_before kind
-    → IsPart known (name_of kind ∷ known) (name_of kind ∷ []) (begins_test (Some kind)) (joint_one (begins_test (Some kind))) (SameOne (name_of kind) (begins_test (Some kind))) fits
-kind_part tested_before known kind fits w a c r =
-    test_part known (name_of kind) (after_of kind) (begins_test (Some kind)) fits (row_test tested_before known kind w c (plain_of kind a) r) (λ later f. inr (asked_settles kind a c))
-  where
-    plain_of : (kind : TestKind) → IsAsked kind → PlainKind kind
-    plain_of (Program search own) a = absurd a
-    plain_of (Single listed entry includes defines) a = tt
-    plain_of (Sized name includes defines) a = tt
-    plain_of (Library library function others adds) a = tt
-    plain_of (Libraries function libraries others) a = tt
+form_part : (tested_before known : List (List ℕ)) (t : FormTest) (fits : List (List ℕ) → Type 0) → Within tested_before known → ReadsAll tested_before (option_to_list t.given)
+    → IsPart known (form_name t.form ∷ known) (form_name t.form ∷ []) (begins_test (Some t)) (joint_one (begins_test (Some t))) (SameOne (form_name t.form) (begins_test (Some t))) fits
+form_part tested_before known t fits w r =
+    let c = form_cached t.form in
+    test_part known (form_name t.form) (form_used t.form) (begins_test (Some t)) fits (row_test tested_before known (Formed t) w c tt r) (λ later f. inr (formed_settles t c))
 
 sought_part : (tested_before known : List (List ℕ)) (sought : Sought) (entry : List ℕ) (includes : Option (List Part)) (defines : Bool) (fits : List (List ℕ) → Type 0) → Within tested_before known → ReadsAll tested_before (option_to_list includes)
-    → IsPart known (sought_name sought entry ∷ known) (sought_name sought entry ∷ []) (begins_test (Some (kind_for sought entry includes defines))) (joint_one (begins_test (Some (kind_for sought entry includes defines))))
-    (SameOne (name_of (kind_for sought entry includes defines)) (begins_test (Some (kind_for sought entry includes defines)))) fits
-sought_part tested_before known (seeks.ListEntry listed) entry includes defines fits w r = kind_part tested_before known (Single listed entry includes defines) fits w tt (sought_cached (seeks.ListEntry listed) entry) r
-sought_part tested_before known seeks.«Type» entry includes defines fits w r = kind_part tested_before known (Sized entry includes defines) fits w tt (sought_cached seeks.«Type» entry) r
+    → (let t = sought_test sought entry includes defines in
+    IsPart known (sought_name sought entry ∷ known) (sought_name sought entry ∷ []) (begins_test (Some t)) (joint_one (begins_test (Some t))) (SameOne (form_name t.form) (begins_test (Some t))) fits)
+sought_part tested_before known sought entry includes defines fits w r =
+    let t = sought_test sought entry includes defines in
+    subst (λ name. IsPart known (name ∷ known) (name ∷ []) (begins_test (Some t)) (joint_one (begins_test (Some t))) (SameOne (form_name t.form) (begins_test (Some t))) fits) (sought_named sought entry defines)
+    (form_part tested_before known t fits w r)
 
 begin_part : (tested_before known : List (List ℕ)) (r : Subject) (fits : List (List ℕ) → Type 0) → Within tested_before known → IsRound r → ResumableSubject None tested_before r
     → IsPart known (tests_at r ++ known) (tests_at r) (begins r) (joint_one (begins r)) (SameAt r) fits
@@ -89,16 +87,17 @@ begin_part tested_before known (Asked (ChecksEach sought [] includes)) fits w on
 begin_part tested_before known (Asked (ChecksEach sought (entry ∷ []) includes)) fits w one h = sought_part tested_before known sought entry includes true fits w h.1.1
 begin_part tested_before known (Asked (ChecksEach sought (a ∷ b ∷ more) includes)) fits w one h = absurd one
 begin_part tested_before known (Asked (questions.Library library function others adds)) fits w one h =
-    kind_part tested_before known (Library library function others adds) fits w tt (library_cached library function) h.1.1
+    form_part tested_before known (library_test library function others adds) fits w h.1.1
 begin_part tested_before known (Asked (questions.Libraries function libraries others)) fits w one h =
-    kind_part tested_before known (Libraries function libraries others) fits w tt (libraries_cached function) h.1.1
+    form_part tested_before known (search_test function libraries others) fits w h.1.1
 
 -- ---- what a choice is about
 
-sought_same : (at : List ℕ → Type 0) (sought : Sought) (entry : List ℕ) (includes : Option (List Part)) (defines : Bool) (x y : State) → at (sought_name sought entry) → Alike at x y
-    → is_found (kind_for sought entry includes defines) (value_of x.vars (name_of (kind_for sought entry includes defines))) ≡ is_found (kind_for sought entry includes defines) (value_of y.vars (name_of (kind_for sought entry includes defines)))
-sought_same at (seeks.ListEntry listed) entry includes defines x y own a = ap (is_found (Single listed entry includes defines)) (a.value _ own)
-sought_same at seeks.«Type» entry includes defines x y own a = ap (is_found (Sized entry includes defines)) (a.value _ own)
+sought_same : (at : List ℕ → Type 0) (sought : Sought) (entry : List ℕ) (defines : Bool) (x y : State) → at (sought_name sought entry) → Alike at x y
+    → (let f = sought_form sought entry defines in says_found f.says (value_of x.vars (form_name f)) ≡ says_found f.says (value_of y.vars (form_name f)))
+sought_same at sought entry defines x y own a =
+    let f = sought_form sought entry defines in
+    ap (says_found f.says) (a.value (form_name f) (subst at (sym (sought_named sought entry defines)) own))
 
 scope_same : (at : List ℕ → Type 0) (names : List (List ℕ)) (r : Subject) (x y : State) → Reads at names → ((n : List ℕ) → Among n (tests_at r) → at n) → IsRound r → ResumableSubject None names r → Alike at x y → scope_at r x ≡ scope_at r y
 unfolding scope_at
@@ -106,11 +105,11 @@ scope_same at names Nothing x y reads own one h a = refl
 scope_same at names (Word word) x y reads own one h a = ap about (text_same at names word x y reads h a)
 scope_same at names (Asked (Given kind variable)) x y reads own one h a = ap (λ o. answered (is_some o)) (a.value variable (reads variable (inl (may_assign variable h.1.0))))
 scope_same at names (Asked (Tries kind program)) x y reads own one h a = refl
-scope_same at names (Asked (Checks sought entry includes)) x y reads own one h a = ap answered (sought_same at sought entry includes false x y (own (sought_name sought entry) (inl refl)) a)
+scope_same at names (Asked (Checks sought entry includes)) x y reads own one h a = ap answered (sought_same at sought entry false x y (own (sought_name sought entry) (inl refl)) a)
 scope_same at names (Asked (ChecksEach sought [] includes)) x y reads own one h a = refl
-scope_same at names (Asked (ChecksEach sought (entry ∷ more) includes)) x y reads own one h a = ap answered (sought_same at sought entry includes true x y (own (sought_name sought entry) (inl refl)) a)
-scope_same at names (Asked (questions.Library library function others adds)) x y reads own one h a = ap (λ o. answered (is_found (Library library function others adds) o)) (a.value _ (own _ (inl refl)))
-scope_same at names (Asked (questions.Libraries function libraries others)) x y reads own one h a = ap (λ o. answered (is_found (Libraries function libraries others) o)) (a.value _ (own _ (inl refl)))
+scope_same at names (Asked (ChecksEach sought (entry ∷ more) includes)) x y reads own one h a = ap answered (sought_same at sought entry true x y (own (sought_name sought entry) (inl refl)) a)
+scope_same at names (Asked (questions.Library library function others adds)) x y reads own one h a = ap (λ o. answered (says_found (library_form library function adds).says o)) (a.value _ (own _ (inl refl)))
+scope_same at names (Asked (questions.Libraries function libraries others)) x y reads own one h a = ap (λ o. answered (says_found (search_form function libraries).says o)) (a.value _ (own _ (inl refl)))
 
 given_begun : (kind : OptionKind) (variable : List ℕ) (o : Option (List ℕ)) (st : State) (go : Scope → State → Run) → value_of st.vars variable ≡ o → after_option o kind st go ≡ go (answered (is_some (value_of (given_then kind o st).vars variable))) (given_then kind o st)
 given_begun kind variable None st go e = ap (λ o. go (answered (is_some o)) st) (sym e)
@@ -120,9 +119,8 @@ given_begun kind variable (Some v) st go e = ap (λ b. go (answered b) (with_var
     by_name (inl same) = ap is_some (ap (value_of (with_variable (value_name kind) v st).vars) (sym same) ∙ value_here st.vars (value_name kind) v)
     by_name (inr other) = ap is_some (value_else st.vars (value_name kind) v variable other ∙ e)
 
-test_begun : (kind : TestKind) (st : State) (go : Scope → State → Run)
-    → then_run (tested (row_of kind st) st) (λ now. go (answered (is_found kind (value_of now.vars (name_of kind)))) now) ≡ then_run (ended as_is (tested (row_of kind st) st)) (λ now. go (answered (is_found kind (value_of now.vars (name_of kind)))) now)
-test_begun kind st go = ap (λ run. then_run run (λ now. go (answered (is_found kind (value_of now.vars (name_of kind)))) now)) (sym (ended_as_is (tested (row_of kind st) st)))
+test_begun : (t : FormTest) (st : State) (go : Scope → State → Run) → then_run (tested (row_of (Formed t) st) st) (λ now. go (answered (says_found t.form.says (value_of now.vars (form_name t.form)))) now) ≡ found_by as_is t st go
+test_begun t st go = ap (λ run. then_run run (λ now. go (answered (says_found t.form.says (value_of now.vars (form_name t.form)))) now)) (sym (ended_as_is (tested (row_of (Formed t) st) st)))
 
 begun_is : (names : List (List ℕ)) (r : Subject) (st : State) (go : Scope → State → Run) → ResumableSubject None names r → then_run (begins r st) (λ now. go (scope_at r now) now) ≡ after_subject as_is r st go
 unfolding begins scope_at after_subject
@@ -130,11 +128,11 @@ begun_is names Nothing st go h = refl
 begun_is names (Word word) st go h = refl
 begun_is names (Asked (Given kind variable)) st go h = sym (given_begun kind variable (value_of st.vars variable) st go refl)
 begun_is names (Asked (Tries kind program)) st go h = absurd h.0
-begun_is names (Asked (Checks sought entry includes)) st go h = test_begun (kind_for sought entry includes false) st go
+begun_is names (Asked (Checks sought entry includes)) st go h = test_begun (sought_test sought entry includes false) st go
 begun_is names (Asked (ChecksEach sought [] includes)) st go h = refl
-begun_is names (Asked (ChecksEach sought (entry ∷ more) includes)) st go h = test_begun (kind_for sought entry includes true) st go
-begun_is names (Asked (questions.Library library function others adds)) st go h = test_begun (Library library function others adds) st go
-begun_is names (Asked (questions.Libraries function libraries others)) st go h = test_begun (Libraries function libraries others) st go
+begun_is names (Asked (ChecksEach sought (entry ∷ more) includes)) st go h = test_begun (sought_test sought entry includes true) st go
+begun_is names (Asked (questions.Library library function others adds)) st go h = test_begun (library_test library function others adds) st go
+begun_is names (Asked (questions.Libraries function libraries others)) st go h = test_begun (search_test function libraries others) st go
 
 -- ---- rounds
 

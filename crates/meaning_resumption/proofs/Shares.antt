@@ -9,7 +9,6 @@ use Rattle.deftable.specs.Table.{value_of}
 use Rattle.shellword.specs.declared.part.Part.{Part}
 use Rattle.shellword.specs.Value.{word_value}
 use Rattle.ac_tree.specs.declared.feature.OptionKind.{OptionKind}
-use Rattle.ac_tree.specs.declared.listed.Sought.TheVariants as seeks
 use Rattle.ac_tree.specs.declared.program.Try as kinds
 use Rattle.ac_tree.specs.declared.program.Try.TheVariants as kinds_are
 use Rattle.ac_tree.specs.declared.statement.Declares.{Declares}
@@ -24,13 +23,15 @@ use Rattle.ac_tree.specs.declared.statement.Question.TheVariants.{Given, Tries, 
 use Rattle.ac_tree.specs.declared.tree.Subject.{Subject}
 use Rattle.ac_tree.specs.declared.tree.Subject.TheVariants as subjects
 use Rattle.ac_tree.specs.Script.{Done, Then, Choice, Check, Cases, No_case, Case}
-use Rattle.ac_tree.specs.TestNames.{program_name}
+use Rattle.ac_tree.specs.TestNames.{program_name, sought_name}
 use Rattle.ac_tree.specs.Uses.{uses_of, uses_asked}
-use Rattle.meaning.specs.State.{State, Scope, no_choice, about, answered, with_child, with_variable, How, Goes_on, Completed, Cut, Run, Ends, Asks, then_run, ended, as_is}
+use Rattle.meaning.specs.State.{State, Scope, no_choice, about, answered, with_child, with_variable, How, Goes_on, Completed, Cut, Run, Ends, Asks, then_run, ended, as_is, value_or_empty}
 use Rattle.meaning.specs.Asking.{success, only_reply, after_child, child, compiled}
 use Rattle.meaning.specs.Tests.{Row, Test, checking, cached_test, test_by, guarded, broken, tested, tested_by, may_begin}
-use Rattle.meaning.specs.Rows.{TestKind, Program, Library, Libraries, Single, kind_for, is_found, name_of, value_or_empty, value_if, row_of}
-use Rattle.meaning.specs.Batches.{Batch, jobs_in, asking, asks_all, with_body, replied, replies_after, commits, committed, batched}
+use Rattle.meaning.specs.Rows.{Program, Formed, name_of, value_if, row_of}
+use Rattle.meaning.specs.Forms.{FormTest, form_name, says_found}
+use Rattle.meaning.specs.Entries.{sought_test, library_test, search_test, tests_of}
+use Rattle.meaning.specs.Batches.{jobs_in, asking, asks_all, with_body, replied, replies_after, commits, committed, batched}
 use Rattle.meaning.specs.Play.{first_number, refused_after, last_words}
 use Rattle.meaning.specs.Tries.{first_probe, after_first, text_of}
 use Rattle.meaning.specs.Meaning.{has_value, check_prog, program_test, looks_all, effect, value_name, after_option, found_by, after_question, after_subject, rounds_of, in_turn, is_taken, check, meaning, chosen}
@@ -41,6 +42,7 @@ use Rattle.meaning_laws.proofs.CachedTests.{set_row}
 use Rattle.meaning_laws.proofs.TestDeeds.{IsOpen, tested_open}
 use Rattle.meaning_laws.proofs.Values.{set_write}
 use Rattle.meaning_resumption.specs.Joint.{checks}
+use Rattle.meaning_resumption.proofs.Names.{sought_named}
 use Rattle.meaning_resumption.specs.Asked.{Share, jobs_asked, made, use_shares, entry_shares, effect_shares, shares_after, shares_answered, subject_shares, turn_shares, owned, shares, case_shares, shared_jobs, SharesAreJobs, SharesArePlayed}
 
 shared_both : (a b : List Share) → shared_jobs (a ++ b) ≡ shared_jobs a ++ shared_jobs b
@@ -125,8 +127,10 @@ test_covered name st run rs set = by_value (value_of st.vars name) refl
 row_end : (row : Row) (st : State) (value : List ℕ) → value_of st.vars row.test.name ≡ Some value → IsEnd (tested row st)
 row_end row st value e = subst IsEnd (sym (set_row row value st e)) tt
 
-found_end : (kind : TestKind) (st : State) (value : List ℕ) → value_of st.vars (name_of kind) ≡ Some value → IsEnd (found_by as_is kind st yes_or_no)
-found_end kind st value e = end_then (ended as_is (tested (row_of kind st) st)) _ (end_ended as_is (tested (row_of kind st) st) (row_end (row_of kind st) st value e)) (λ now. tt)
+found_end : (t : FormTest) (st : State) (value : List ℕ) → value_of st.vars (form_name t.form) ≡ Some value → IsEnd (found_by as_is t st yes_or_no)
+found_end t st value e =
+    let row = row_of (Formed t) st in
+    end_then (ended as_is (tested row st)) _ (end_ended as_is (tested row st) (row_end row st value e)) (λ now. tt)
 
 -- ---- batches
 
@@ -146,15 +150,15 @@ replied_end : (name : List ℕ) (job : Option Job) (reply : Reply) (st : State) 
 replied_end name None reply st = tt
 replied_end name (Some job) reply st = heard_end (success reply) (with_child job reply st) _ (λ b now. tt)
 
-committed_end : (batch : Batch) (first : State) (asks : List (List ℕ × Option Job)) (replies : List Reply) (refused : Bool) (st : State) → IsEnd (committed batch first asks replies refused st)
-committed_end batch first [] replies true st = tt
-committed_end batch first [] replies false st = tt
-committed_end batch first ((entry, job) ∷ more) replies refused st =
-    let name = name_of (Single batch.listed entry batch.includes true) in
-    let row = with_body (replied name job (only_reply replies)) (row_of (Single batch.listed entry batch.includes true) first) in
-    end_commits (tested row st) refused (committed batch first more (replies_after job replies))
+committed_end : (first : State) (asks : List (FormTest × Option Job)) (replies : List Reply) (refused : Bool) (st : State) → IsEnd (committed first asks replies refused st)
+committed_end first [] replies true st = tt
+committed_end first [] replies false st = tt
+committed_end first ((test, job) ∷ more) replies refused st =
+    let name = name_of (Formed test) in
+    let row = with_body (replied name job (only_reply replies)) (row_of (Formed test) first) in
+    end_commits (tested row st) refused (committed first more (replies_after job replies))
     (body_end row (may_begin (value_of st.vars name) row.ready) st (λ now. replied_end name job (only_reply replies) now))
-    (λ b now. committed_end batch first more (replies_after job replies) b now)
+    (λ b now. committed_end first more (replies_after job replies) b now)
 
 asked_all : (jobs : List Job) (next : List Reply → Run) (rs : List Reply) → ((t : List Reply) → IsEnd (next t)) → jobs_asked (asks_all jobs next) rs ≡ jobs
 asked_all [] next rs h = asks_nothing (next []) rs (h [])
@@ -162,15 +166,15 @@ asked_all (job ∷ jobs) next rs h =
     let t = take (length (job ∷ jobs)) rs in
     ap (λ l. (job ∷ jobs) ++ l) (asks_nothing (next t) (drop (length (job ∷ jobs)) rs) (h t)) ∙ append-nil (job ∷ jobs)
 
-entries_jobs : (batch : Batch) (asks : List (List ℕ × Option Job)) → shared_jobs (entry_shares batch asks) ≡ jobs_in asks
-entries_jobs batch [] = refl
-entries_jobs batch ((entry, None) ∷ more) = entries_jobs batch more
-entries_jobs batch ((entry, Some job) ∷ more) = ap (λ l. job ∷ l) (entries_jobs batch more)
+entries_jobs : (asks : List (FormTest × Option Job)) → shared_jobs (entry_shares asks) ≡ jobs_in asks
+entries_jobs [] = refl
+entries_jobs ((test, None) ∷ more) = entries_jobs more
+entries_jobs ((test, Some job) ∷ more) = ap (λ l. job ∷ l) (entries_jobs more)
 
-batch_covered : (batch : Batch) (st : State) (rs : List Reply) → shared_jobs (entry_shares batch (asking batch 1 [] batch.entries st)) ≡ jobs_asked (batched batch st) rs
-batch_covered batch st rs =
-    let asks = asking batch 1 [] batch.entries st in
-    entries_jobs batch asks ∙ sym (asked_all (jobs_in asks) (λ replies. committed batch st asks replies false st) rs (λ t. committed_end batch st asks t false st))
+batch_covered : (tests : List FormTest) (st : State) (rs : List Reply) → shared_jobs (entry_shares (asking 1 [] tests st)) ≡ jobs_asked (batched tests st) rs
+batch_covered tests st rs =
+    let asks = asking 1 [] tests st in
+    entries_jobs asks ∙ sym (asked_all (jobs_in asks) (λ replies. committed st asks replies false st) rs (λ t. committed_end st asks t false st))
 
 -- ---- programs
 
@@ -196,7 +200,7 @@ nothing_covered _ st rs = refl
 
 effect_covered : (d : Declares) (e : Effect) (st : State) (rs : List Reply) → shared_jobs (effect_shares d e st rs) ≡ jobs_asked (effect e st) rs
 unfolding effect
-effect_covered d (effects.Batch listed entries includes) st rs = batch_covered (record { listed = listed; entries = entries; includes = includes }) st rs
+effect_covered d (effects.Batch listed entries includes) st rs = batch_covered (tests_of listed entries includes) st rs
 effect_covered d (Search variable program (Text found) otherwise) st rs = test_covered _ st (effect (Search variable program (Text found) otherwise) st) rs (row_end (row_of (Program _ _) st) st)
 effect_covered d (Search variable program FullName otherwise) st rs = test_covered _ st (effect (Search variable program FullName otherwise) st) rs (row_end (row_of (Program _ _) st) st)
 effect_covered d (Searches variable programs otherwise) st rs =
@@ -249,8 +253,8 @@ run_answers said go f (Asks jobs next) opens h =
     let t = take (length jobs) rs in
     ap (λ l. jobs ++ l) (run_answers said go f (next t) (opens t) h (drop (length jobs) rs)) ∙ sym (append_assoc jobs _ _)
 
-found_answers : (said : Scope → State → List Reply → List Share) (go : Scope → State → Run) (kind : TestKind) (st : State) → CoversChoice said go → Answers said (found_by as_is kind st yes_or_no) (found_by as_is kind st go)
-found_answers said go kind st h = run_answers said go (λ now. is_found kind (value_of now.vars (name_of kind))) (tested (row_of kind st) st) (tested_open kind st) h
+found_answers : (said : Scope → State → List Reply → List Share) (go : Scope → State → Run) (t : FormTest) (st : State) → CoversChoice said go → Answers said (found_by as_is t st yes_or_no) (found_by as_is t st go)
+found_answers said go t st h = run_answers said go (λ now. says_found t.form.says (value_of now.vars (form_name t.form))) (tested (row_of (Formed t) st) st) (tested_open (Formed t) st) h
 
 given_answers : (said : Scope → State → List Reply → List Share) (go : Scope → State → Run) (o : Option (List ℕ)) (kind : OptionKind) (st : State) → CoversChoice said go → Answers said (after_option o kind st yes_or_no) (after_option o kind st go)
 given_answers said go None kind st h = either_answers said go h false st
@@ -261,15 +265,15 @@ question_answers said go (Given kind variable) st h = given_answers said go (val
 question_answers said go (Tries kind program) st h =
     compiled_answers said (job_of (first_probe kind (text_of program st.vars)) 0 st.vars st.defs) st _ _
     (first_answers said kind (λ b. yes_or_no (answered b)) (λ b. go (answered b)) (either_answers said go h))
-question_answers said go (Checks sought entry includes) st h = found_answers said go (kind_for sought entry includes false) st h
+question_answers said go (Checks sought entry includes) st h = found_answers said go (sought_test sought entry includes false) st h
 question_answers said go (ChecksEach sought [] includes) st h = either_answers said go h false st
-question_answers said go (ChecksEach sought (entry ∷ more) includes) st h = found_answers said go (kind_for sought entry includes true) st h
-question_answers said go (questions.Library library function others adds) st h = found_answers said go (Library library function others adds) st h
-question_answers said go (questions.Libraries function libraries others) st h = found_answers said go (Libraries function libraries others) st h
+question_answers said go (ChecksEach sought (entry ∷ more) includes) st h = found_answers said go (sought_test sought entry includes true) st h
+question_answers said go (questions.Library library function others adds) st h = found_answers said go (library_test library function others adds) st h
+question_answers said go (questions.Libraries function libraries others) st h = found_answers said go (search_test function libraries others) st h
 
-found_covered : (kind : TestKind) (st : State) (rs : List Reply)
-    → shared_jobs (made (value_of st.vars (name_of kind)) (record { name = Some (name_of kind); jobs = jobs_asked (found_by as_is kind st yes_or_no) rs } ∷ [])) ≡ jobs_asked (found_by as_is kind st yes_or_no) rs
-found_covered kind st rs = test_covered (name_of kind) st (found_by as_is kind st yes_or_no) rs (found_end kind st)
+found_covered : (t : FormTest) (name : List ℕ) (st : State) (rs : List Reply) → form_name t.form ≡ name
+    → shared_jobs (made (value_of st.vars name) (record { name = Some name; jobs = jobs_asked (found_by as_is t st yes_or_no) rs } ∷ [])) ≡ jobs_asked (found_by as_is t st yes_or_no) rs
+found_covered t name st rs is = test_covered name st (found_by as_is t st yes_or_no) rs (λ value e. found_end t st value (ap (value_of st.vars) is ∙ e))
 
 given_covered : (o : Option (List ℕ)) (kind : OptionKind) (st : State) (rs : List Reply) → [] ≡ jobs_asked (after_option o kind st yes_or_no) rs
 given_covered None kind st rs = refl
@@ -278,13 +282,11 @@ given_covered (Some value) kind st rs = refl
 question_covered : (q : Question) (st : State) (rs : List Reply) → shared_jobs (use_shares (uses_asked q) st (after_question as_is q st yes_or_no) rs) ≡ jobs_asked (after_question as_is q st yes_or_no) rs
 question_covered (Given kind variable) st rs = given_covered (value_of st.vars variable) kind st rs
 question_covered (Tries kind program) st rs = append-nil (jobs_asked (after_question as_is (Tries kind program) st yes_or_no) rs)
-question_covered (Checks (seeks.ListEntry listed) entry includes) st rs = found_covered (kind_for (seeks.ListEntry listed) entry includes false) st rs
-question_covered (Checks seeks.«Type» entry includes) st rs = found_covered (kind_for seeks.«Type» entry includes false) st rs
+question_covered (Checks sought entry includes) st rs = found_covered (sought_test sought entry includes false) (sought_name sought entry) st rs (sought_named sought entry false)
 question_covered (ChecksEach sought [] includes) st rs = refl
-question_covered (ChecksEach (seeks.ListEntry listed) (entry ∷ more) includes) st rs = found_covered (kind_for (seeks.ListEntry listed) entry includes true) st rs
-question_covered (ChecksEach seeks.«Type» (entry ∷ more) includes) st rs = found_covered (kind_for seeks.«Type» entry includes true) st rs
-question_covered (questions.Library library function others adds) st rs = found_covered (Library library function others adds) st rs
-question_covered (questions.Libraries function libraries others) st rs = found_covered (Libraries function libraries others) st rs
+question_covered (ChecksEach sought (entry ∷ more) includes) st rs = found_covered (sought_test sought entry includes true) (sought_name sought entry) st rs (sought_named sought entry true)
+question_covered (questions.Library library function others adds) st rs = found_covered (library_test library function others adds) _ st rs refl
+question_covered (questions.Libraries function libraries others) st rs = found_covered (search_test function libraries others) _ st rs refl
 
 subject_covered : (subject : Subject) (go : Scope → State → Run) (said : Scope → State → List Reply → List Share) (st : State) (rs : List Reply) → CoversChoice said go → shared_jobs (subject_shares subject st rs said) ≡ jobs_asked (after_subject as_is subject st go) rs
 unfolding after_subject

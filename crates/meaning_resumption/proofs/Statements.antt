@@ -15,10 +15,10 @@ use Rattle.ac_tree.specs.declared.statement.ProgramValue.TheVariants.{Text, Full
 use Rattle.ac_tree.specs.Resumable.{IsOrdinary, MayRead, ReadsText, ReadsAll, MayAssign, MayUse}
 use Rattle.ac_tree.specs.TestNames.{program_name, path_name, NamesVariable}
 use Rattle.ac_tree.specs.Uses.{uses_of}
-use Rattle.meaning.specs.State.{State, with_variable, with_definition, Goes_on, Completed, Stopped, Run, Ends}
+use Rattle.meaning.specs.State.{State, with_variable, with_definition, Goes_on, Completed, Stopped, Run, Ends, value_or_empty}
 use Rattle.meaning.specs.Messages.{with_message}
 use Rattle.meaning.specs.Tests.{tested}
-use Rattle.meaning.specs.Rows.{value_or_empty, value_if, row_of}
+use Rattle.meaning.specs.Rows.{value_if, row_of}
 use Rattle.meaning.specs.Package.{literal, package_string, with_package, initialised}
 use Rattle.meaning.specs.Meaning.{is_unsettled, settled, with_prefixes, is_full_name, effect}
 use Rattle.meaning_resumption.specs.Alone.{AreNone, AloneUse}
@@ -32,7 +32,7 @@ use Rattle.meaning_resumption.proofs.Forms.{IsTest, cond_values, reads_more}
 use Rattle.meaning_resumption.proofs.Parts.{part_less}
 use Rattle.meaning_resumption.proofs.Programs.{SameKind, prog_kind, prog_test, own_same, looks_test, test_then, default_of, default_alike, default_values, given_same}
 use Rattle.meaning_resumption.proofs.Single.{still_part, ends_part, test_part}
-use Rattle.meaning_resumption.proofs.BatchPart.{batch_part}
+use Rattle.meaning_resumption.proofs.BatchPart.{list_part}
 
 pub id_part : (known : List (List ℕ)) (fits : List (List ℕ) → Type 0) → IsPart known known [] (Ends Goes_on) (joint_one (Ends Goes_on)) (λ p. Unit {0}) fits
 id_part known fits = still_part [] known (λ st. st) fits (λ n a. absurd a) (λ at reads s t h. h) (λ n st c. refl)
@@ -154,7 +154,7 @@ plain_part tested known d (Searches variable programs otherwise) w v r =
     (λ n st c. default_values variable (option_map (λ t. word_value t st.vars) otherwise) n st p c)
     (looks_test known name variable programs (program_cached variable v) p))
 plain_part tested known d (Batch listed entries includes) w v r =
-    batch_part tested known (record { listed = listed; entries = entries; includes = includes }) _ r.1.1
+    list_part tested known listed entries includes _ r.1.1
 plain_part tested known d Complete w v r =
     ends_part known Completed with_prefixes _ (λ later now E h. h)
     (λ s t a. settled_alike (codes "exec_prefix") (codes "${prefix}") _ _ (settled_alike (codes "prefix") (codes "/usr/local") s t a)) prefixes_values

@@ -7,7 +7,7 @@ use Rattle.crew_trait.specs.declared.reply.Reply.{Reply}
 use Rattle.deftable.specs.Table.{value_of}
 use Rattle.shellword.specs.declared.part.Part.{Part}
 use Rattle.shellword.specs.Value.{word_value}
-use Rattle.ac_tree.specs.declared.listed.Sought.TheVariants as seeks
+use Rattle.ac_tree.specs.declared.listed.Listed.{Listed}
 use Rattle.ac_tree.specs.declared.statement.Declares.{Declares}
 use Rattle.ac_tree.specs.declared.statement.Declares.TheVariants as declares
 use Rattle.ac_tree.specs.declared.statement.Effect.{Effect}
@@ -21,16 +21,19 @@ use Rattle.ac_tree.specs.declared.tree.Subject.TheVariants as subjects
 use Rattle.ac_tree.specs.Commands.{AssignsAlone, TriesAlone, AreCommands, AreCommandsIn, HasCommands, HasCommandsIn}
 use Rattle.ac_tree.specs.Resumable.{Among}
 use Rattle.ac_tree.specs.Script.{Script, Done, Then, Choice, Check, Cases, No_case, Case}
-use Rattle.ac_tree.specs.TestNames.{entry_name, program_name, search_name}
+use Rattle.ac_tree.specs.TestNames.{program_name, search_name, sought_name}
 use Rattle.ac_tree.specs.Uses.{uses_asked}
 use Rattle.meaning.specs.State.{State, Scope, no_choice, about, Run, ended, as_is}
 use Rattle.meaning.specs.Tests.{checking, tested}
-use Rattle.meaning.specs.Rows.{TestKind, Library, Libraries, kind_for, name_of, row_of}
-use Rattle.meaning.specs.Batches.{Batch, job_for, asking}
+use Rattle.meaning.specs.Rows.{row_of, Formed}
+use Rattle.meaning.specs.Forms.{FormTest, form_name}
+use Rattle.meaning.specs.Entries.{entry_test, sought_test, library_test, search_test, tests_of}
+use Rattle.meaning.specs.Batches.{job_for, asking}
 use Rattle.meaning.specs.Meaning.{effect, after_question, found_by, after_subject, rounds_of, in_turn, is_taken, meaning, chosen}
 use Rattle.meaning_laws.specs.Questions.{yes_or_no}
 use Rattle.meaning_laws.proofs.CommandLemmas.{one_round}
 use Rattle.meaning_resumption.specs.Joint.{test_in, checks}
+use Rattle.meaning_resumption.proofs.Names.{entry_named, sought_named}
 use Rattle.meaning_resumption.specs.Asked.{Share, jobs_asked, made, use_shares, entry_shares, effect_shares, shares_after, shares_answered, subject_shares, turn_shares, owned, shares, case_shares, shared_jobs, Asker, a_statement, a_question, a_check, IsAskedIn, Has, HasWithin, HasItsJobs, of_statement, of_question, of_entry, of_check, of_try, SharesHaveTheirJobs}
 use Rattle.meaning_resumption.proofs.EachShare.{Each, each_both, each_either, each_after, each_answered, Always, always}
 use Rattle.meaning_resumption.proofs.Shares.{shared_owned, asked_ended, asked_until, check_covered, shares_are_jobs}
@@ -41,25 +44,27 @@ their_made whole (Some value) share h = tt
 
 -- ---- statements
 
-their_entry : (whole : Script) (batch : Batch) (entry : List ℕ) (job : Option Job) (tail : List (List ℕ × Option Job))
-    → ((own : Job) → job ≡ Some own → HasItsJobs whole (record { name = Some (entry_name batch.listed entry); jobs = own ∷ [] }))
-    → Each (HasItsJobs whole) (entry_shares batch tail) → Each (HasItsJobs whole) (entry_shares batch ((entry, job) ∷ tail))
-their_entry whole batch entry None tail own h = h
-their_entry whole batch entry (Some job) tail own h = (own job refl, h)
+their_entry : (whole : Script) (test : FormTest) (job : Option Job) (tail : List (FormTest × Option Job))
+    → ((own : Job) → job ≡ Some own → HasItsJobs whole (record { name = Some (form_name test.form); jobs = own ∷ [] }))
+    → Each (HasItsJobs whole) (entry_shares tail) → Each (HasItsJobs whole) (entry_shares ((test, job) ∷ tail))
+their_entry whole test None tail own h = h
+their_entry whole test (Some job) tail own h = (own job refl, h)
 
-their_entries : (whole : Script) (d : Declares) (batch : Batch) → Has (a_statement d (effects.Batch batch.listed batch.entries batch.includes)) whole
-    → (entries : List (List ℕ)) → ((entry : List ℕ) → Among entry entries → Among entry batch.entries)
-    → (place : ℕ) (earlier : List (List ℕ)) (st : State) → Each (HasItsJobs whole) (entry_shares batch (asking batch place earlier entries st))
-their_entries whole d batch there [] among place earlier st = tt
-their_entries whole d batch there (entry ∷ more) among place earlier st =
-    let seen = entry_name batch.listed entry ∷ earlier in
-    their_entry whole batch entry (job_for batch place earlier entry st) (asking batch (suc place) seen more st)
-    (λ own is. of_entry whole d batch place earlier entry st own there (among entry (inl refl)) is)
-    (their_entries whole d batch there more (λ other a. among other (inr a)) (suc place) seen st)
+their_entries : (whole : Script) (d : Declares) (listed : Listed) (all : List (List ℕ)) (includes : Option (List Part)) → Has (a_statement d (effects.Batch listed all includes)) whole
+    → (entries : List (List ℕ)) → ((entry : List ℕ) → Among entry entries → Among entry all)
+    → (place : ℕ) (earlier : List (List ℕ)) (st : State) → Each (HasItsJobs whole) (entry_shares (asking place earlier (tests_of listed entries includes) st))
+their_entries whole d listed all includes there [] among place earlier st = tt
+their_entries whole d listed all includes there (entry ∷ more) among place earlier st =
+    let test = entry_test listed includes entry in
+    let seen = form_name test.form ∷ earlier in
+    their_entry whole test (job_for test place earlier st) (asking (suc place) seen (tests_of listed more includes) st)
+    (λ own is. subst (λ name. HasItsJobs whole (record { name = Some name; jobs = own ∷ [] })) (sym (entry_named listed entry true))
+    (of_entry whole d listed all includes place earlier entry st own there (among entry (inl refl)) is))
+    (their_entries whole d listed all includes there more (λ other a. among other (inr a)) (suc place) seen st)
 
 their_effect : (whole : Script) (d : Declares) (e : Effect) → Has (a_statement d e) whole → (st : State) (rs : List Reply) → Each (HasItsJobs whole) (effect_shares d e st rs)
 their_effect whole d (effects.Batch listed entries includes) there st rs =
-    their_entries whole d (record { listed = listed; entries = entries; includes = includes }) there entries (λ entry a. a) 1 [] st
+    their_entries whole d listed entries includes there entries (λ entry a. a) 1 [] st
 their_effect whole d (Search variable program value otherwise) there st rs =
     let name = search_name value variable in
     their_made whole (value_of st.vars name) _ (of_statement whole d (Search variable program value otherwise) st rs name there refl)
@@ -72,28 +77,31 @@ their_effect whole d _ there st rs = tt
 
 -- ---- questions
 
-found_jobs : (kind : TestKind) (st : State) (rs : List Reply) → jobs_asked (tested (row_of kind st) st) rs ≡ jobs_asked (found_by as_is kind st yes_or_no) rs
-found_jobs kind st rs =
-    let run = tested (row_of kind st) st in
+found_jobs : (t : FormTest) (st : State) (rs : List Reply) → jobs_asked (tested (row_of (Formed t) st) st) rs ≡ jobs_asked (found_by as_is t st yes_or_no) rs
+found_jobs t st rs =
+    let run = tested (row_of (Formed t) st) st in
     sym (asked_until (ended as_is run) _ rs (λ now. tt) ∙ asked_ended as_is run rs)
 
-their_kind : (whole : Script) (q : Question) (kind : TestKind) → Has (a_question q) whole → (st : State) (rs : List Reply) → test_in q ≡ Some kind
-    → Each (HasItsJobs whole) (made (value_of st.vars (name_of kind)) (record { name = Some (name_of kind); jobs = jobs_asked (found_by as_is kind st yes_or_no) rs } ∷ []))
-their_kind whole q kind there st rs e =
-    their_made whole (value_of st.vars (name_of kind)) _
-    (subst (λ l. HasItsJobs whole (record { name = Some (name_of kind); jobs = l })) (found_jobs kind st rs) (of_question whole q kind st rs there e))
+their_test : (whole : Script) (q : Question) (t : FormTest) (name : List ℕ) → Has (a_question q) whole → (st : State) (rs : List Reply) → test_in q ≡ Some t → form_name t.form ≡ name
+    → Each (HasItsJobs whole) (made (value_of st.vars name) (record { name = Some name; jobs = jobs_asked (found_by as_is t st yes_or_no) rs } ∷ []))
+their_test whole q t name there st rs e is =
+    their_made whole (value_of st.vars name) _
+    (subst (λ l. HasItsJobs whole (record { name = Some name; jobs = l })) (found_jobs t st rs)
+    (subst (λ n. HasItsJobs whole (record { name = Some n; jobs = jobs_asked (tested (row_of (Formed t) st) st) rs })) is (of_question whole q t st rs there e)))
 
 their_question : (whole : Script) (q : Question) → Has (a_question q) whole → (st : State) (rs : List Reply)
     → Each (HasItsJobs whole) (use_shares (uses_asked q) st (after_question as_is q st yes_or_no) rs)
 their_question whole (Given kind variable) there st rs = tt
 their_question whole (Tries kind program) there st rs = (of_try whole kind program st rs there, tt)
-their_question whole (Checks (seeks.ListEntry listed) entry includes) there st rs = their_kind whole (Checks (seeks.ListEntry listed) entry includes) (kind_for (seeks.ListEntry listed) entry includes false) there st rs refl
-their_question whole (Checks seeks.«Type» entry includes) there st rs = their_kind whole (Checks seeks.«Type» entry includes) (kind_for seeks.«Type» entry includes false) there st rs refl
+their_question whole (Checks sought entry includes) there st rs =
+    their_test whole (Checks sought entry includes) (sought_test sought entry includes false) (sought_name sought entry) there st rs refl (sought_named sought entry false)
 their_question whole (ChecksEach sought [] includes) there st rs = tt
-their_question whole (ChecksEach (seeks.ListEntry listed) (entry ∷ more) includes) there st rs = their_kind whole (ChecksEach (seeks.ListEntry listed) (entry ∷ more) includes) (kind_for (seeks.ListEntry listed) entry includes true) there st rs refl
-their_question whole (ChecksEach seeks.«Type» (entry ∷ more) includes) there st rs = their_kind whole (ChecksEach seeks.«Type» (entry ∷ more) includes) (kind_for seeks.«Type» entry includes true) there st rs refl
-their_question whole (questions.Library library function others adds) there st rs = their_kind whole (questions.Library library function others adds) (Library library function others adds) there st rs refl
-their_question whole (questions.Libraries function libraries others) there st rs = their_kind whole (questions.Libraries function libraries others) (Libraries function libraries others) there st rs refl
+their_question whole (ChecksEach sought (entry ∷ more) includes) there st rs =
+    their_test whole (ChecksEach sought (entry ∷ more) includes) (sought_test sought entry includes true) (sought_name sought entry) there st rs refl (sought_named sought entry true)
+their_question whole (questions.Library library function others adds) there st rs =
+    their_test whole (questions.Library library function others adds) (library_test library function others adds) _ there st rs refl refl
+their_question whole (questions.Libraries function libraries others) there st rs =
+    their_test whole (questions.Libraries function libraries others) (search_test function libraries others) _ there st rs refl refl
 
 their_subject : (whole : Script) (r : Subject) → ((q : Question) → r ≡ subjects.Asked q → Has (a_question q) whole) → (st : State) (rs : List Reply) (rest : Scope → State → List Reply → List Share)
     → ((c : Scope) (now : State) (left : List Reply) → Each (HasItsJobs whole) (rest c now left)) → Each (HasItsJobs whole) (subject_shares r st rs rest)

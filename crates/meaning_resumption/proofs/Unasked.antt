@@ -12,11 +12,12 @@ use Rattle.ac_tree.specs.declared.tree.Subject.{Subject}
 use Rattle.ac_tree.specs.declared.tree.Subject.TheVariants.{Nothing, Word, Asked}
 use Rattle.ac_tree.specs.Resumable.{Among}
 use Rattle.ac_tree.specs.Script.{Script, Done, Then, Choice, Check, Cases, No_case, Case}
-use Rattle.ac_tree.specs.TestNames.{entry_name}
 use Rattle.ac_tree.specs.Uses.{Uses, uses_of, uses_asked}
 use Rattle.meaning.specs.State.{State, Scope, no_choice, about, Run, as_is}
 use Rattle.meaning.specs.Tests.{checking}
-use Rattle.meaning.specs.Batches.{Batch, job_for, asking}
+use Rattle.meaning.specs.Forms.{FormTest, form_name}
+use Rattle.meaning.specs.Entries.{tests_of}
+use Rattle.meaning.specs.Batches.{job_for, asking}
 use Rattle.meaning.specs.Meaning.{effect, after_question, after_subject, rounds_of, in_turn, is_taken, check, meaning, chosen}
 use Rattle.meaning_laws.specs.Cached.{IsSet}
 use Rattle.meaning_laws.specs.Questions.{yes_or_no}
@@ -63,22 +64,22 @@ spares_first n (name ∷ more) st jobs s = spares_made n name st _ s (λ other. 
 spares_use : (n : List ℕ) (uses : Uses) (st : State) (run : Run) (rs : List Reply) → Set n st → Spares n (use_shares uses st run rs)
 spares_use n uses st run rs s = each_either (λ share. Other n share.name) uses.tries _ _ (tt, tt) (spares_first n uses.tests st (jobs_asked run rs) s)
 
-one_entry : (n : List ℕ) (batch : Batch) (entry : List ℕ) (job : Option Job) (tail : List (List ℕ × Option Job)) → (entry_name batch.listed entry ≡ n → ⊥) → Spares n (entry_shares batch tail) → Spares n (entry_shares batch ((entry, job) ∷ tail))
-one_entry n batch entry None tail apart rest = rest
-one_entry n batch entry (Some job) tail apart rest = (apart, rest)
+one_entry : (n : List ℕ) (test : FormTest) (job : Option Job) (tail : List (FormTest × Option Job)) → (form_name test.form ≡ n → ⊥) → Spares n (entry_shares tail) → Spares n (entry_shares ((test, job) ∷ tail))
+one_entry n test None tail apart rest = rest
+one_entry n test (Some job) tail apart rest = (apart, rest)
 
-spares_entries : (n : List ℕ) (batch : Batch) (entries : List (List ℕ)) (place : ℕ) (earlier : List (List ℕ)) (st : State) → Set n st → Spares n (entry_shares batch (asking batch place earlier entries st))
-spares_entries n batch [] place earlier st s = tt
-spares_entries n batch (entry ∷ more) place earlier st s =
-    let tail = asking batch (suc place) (entry_name batch.listed entry ∷ earlier) more st in
-    let rest = spares_entries n batch more (suc place) (entry_name batch.listed entry ∷ earlier) st s in
+spares_entries : (n : List ℕ) (tests : List FormTest) (place : ℕ) (earlier : List (List ℕ)) (st : State) → Set n st → Spares n (entry_shares (asking place earlier tests st))
+spares_entries n [] place earlier st s = tt
+spares_entries n (test ∷ more) place earlier st s =
+    let tail = asking (suc place) (form_name test.form ∷ earlier) more st in
+    let rest = spares_entries n more (suc place) (form_name test.form ∷ earlier) st s in
     ⊎_elim
-    (λ same. subst (λ j. Spares n (entry_shares batch ((entry, j) ∷ tail))) (sym (no_job_set batch entry place earlier st (ap is_some (ap (value_of st.vars) same ∙ s.1)))) rest)
-    (λ other. one_entry n batch entry (job_for batch place earlier entry st) tail other rest)
-    (same_or_not (entry_name batch.listed entry) n)
+    (λ same. subst (λ j. Spares n (entry_shares ((test, j) ∷ tail))) (sym (no_job_set test place earlier st (ap is_some (ap (value_of st.vars) same ∙ s.1)))) rest)
+    (λ other. one_entry n test (job_for test place earlier st) tail other rest)
+    (same_or_not (form_name test.form) n)
 
 spares_effect : (n : List ℕ) (d : Declares) (e : Effect) (st : State) (rs : List Reply) → Set n st → Spares n (effect_shares d e st rs)
-spares_effect n d (effects.Batch listed entries includes) st rs s = spares_entries n (record { listed = listed; entries = entries; includes = includes }) entries 1 [] st s
+spares_effect n d (effects.Batch listed entries includes) st rs s = spares_entries n (tests_of listed entries includes) 1 [] st s
 spares_effect n d e st rs s = spares_use n (uses_of d e) st (effect e st) rs s
 
 spares_subject : (n : List ℕ) (r : Subject) (st : State) (rs : List Reply) (rest : Scope → State → List Reply → List Share) → Set n st → ((c : Scope) (now : State) (left : List Reply) → Set n now → Spares n (rest c now left)) → Spares n (subject_shares r st rs rest)

@@ -7,6 +7,7 @@ use Rattle.crew_trait.specs.declared.reply.Reply.{Reply}
 use Rattle.deftable.specs.Table.{value_of}
 use Rattle.shellword.specs.declared.part.Part.{Part}
 use Rattle.shellword.specs.Value.{word_value}
+use Rattle.ac_tree.specs.declared.listed.Listed.{Listed}
 use Rattle.ac_tree.specs.declared.program.Program.{Program}
 use Rattle.ac_tree.specs.declared.program.Try.{Try}
 use Rattle.ac_tree.specs.declared.statement.Declares.{Declares}
@@ -23,8 +24,10 @@ use Rattle.ac_tree.specs.TestNames.{entry_name}
 use Rattle.ac_tree.specs.Uses.{Uses, uses_of, uses_asked}
 use Rattle.meaning.specs.State.{State, Scope, no_choice, about, answered, Goes_on, Completed, Stopped, Cut, Run, Ends, Asks, as_is}
 use Rattle.meaning.specs.Tests.{checking, tested}
-use Rattle.meaning.specs.Rows.{TestKind, name_of, row_of}
-use Rattle.meaning.specs.Batches.{Batch, job_for, asking}
+use Rattle.meaning.specs.Forms.{FormTest, form_name}
+use Rattle.meaning.specs.Entries.{entry_test, tests_of}
+use Rattle.meaning.specs.Rows.{Formed, row_of}
+use Rattle.meaning.specs.Batches.{job_for, asking}
 use Rattle.meaning.specs.Meaning.{effect, after_question, after_subject, rounds_of, in_turn, is_taken, meaning, chosen}
 use Rattle.meaning.specs.Play.{play, all_jobs}
 use Rattle.meaning_laws.specs.Questions.{yes_or_no}
@@ -57,16 +60,14 @@ use_shares uses st run replies =
     if uses.tries then record { name = None; jobs = jobs_asked run replies } ∷ [] else first_share uses.tests st (jobs_asked run replies)
 
 -- The entries of a batch that ask for a child, each with its job.
-abbrev pub entry_shares : Batch → List (List ℕ × Option Job) → List Share
-entry_shares batch [] = []
-entry_shares batch ((entry, None) ∷ more) = entry_shares batch more
-entry_shares batch ((entry, Some job) ∷ more) = record { name = Some (entry_name batch.listed entry); jobs = job ∷ [] } ∷ entry_shares batch more
+abbrev pub entry_shares : List (FormTest × Option Job) → List Share
+entry_shares [] = []
+entry_shares ((test, None) ∷ more) = entry_shares more
+entry_shares ((test, Some job) ∷ more) = record { name = Some (form_name test.form); jobs = job ∷ [] } ∷ entry_shares more
 
 -- A statement. AC_CHECK_PROGS and AC_PROG_CC are one test.
 abbrev pub effect_shares : Declares → Effect → State → List Reply → List Share
-effect_shares declares (effects.Batch listed entries includes) st replies =
-    let batch : Batch = record { listed = listed; entries = entries; includes = includes } in
-    entry_shares batch (asking batch 1 [] entries st)
+effect_shares declares (effects.Batch listed entries includes) st replies = entry_shares (asking 1 [] (tests_of listed entries includes) st)
 effect_shares declares e st replies = use_shares (uses_of declares e) st (effect e st) replies
 
 -- What follows a run, if it continues, with the replies that are left.
@@ -174,13 +175,13 @@ pub data HasItsJobs : Script → Share → Type 0 where
   of_statement : (script : Script) (declares : Declares) (e : Effect) (st : State) (replies : List Reply) (name : List ℕ)
       → Has (a_statement declares e) script → (uses_of declares e).tests ≡ name ∷ []
       → HasItsJobs script (record { name = Some name; jobs = jobs_asked (effect e st) replies })
-  of_question : (script : Script) (q : Question) (kind : TestKind) (st : State) (replies : List Reply)
-      → Has (a_question q) script → test_in q ≡ Some kind
-      → HasItsJobs script (record { name = Some (name_of kind); jobs = jobs_asked (tested (row_of kind st) st) replies })
-  of_entry : (script : Script) (declares : Declares) (batch : Batch) (place : ℕ) (earlier : List (List ℕ)) (entry : List ℕ) (st : State) (job : Job)
-      → Has (a_statement declares (effects.Batch batch.listed batch.entries batch.includes)) script → Among entry batch.entries
-      → job_for batch place earlier entry st ≡ Some job
-      → HasItsJobs script (record { name = Some (entry_name batch.listed entry); jobs = job ∷ [] })
+  of_question : (script : Script) (q : Question) (test : FormTest) (st : State) (replies : List Reply)
+      → Has (a_question q) script → test_in q ≡ Some test
+      → HasItsJobs script (record { name = Some (form_name test.form); jobs = jobs_asked (tested (row_of (Formed test) st) st) replies })
+  of_entry : (script : Script) (declares : Declares) (listed : Listed) (entries : List (List ℕ)) (includes : Option (List Part)) (place : ℕ) (earlier : List (List ℕ)) (entry : List ℕ) (st : State) (job : Job)
+      → Has (a_statement declares (effects.Batch listed entries includes)) script → Among entry entries
+      → job_for (entry_test listed includes entry) place earlier st ≡ Some job
+      → HasItsJobs script (record { name = Some (entry_name listed entry); jobs = job ∷ [] })
   of_check : (script : Script) (message : List Part) (name : List ℕ) (commands : Script) (st : State) (replies : List Reply)
       → Has (a_check message name commands) script
       → HasItsJobs script (record { name = Some name; jobs = jobs_asked (checks message name (meaning commands) st) replies })

@@ -18,8 +18,10 @@ use Rattle.ac_tree.specs.Script.{Script, Done, Then, Choice, Check, Cases, No_ca
 use Rattle.meaning.specs.State.{State, Scope, no_choice, about, answered, with_variable, How, Goes_on, Completed, Stopped, Cut, Run, Ends}
 use Rattle.meaning.specs.Asking.{success}
 use Rattle.meaning.specs.Tests.{cached_test, tested}
-use Rattle.meaning.specs.Rows.{TestKind, Library, Libraries, entry_name, kind_for, name_of, is_found, row_of}
-use Rattle.meaning.specs.Batches.{Batch, asking, batched}
+use Rattle.meaning.specs.Forms.{FormTest, form_name, says_found}
+use Rattle.meaning.specs.Entries.{sought_test, library_test, search_test, tests_of}
+use Rattle.meaning.specs.Rows.{Formed, row_of}
+use Rattle.meaning.specs.Batches.{asking, batched}
 use Rattle.meaning.specs.Meaning.{effect, value_name, rounds_of, is_taken, check, meaning}
 use Rattle.meaning_laws.specs.Batched.{answer_to}
 use Rattle.meaning_resumption.specs.Finished.{Finished, finish}
@@ -71,38 +73,38 @@ answer_or None reply None = StartRefused
 answer_or None reply (Some other) = other
 
 -- The joint replies to the entries that the first run asked for.
-abbrev pub joint_entries : Batch → List (List ℕ × Option Job) → List Reply → List (List ℕ × Option Job) → List Reply → List Reply
-joint_entries batch [] replies asks again = []
-joint_entries batch ((entry, None) ∷ more) replies asks again = joint_entries batch more replies asks again
-joint_entries batch ((entry, Some job) ∷ more) [] asks again =
-    answer_or None StartRefused (answer_to (entry_name batch.listed entry) batch asks again) ∷ joint_entries batch more [] asks again
-joint_entries batch ((entry, Some job) ∷ more) (reply ∷ replies) asks again =
-    answer_or (success reply) reply (answer_to (entry_name batch.listed entry) batch asks again) ∷ joint_entries batch more replies asks again
+abbrev pub joint_entries : List (FormTest × Option Job) → List Reply → List (FormTest × Option Job) → List Reply → List Reply
+joint_entries [] replies asks again = []
+joint_entries ((test, None) ∷ more) replies asks again = joint_entries more replies asks again
+joint_entries ((test, Some job) ∷ more) [] asks again =
+    answer_or None StartRefused (answer_to (form_name test.form) asks again) ∷ joint_entries more [] asks again
+joint_entries ((test, Some job) ∷ more) (reply ∷ replies) asks again =
+    answer_or (success reply) reply (answer_to (form_name test.form) asks again) ∷ joint_entries more replies asks again
 
 -- A batch: if the first run is cut in it, these, and then the second run's replies after its batch.
-abbrev pub joint_batch : Batch → Pair → Joint
-joint_batch batch p =
-    joint_by (finish (batched batch p.first) p.replies).how (finish (batched batch p.first) p.replies) (finish (batched batch p.second) p.again)
-    (joint_entries batch (asking batch 1 [] batch.entries p.first) (finish (batched batch p.first) p.replies).taken
-    (asking batch 1 [] batch.entries p.second) (finish (batched batch p.second) p.again).taken
-    ++ (finish (batched batch p.second) p.again).left)
+abbrev pub joint_batch : List FormTest → Pair → Joint
+joint_batch tests p =
+    joint_by (finish (batched tests p.first) p.replies).how (finish (batched tests p.first) p.replies) (finish (batched tests p.second) p.again)
+    (joint_entries (asking 1 [] tests p.first) (finish (batched tests p.first) p.replies).taken
+    (asking 1 [] tests p.second) (finish (batched tests p.second) p.again).taken
+    ++ (finish (batched tests p.second) p.again).left)
 
 -- A statement. AC_CHECK_PROGS and AC_PROG_CC are one test.
 unfoldable pub joint_plain : Effect → Pair → Joint
-joint_plain (effects.Batch listed entries includes) p = joint_batch (record { listed = listed; entries = entries; includes = includes }) p
+joint_plain (effects.Batch listed entries includes) p = joint_batch (tests_of listed entries includes) p
 joint_plain e p = joint_one (effect e) p
 
 -- ---- choices
 
 -- The test that a question makes; of a list, that of its first entry.
-abbrev pub test_in : question.Question → Option TestKind
+abbrev pub test_in : question.Question → Option FormTest
 test_in (Given kind variable) = None
 test_in (Tries kind program) = None
-test_in (Checks sought entry includes) = Some (kind_for sought entry includes false)
+test_in (Checks sought entry includes) = Some (sought_test sought entry includes false)
 test_in (ChecksEach sought [] includes) = None
-test_in (ChecksEach sought (entry ∷ more) includes) = Some (kind_for sought entry includes true)
-test_in (questions.Library library function others adds) = Some (Library library function others adds)
-test_in (questions.Libraries function libraries others) = Some (Libraries function libraries others)
+test_in (ChecksEach sought (entry ∷ more) includes) = Some (sought_test sought entry includes true)
+test_in (questions.Library library function others adds) = Some (library_test library function others adds)
+test_in (questions.Libraries function libraries others) = Some (search_test function libraries others)
 
 -- The variable of an option that is given.
 abbrev pub given_then : OptionKind → Option (List ℕ) → State → State
@@ -110,9 +112,9 @@ given_then kind None st = st
 given_then kind (Some value) st = with_variable (value_name kind) value st
 
 -- A test, if there is one, and no more.
-abbrev pub begins_test : Option TestKind → State → Run
+abbrev pub begins_test : Option FormTest → State → Run
 begins_test None st = Ends Goes_on st
-begins_test (Some kind) st = tested (row_of kind st) st
+begins_test (Some test) st = tested (row_of (Formed test) st) st
 
 -- The beginning of a choice, up to its cases. No program is tried: of sources that can be resumed, only commands do that.
 unfoldable pub begins : Subject → State → Run
@@ -122,9 +124,9 @@ begins (Asked (Given kind variable)) st = Ends Goes_on (given_then kind (value_o
 begins (Asked q) st = begins_test (test_in q) st
 
 -- The answer to the question of a test after it, by the value of its name.
-abbrev pub answer_by : Option TestKind → State → Bool
+abbrev pub answer_by : Option FormTest → State → Bool
 answer_by None now = false
-answer_by (Some kind) now = is_found kind (value_of now.vars (name_of kind))
+answer_by (Some test) now = says_found test.form.says (value_of now.vars (form_name test.form))
 
 -- What a choice is about after its beginning.
 unfoldable pub scope_at : Subject → State → Scope

@@ -7,7 +7,7 @@ use Rattle.ac_tree.specs.declared.tree.Subject.TheVariants.{Nothing, Word, Asked
 use Rattle.ac_tree.specs.Script.{Script, Done, Then, Choice, Check, Cases, No_case, Case}
 use Rattle.ac_tree.specs.Uses.{Uses, uses_of}
 use Rattle.meaning.specs.State.{State, Scope, Goes_on, Run}
-use Rattle.meaning.specs.Rows.{TestKind, name_of}
+use Rattle.meaning.specs.Forms.{FormTest, form_name}
 use Rattle.meaning.specs.Meaning.{effect, rounds_of, is_taken, meaning}
 use Rattle.meaning_resumption.specs.Finished.{finish}
 use Rattle.meaning_resumption.specs.Alone.{left_unset}
@@ -39,9 +39,9 @@ abbrev pub SameUse : Uses → (State → Run) → Pair → Type 0
 SameUse uses part p = SameEach (left_unset uses) part p
 
 -- This holds of a test, if there is one.
-abbrev pub SameTest : Option TestKind → Pair → Type 0
+abbrev pub SameTest : Option FormTest → Pair → Type 0
 SameTest None p = Unit {0}
-SameTest (Some kind) p = SameOne (name_of kind) (begins_test (Some kind)) p
+SameTest (Some test) p = SameOne (form_name test.form) (begins_test (Some test)) p
 
 -- This holds of the test at the beginning of a choice.
 abbrev pub SameAt : Subject → Pair → Type 0

@@ -1,5 +1,5 @@
 -- The check of precious variables, in the words of the rules: for the clauses of the public calls.
-use Rattle.std.proofs.Common.{◌≡◌, ℕ, List, [], ◌∷◌, ◌++◌, map, Result, Ok, Err, fold, refl, sym, ap, subst, ◌∙◌}
+use Rattle.std.proofs.Common.{◌≡◌, ℕ, List, map, Result, Ok, Err, fold, refl, ap, subst, ◌∙◌}
 use Rattle.std.specs.Prelude.{IfOk, IfErr}
 use Rattle.cachefile.specs.Cache.{vars_after}
 use Rattle.cachefile.specs.Line.{Setting}

@@ -1,5 +1,5 @@
 -- What the comparison of precious variables finds, in the words of the rules.
-use Rattle.std.proofs.Common.{◌≡◌, ◌↔◌, ℕ, ◌+◌, ◌⊎◌, inl, inr, Bool, true, false, cond, not, List, [], ◌∷◌, ◌++◌, map, filter, length, Option, Some, None, Result, Ok, Err, fold, refl, sym, ap, subst, ◌∙◌, if◌then◌else◌, ◌||◌, arith}
+use Rattle.std.proofs.Common.{◌≡◌, ℕ, ◌+◌, Bool, true, false, cond, not, List, [], ◌∷◌, ◌++◌, map, filter, length, Option, Some, None, Result, Ok, Err, fold, refl, sym, ap, subst, ◌∙◌, if◌then◌else◌, ◌||◌, arith}
 use Rattle.std.specs.Prelude.{option_to_list, ◌&&◌}
 use Rattle.std.specs.List.{AllByRecursion}
 use Rattle.std.specs.Str.{bytes_eq}

@@ -1,11 +1,10 @@
 -- What precious variables have before any mark, and that a run without a cache finds none that changed.
-use Rattle.std.proofs.Common.{◌≡◌, ℕ, ◌+◌, ◌||◌, Bool, true, false, cond, List, [], ◌∷◌, ◌++◌, map, codes, Option, Some, None, Result, Ok, Err, fold, refl, sym, ap, subst, ◌∙◌, if◌then◌else◌, reverse, get_or, nat_eq}
+use Rattle.std.proofs.Common.{◌≡◌, ℕ, ◌+◌, ◌||◌, Bool, true, false, cond, List, [], ◌∷◌, ◌++◌, map, codes, Option, Some, None, Ok, Err, fold, refl, sym, ap, ◌∙◌, if◌then◌else◌, reverse, get_or, nat_eq}
 use Rattle.std.specs.Prelude.{is_some, unwrap_or, option_to_list}
 use Rattle.std.specs.List.{AllByRecursion, flat_map}
 use Rattle.std.specs.Str.{bytes_eq}
 use Rattle.std.proofs.lemmas.List.{append_cancel_left, append_cancel_right, reverse-append}
 use Rattle.std.proofs.lemmas.Slice.Eq.{bytes_eq-Decides}
-use Rattle.cachefile.specs.Cache.{vars_after}
 use Rattle.cachefile.specs.Name.{is_mark}
 use Rattle.deftable.proofs.Tables.{value_of-with_entry}
 use Rattle.deftable.specs.NameList.{has_name}
@@ -13,7 +12,6 @@ use Rattle.deftable.specs.Table.{value_of, with_entry}
 use Rattle.options.specs.Opening.{with_variable, set_name, value_name, set_mark, marks_of, with_marks, unmarked, finished}
 use Rattle.options.specs.Precious.{old_value, value_before, change_of, have_same_fields, restored, restored_variable, restored_from, blanks_note, checked, MarksTell, FreshRunsAgree}
 use Rattle.options.specs.Reading.{◌>>=◌}
-use Rattle.options.specs.declared.fault.PreciousFault.{PreciousFault}
 use Rattle.options.specs.declared.fault.PreciousFault.TheVariants.{Changed}
 use Rattle.options.proofs.Checks.{no_mark}
 use Rattle.options.proofs.Laws.{no_mark_changes}

@@ -1,7 +1,6 @@
 -- What holds of the definitions: the function of a command line and the relations that say what it gives are the same,
 -- arguments have one reading, and a variable has the value of its last setter.
-use Rattle.std.proofs.Common.{◌≡◌, ◌↔◌, ℕ, ◌⊎◌, inl, inr, cond, if◌then◌else◌, ◌||◌, Bool, true, false, List, [], ◌∷◌, ◌++◌, map, fold, codes, Option, Some, None, Result, Ok, Err, refl, sym, ap, subst, ◌∙◌}
-use Rattle.std.specs.Prelude.{unwrap_or}
+use Rattle.std.proofs.Common.{◌≡◌, ◌↔◌, ℕ, ◌⊎◌, inl, inr, cond, if◌then◌else◌, ◌||◌, Bool, true, false, List, [], ◌∷◌, ◌++◌, map, fold, Option, Some, None, Result, Ok, Err, refl, sym, ap, subst, ◌∙◌}
 use Rattle.std.specs.Option.{option_map}
 use Rattle.std.specs.List.{flat_map}
 use Rattle.std.specs.Str.{bytes_eq}
@@ -13,7 +12,7 @@ use Rattle.deftable.specs.Table.{value_of, with_entry, names_of}
 use Rattle.options_line.proofs.Lines.{settings_given, fault_given, given_reads, Reads}
 use Rattle.options_line.specs.Arguments.{settings_from}
 use Rattle.options_line.specs.CommandLine.{Setting, GivesSettings, IsFirstFault}
-use Rattle.options.specs.Opening.{opened_by, opening, IsOpening, of_arguments, of_options, IsOpeningFault, set_by, with_variable, with_unslashed, set_name, value_name, set_mark, marks_one, marks_of, with_marks, unmarked, finished}
+use Rattle.options.specs.Opening.{opened_by, opening, IsOpening, of_arguments, of_options, IsOpeningFault, set_by, with_variable, with_unslashed, set_name, value_name, marks_one, marks_of, with_marks, unmarked, finished}
 use Rattle.options_line.specs.Directories.{directories, directory_names, variable_of}
 use Rattle.options_line.specs.Reading.{◌>>=◌}
 use Rattle.options_line.specs.Slashes.{without_slashes}

@@ -4,6 +4,7 @@ pub mod Rows
 pub mod Readings
 pub mod Squeezes
 pub mod Restorings
+pub mod Marked
 pub mod Checks
 pub mod CheckClauses
 pub mod Fresh

@@ -2,8 +2,7 @@
 
 ghost use Rattle.std.specs.Prelude.{◌≡◌, ◌≢◌, ◌++◌, ◌||◌, Err, IfOk, IfErr, OnOk, OnErr, option_map, option_to_list, map, fold};
 ghost use Rattle.std.specs.Str.{bytes_eq};
-ghost use Rattle.cachefile.specs.Cache.{vars_after};
-ghost use Rattle.cachefile.specs.Name as names;
+ghost use Rattle.cachefile.specs.Cache.{HaveSameMarks, vars_after};
 ghost use Rattle.options.specs.Opening as opening;
 ghost use Rattle.options.specs.Opening.{with_variable};
 ghost use Rattle.options.specs.Precious as words;
@@ -13,17 +12,17 @@ ghost use Rattle.options.specs.declared.fault.PreciousFault.TheVariants.{OutOfMe
 
 use crate::fault::PreciousFault;
 use crate::opening::{mark_name, set_all};
-use cachefile::OldCache;
+use cachefile::{OldCache, is_mark};
 use deftable::{Bytes, Note, Notes, Stream, SubstList, Vars};
 use std::alloc::{AllocError, Global};
 use text_cut::fields;
 
-/// Returns what the variables would be if the cache were poured over them.
-fn poured(alloc: Global, vars: &Vars, cache: &OldCache) -> Result<Vars, AllocError>
-    ensures { IfOk result (λ marked. marked ≡ vars_after cache.now vars.now) }
+/// Returns variables with the marks that pouring the cache would leave.
+fn marked_by(alloc: Global, vars: &Vars, cache: &OldCache) -> Result<Vars, AllocError>
+    ensures { IfOk result (λ marked. HaveSameMarks marked (vars_after cache.now vars.now)) }
 {
     let mut marked = vars.copy(alloc)?;
-    cache.pour(&mut marked)?;
+    cache.pour_marks(&mut marked)?;
     Ok(marked)
 }
 
@@ -43,14 +42,6 @@ fn old_value<'a>(
     }
     let value_name = mark_name(alloc, name, b"_value")?;
     Ok(Some(marked.value_or_empty(value_name.as_slice())))
-}
-
-/// Returns whether the name begins with `ac_cv_env_`, as those of marks do.
-#[tactic(auto, unfolding(cachefile::specs::Name::is_mark))]
-fn is_mark(name: &[u8]) -> bool
-    ensures { result ≡ names.is_mark name.now }
-{
-    name.starts_with(b"ac_cv_env_")
 }
 
 /// Returns the value that a precious variable has before any mark, or `None` if it is unset then.
@@ -237,7 +228,7 @@ fn compare_all(
     ensures { Gives (λ changes. changes.items) result
         (words.restored_from precious.now 1 vars.now (vars_after cache.now vars.now) precious.now) }
 {
-    let marked = poured(alloc, vars, cache)?;
+    let marked = marked_by(alloc, vars, cache)?;
     restored_variables(alloc, precious, vars, &marked)
 }
 
@@ -284,6 +275,9 @@ fn change_all(
         notes ≡ map (λ change. words.blanks_note change.0) changes.now) }
     ensures unchanged { OnErr result (vars.new ≡ vars.old) }
 {
+    if changes.is_empty() {
+        return Ok(Notes::new(alloc));
+    }
     let notes = notes_of(alloc, changes)?;
     *vars = with_changes(alloc, vars, changes)?;
     Ok(notes)

@@ -2,6 +2,8 @@
 use Rattle.std.specs.Prelude.{ℕ, ◌==◌, not, List, ◌++◌, length, map, Some, codes}
 use Rattle.deftable.specs.Table.{with_entry}
 use Rattle.output_list.specs.declared.output.Output.{Output}
+use Rattle.output_make.specs.declared.filling.Made.{Made}
+use Rattle.output_make.specs.declared.filling.Made.TheVariants.{File, Header}
 use Rattle.output_put.specs.declared.artifact.Kind.TheVariants as kind
 use Rattle.output_put.specs.declared.artifact.Artifact.{Artifact}
 use Rattle.status_record.specs.declared.record.Record.{Record}
@@ -52,6 +54,11 @@ header_text r templates o = header_note_of o.name o.template ++ headed r.defs (t
 -- The header that is made of its template. (Autoconf's manual, "Configuration Header Files")
 unfoldable pub made_header : Record → List (List ℕ × List ℕ) → Output → Artifact
 made_header r templates o = record { kind = kind.Header; name = o.name; text = header_text r templates o }
+
+-- The file or header that is made of its template. (own)
+abbrev pub made_of : Made → Record → List (List ℕ × List ℕ) → Output → Artifact
+made_of File = made_file
+made_of Header = made_header
 
 -- What is made of a record with these templates: the files and then the headers, each in the record's order, without those
 -- that the tags leave out. (own)

@@ -170,87 +170,72 @@ fn make_header(
     })
 }
 
-/// Makes a file and appends it, unless the tags leave it out.
-fn add_file(
+/// What is made of a template.
+#[derive(Clone, Copy)]
+enum Made {
+    /// A file.
+    File,
+    /// A header.
+    Header,
+}
+
+/// Makes an output of this kind of its template.
+fn make_output(
+    alloc: Global,
+    made: Made,
+    recorded: &Record,
+    templates: &Templates<'_>,
+    output: &Output,
+) -> Result<Artifact, AllocError>
+    ensures { IfOk result (λ artifact.
+        artifact ≡ words.made_of made recorded.now templates.now output.now) }
+{
+    match made {
+        Made::File => make_listed_file(alloc, recorded, templates, output),
+        Made::Header => make_header(alloc, recorded, templates, output),
+    }
+}
+
+/// Makes an output and appends it, unless the tags leave it out.
+fn add_output(
     alloc: Global,
     artifacts: &mut Artifacts,
+    made: Made,
     recorded: &Record,
     templates: &Templates<'_>,
     tags: &[Bytes],
-    file: &Output,
+    output: &Output,
 ) -> Result<(), AllocError>
     ensures { OnOk result (
         artifacts.new
         ≡ artifacts.old
-        ++ map (words.made_file recorded.now templates.now)
-        (chosen tags.now (file.now ∷ []))) }
+        ++ map (words.made_of made recorded.now templates.now)
+        (chosen tags.now (output.now ∷ []))) }
 {
-    if !is_chosen(tags, file) {
+    if !is_chosen(tags, output) {
         return Ok(());
     }
-    let artifact = make_listed_file(alloc, recorded, templates, file)?;
+    let artifact = make_output(alloc, made, recorded, templates, output)?;
     artifacts.push(artifact)
 }
 
-/// Makes the files that the tags do not leave out, and appends them.
-fn add_files(
+/// Makes the outputs of this kind that the tags do not leave out, and appends them.
+fn add_each(
     alloc: Global,
     artifacts: &mut Artifacts,
+    made: Made,
     recorded: &Record,
     templates: &Templates<'_>,
     tags: &[Bytes],
-    files: &[Output],
+    outputs: &[Output],
 ) -> Result<(), AllocError>
     ensures { OnOk result (
         artifacts.new
         ≡ artifacts.old
-        ++ map (words.made_file recorded.now templates.now) (chosen tags.now files.now)) }
+        ++ map (words.made_of made recorded.now templates.now) (chosen tags.now outputs.now)) }
 {
-    'outputs: for file in files {
-        add_file(alloc, artifacts, recorded, templates, tags, file)?;
-    }
-    Ok(())
-}
-
-/// Makes a header and appends it, unless the tags leave it out.
-fn add_header(
-    alloc: Global,
-    artifacts: &mut Artifacts,
-    recorded: &Record,
-    templates: &Templates<'_>,
-    tags: &[Bytes],
-    header: &Output,
-) -> Result<(), AllocError>
-    ensures { OnOk result (
-        artifacts.new
-        ≡ artifacts.old
-        ++ map (words.made_header recorded.now templates.now)
-        (chosen tags.now (header.now ∷ []))) }
-{
-    if !is_chosen(tags, header) {
-        return Ok(());
-    }
-    let artifact = make_header(alloc, recorded, templates, header)?;
-    artifacts.push(artifact)
-}
-
-/// Makes the headers that the tags do not leave out, and appends them.
-fn add_headers(
-    alloc: Global,
-    artifacts: &mut Artifacts,
-    recorded: &Record,
-    templates: &Templates<'_>,
-    tags: &[Bytes],
-    headers: &[Output],
-) -> Result<(), AllocError>
-    ensures { OnOk result (
-        artifacts.new
-        ≡ artifacts.old
-        ++ map (words.made_header recorded.now templates.now)
-        (chosen tags.now headers.now)) }
-{
-    'outputs: for header in headers {
-        add_header(alloc, artifacts, recorded, templates, tags, header)?;
+    'outputs: for output in outputs {
+        add_output(alloc, artifacts, made, recorded, templates, tags, output)?;
     }
     Ok(())
 }
@@ -273,8 +258,24 @@ pub fn add_outputs(
     let templates = Templates::new(alloc, templates)?;
     let files = recorded.files.as_slice();
     let headers = recorded.headers.as_slice();
-    add_files(alloc, artifacts, recorded, &templates, tags, files)?;
-    add_headers(alloc, artifacts, recorded, &templates, tags, headers)
+    add_each(
+        alloc,
+        artifacts,
+        Made::File,
+        recorded,
+        &templates,
+        tags,
+        files,
+    )?;
+    add_each(
+        alloc,
+        artifacts,
+        Made::Header,
+        recorded,
+        &templates,
+        tags,
+        headers,
+    )
 }
 
 /// Makes the files and then the headers of a record, each of its template, in the record's order.

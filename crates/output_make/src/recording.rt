@@ -27,7 +27,7 @@ fn copy_of_outputs(alloc: Global, outputs: &OutputList) -> Result<OutputList, Al
 /// `names` are the source's own output variables (Autoconf's manual, "Setting Output Variables").
 /// `srcdir` is the directory of the source, absolute or relative to the directory of the build. If
 /// there is a header, DEFS is an output variable, and its value is `-DHAVE_CONFIG_H` (Autoconf's
-/// manual, "Preset Output Variables").
+/// manual, "Preset Output Variables"). The record takes the definitions, and copies all else.
 ///
 /// # Errors
 ///
@@ -36,7 +36,7 @@ fn copy_of_outputs(alloc: Global, outputs: &OutputList) -> Result<OutputList, Al
 pub fn record_of(
     alloc: Global,
     vars: &Vars,
-    defs: &Defs,
+    defs: Defs,
     names: &SubstList,
     srcdir: &[u8],
     args: &Texts,
@@ -45,7 +45,7 @@ pub fn record_of(
 ) -> Result<Record, AllocError>
     ensures record { IfOk result (λ r.
         r
-        ≡ words.record_of_run vars.now defs.now names.now srcdir.now args.now files.now
+        ≡ words.record_of_run vars.now defs names.now srcdir.now args.now files.now
         headers.now) }
     // It has each output variable once, with its value, and no other variable.
     ensures variables { IfOk result (λ r.
@@ -54,7 +54,6 @@ pub fn record_of(
     ensures writable { AreOutputs files.now headers.now → IfOk result IsRecord }
 {
     let vars = output_variables(alloc, vars, !headers.is_empty(), names)?;
-    let defs = defs.copy(alloc)?;
     let files = copy_of_outputs(alloc, files)?;
     let headers = copy_of_outputs(alloc, headers)?;
     let srcdir = Bytes::from_slice(alloc, srcdir)?;

@@ -18,7 +18,9 @@ use Rattle.ac_tree.specs.declared.tree.Subject as what
 use Rattle.ac_tree.specs.declared.tree.Subject.TheVariants.{Nothing, Word, Asked}
 use Rattle.meaning.specs.State.{State, Scope, answered, with_note, with_child, How, Goes_on, Completed, Stopped, Cut, Run, Ends, Asks, then_run, ended}
 use Rattle.meaning.specs.Meaning.{after_option, found_by, first_found, after_question, after_subject}
-use Rattle.meaning.specs.Rows.{TestKind, Library, Libraries, kind_for, name_of, is_found, row_of}
+use Rattle.meaning.specs.Forms.{FormTest, form_name, says_found}
+use Rattle.meaning.specs.Entries.{sought_test, library_test, search_test}
+use Rattle.meaning.specs.Rows.{row_of, Formed}
 use Rattle.meaning.specs.Asking.{success, only_reply, after_child, child, no_compiler, compiled}
 use Rattle.meaning.specs.Tries.{first_probe, after_first, text_of}
 use Rattle.meaning.specs.Tests.{broken, guarded, tested}
@@ -122,16 +124,16 @@ run_carried f early other c (Ends Cut st) go = c.cut st
 run_carried f early other c (Asks jobs ask) go =
     c.asks jobs (λ replies. then_run (ended early (ask replies)) go) ∙ ap (Asks jobs) (fun_ext (λ replies. run_carried f early other c (ask replies) go))
 
-found_carried : (f : Run → Run) (early other : How → State → State) → Carries f early other → (kind : TestKind) (st : State) (go : Scope → State → Run)
-    → f (found_by early kind st go) ≡ found_by other kind st (λ scope now. f (go scope now))
-found_carried f early other c kind st go =
-    run_carried f early other c (tested (row_of kind st) st) (λ now. go (answered (is_found kind (value_of now.vars (name_of kind)))) now)
+found_carried : (f : Run → Run) (early other : How → State → State) → Carries f early other → (t : FormTest) (st : State) (go : Scope → State → Run)
+    → f (found_by early t st go) ≡ found_by other t st (λ scope now. f (go scope now))
+found_carried f early other c t st go =
+    run_carried f early other c (tested (row_of (Formed t) st) st) (λ now. go (answered (says_found t.form.says (value_of now.vars (form_name t.form)))) now)
 
 first_found_carried : (f : Run → Run) (early other : How → State → State) → Carries f early other
     → (sought : Sought) (entries : List (List ℕ)) (includes : Option (List Part)) (st : State) (go : Scope → State → Run)
     → f (first_found early sought entries includes st go) ≡ first_found other sought entries includes st (λ scope now. f (go scope now))
 first_found_carried f early other c sought [] includes st go = refl
-first_found_carried f early other c sought (entry ∷ more) includes st go = found_carried f early other c (kind_for sought entry includes true) st go
+first_found_carried f early other c sought (entry ∷ more) includes st go = found_carried f early other c (sought_test sought entry includes true) st go
 
 asked_carried : (f : Run → Run) (early other : How → State → State) → Carries f early other → (question : asks.Question) (st : State) (go : Scope → State → Run)
     → f (after_question early question st go) ≡ after_question other question st (λ scope now. f (go scope now))
@@ -139,10 +141,10 @@ asked_carried f early other c (Given kind variable) st go = given_carried f (val
 asked_carried f early other c (Tries kind program) st go =
     let job = job_of (first_probe kind (text_of program st.vars)) 0 st.vars st.defs in
     compiled_carried f early other c job st _ ∙ ap (compiled other job st) (fun_ext (λ b. fun_ext (λ now. first_carried f early other c kind (λ passed. go (answered passed)) b now)))
-asked_carried f early other c (Checks sought entry includes) st go = found_carried f early other c (kind_for sought entry includes false) st go
+asked_carried f early other c (Checks sought entry includes) st go = found_carried f early other c (sought_test sought entry includes false) st go
 asked_carried f early other c (ChecksEach sought entries includes) st go = first_found_carried f early other c sought entries includes st go
-asked_carried f early other c (questions.Library library function others adds) st go = found_carried f early other c (Library library function others adds) st go
-asked_carried f early other c (questions.Libraries function libraries others) st go = found_carried f early other c (Libraries function libraries others) st go
+asked_carried f early other c (questions.Library library function others adds) st go = found_carried f early other c (library_test library function others adds) st go
+asked_carried f early other c (questions.Libraries function libraries others) st go = found_carried f early other c (search_test function libraries others) st go
 
 -- The beginning of a choice.
 pub begun_carried : (f : Run → Run) (early other : How → State → State) → Carries f early other → (subject : what.Subject) (st : State) (go : Scope → State → Run)

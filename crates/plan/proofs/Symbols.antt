@@ -1,6 +1,6 @@
 -- The names that a plan defines have the form of names.
 use Rattle.std.proofs.Common.{◌≡◌, ℕ, ◌-◌, Bool, true, false, cond, List, [], ◌∷◌, ◌++◌, codes, refl, ap, arith, get_or}
-use Rattle.std.specs.Prelude.{◌&&◌, ◌||◌, ◌==◌, nat_le, Option, All}
+use Rattle.std.specs.Prelude.{◌&&◌, ◌||◌, ◌==◌, nat_le, Option, All, IfSome}
 use Rattle.std.specs.List.{list_all}
 use Rattle.std.proofs.lemmas.Bool.{and_from, and_parts, leb-true, le-leb}
 use Rattle.std.proofs.lemmas.List.Sums.{AllPass-from_list_all}
@@ -8,15 +8,19 @@ use Rattle.deftable.specs.ShellName.{IsShellName, continues_name, is_shell_name_
 use Rattle.m4quote.specs.Names.{cpp_byte}
 use Rattle.m4quote.specs.Text.{is_word_byte}
 use Rattle.ac_tree.specs.declared.listed.Listed.{Listed}
-use Rattle.ac_tree.specs.declared.listed.Listed.TheVariants.{Header, Function, Declaration}
 use Rattle.ac_tree.specs.declared.statement.Effect.TheVariants.{Batch}
 use Rattle.ac_tree.specs.declared.statement.Question.TheVariants as questions
 use Rattle.ac_tree.specs.declared.statement.Question.TheVariants.{Given, Tries, Checks, ChecksEach}
 use Rattle.ac_tree.specs.declared.tree.Subject as subject
 use Rattle.ac_tree.specs.declared.tree.Subject.TheVariants.{Nothing, Word, Asked}
 use Rattle.shellword.specs.declared.part.Part.{Part}
-use Rattle.meaning.specs.Rows.{TestKind, Program, Single, Sized, Library, Libraries, kind_for, symbol_part}
-use Rattle.plan.specs.Names.{DefinesAbout, DefinesBy, DefinesName, entry_definition, package_names}
+use Rattle.test_forms.specs.Macros.{library_form}
+use Rattle.test_forms.specs.declared.form.Gives.{Gives}
+use Rattle.test_forms.specs.declared.form.Gives.TheVariants as forms
+use Rattle.test_forms.specs.declared.form.TestForm.{TestForm}
+use Rattle.meaning.specs.Forms.{symbol_part}
+use Rattle.meaning.specs.Entries.{listed_form, sought_form}
+use Rattle.plan.specs.Names.{DefinesAbout, DefinesBy, DefinesName, given_symbol, package_names}
 
 pick : (c : Bool) (a b : ℕ) → (c ≡ true → continues_name a ≡ true) → (c ≡ false → continues_name b ≡ true) → continues_name (cond c a b) ≡ true
 pick true a b h k = h refl
@@ -49,24 +53,16 @@ have_name text = part_continues text
 pub library_name : (text : List ℕ) → IsShellName (codes "HAVE_LIB" ++ symbol_part text)
 library_name text = part_continues text
 
-pub declared_name : (text : List ℕ) → IsShellName (codes "HAVE_DECL_" ++ symbol_part text)
-declared_name text = part_continues text
+-- Whatever a form gives.
+given_defines : (gives : Gives) → IfSome (given_symbol gives) IsShellName
+given_defines forms.Nothing = tt
+given_defines (forms.Have what) = have_name what
+given_defines (forms.HaveOrNot what) = have_name what
+given_defines (forms.AddsLibrary library) = library_name library
+given_defines forms.AddsValue = tt
 
-pub entry_defines : (listed : Listed) (entry : List ℕ) → IsShellName (entry_definition listed entry)
-entry_defines Header entry = have_name entry
-entry_defines Function entry = have_name entry
-entry_defines Declaration entry = declared_name entry
-
--- Whatever the kind of a test.
-pub kind_defines : (kind : TestKind) → DefinesBy kind
-kind_defines (Program search own) = tt
-kind_defines (Single listed entry includes true) = entry_defines listed entry
-kind_defines (Single listed entry includes false) = tt
-kind_defines (Sized name includes true) = have_name name
-kind_defines (Sized name includes false) = tt
-kind_defines (Library library function others true) = library_name library
-kind_defines (Library library function others false) = tt
-kind_defines (Libraries function libraries others) = tt
+pub form_defines : (form : TestForm) → DefinesBy form
+form_defines form = given_defines form.gives
 
 -- What AC_INIT defines.
 pub package_defines : All IsShellName package_names
@@ -75,7 +71,7 @@ package_defines = AllPass-from_list_all is_shell_name_of package_names refl
 -- The entries of a list that are tested at once.
 pub batch_defines : (listed : Listed) (entries : List (List ℕ)) (includes : Option (List Part)) → DefinesName (Batch listed entries includes)
 unfolding DefinesName
-batch_defines listed entries includes = λ k d lt. kind_defines (Single listed (get_or entries k d) includes true)
+batch_defines listed entries includes = λ k d lt. form_defines (listed_form listed (get_or entries k d) true)
 
 -- Whatever a choice is about.
 pub step_begins : (about : subject.Subject) → DefinesAbout about
@@ -84,7 +80,7 @@ step_begins Nothing = tt
 step_begins (Word word) = tt
 step_begins (Asked (Given kind variable)) = tt
 step_begins (Asked (Tries kind program)) = tt
-step_begins (Asked (Checks sought entry includes)) = kind_defines (kind_for sought entry includes false)
-step_begins (Asked (ChecksEach sought entries includes)) = λ k d lt. kind_defines (kind_for sought (get_or entries k d) includes true)
-step_begins (Asked (questions.Library library function others adds)) = kind_defines (Library library function others adds)
+step_begins (Asked (Checks sought entry includes)) = form_defines (sought_form sought entry false)
+step_begins (Asked (ChecksEach sought entries includes)) = λ k d lt. form_defines (sought_form sought (get_or entries k d) true)
+step_begins (Asked (questions.Library library function others adds)) = form_defines (library_form library function adds)
 step_begins (Asked (questions.Libraries function libraries others)) = tt

@@ -10,7 +10,7 @@ use Rattle.ac_calls.specs.Calls.{MacroCall, calls_in, macro_call_of}
 use Rattle.port_calls.specs.Rewritten.{IsPass, IsRewritten, HasToGo, IsAround, DeclaresOption, IsOldHelp, JoinsWords, EndsItsLine, AreSpaces, IsBare, IsBareAlone, in_brackets, DoesArgument, NamesVariable, SetsGnu, AreMessages, messages_first}
 use Rattle.port_calls.specs.Rewritten as specs
 use Rattle.port_calls.specs.Making.{IsMade}
-use Rattle.port_calls.specs.Defined.{Defines, HasParameter, IsNameAt, IsUnused}
+use Rattle.port_definitions.specs.Defined.{Defines, IsNameAt, IsUnused}
 use Rattle.port_idioms.specs.Filled.{text_of}
 use Rattle.port_calls.specs.Put.{MayPut, arg_text, is_space, difference, below}
 use Rattle.lint_macros.specs.Entries.{entry_of}
@@ -113,12 +113,6 @@ forget_step idioms text at out d name body new_at new before is defines unused f
     let copied = specs.IsPass.copied d.start before from (omega (arith, order, to)) in
     subst (λ a. IsPass idioms text a new) (sym at_is)
     (subst (IsPass idioms text d.end) (sym (new_is ∙ append-nil (out ++ slice_range text at d.start))) (specs.IsPass.forgotten d name body copied is defines unused to))
-
--- What a definition is made of.
-pub defines : (text : List ℕ) (d : MacroCall) (title what : Extent) (name body : List ℕ) → slice_range text d.start d.name_end ≡ codes "AC_DEFUN" → slice_get d.args 0 ≡ Some title
-    → slice_get d.args 1 ≡ Some what → length d.args ≡ 2 → name ≡ text_of (Some (arg_text text title)) → body ≡ text_of (Some (arg_text text what)) → (HasParameter body → ⊥) → Defines text d name body
-defines text d title what name body macro first second two name_is body_is plain =
-    record { macro = macro; title = title; first = first; what = what; second = second; two = two; name_is = name_is; body_is = body_is; plain = plain }
 
 -- What is put after AC_PROG_CC sets GCC.
 pub sets_gnu : (put it said indent : List ℕ) → put_by (entry_of (codes "GCC") TABLE.now) ≡ Some it → Differs (codes "GCC") 0 said → list_all is_space indent ≡ true

@@ -1,4 +1,3 @@
 pub mod Making
 pub mod Put
 pub mod Rewritten
-pub mod Defined

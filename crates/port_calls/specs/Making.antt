@@ -10,6 +10,7 @@ use Rattle.lint_macros.specs.Entries.{entry_of}
 use Rattle.lint_macros.specs.declared.text.TheConstants.{TABLE}
 use Rattle.port_idioms.specs.Filled.{text_of}
 use Rattle.port_idioms.specs.Rows.{put_by, Differs}
+use Rattle.port_definitions.specs.Defined.{is_of_name}
 use Rattle.port_calls.specs.Put.{arg_text, count_of, difference, below, is_space}
 
 -- The call is AC_INIT with at most one argument, so that it names no version.
@@ -56,13 +57,9 @@ pub record IsTitled (text : List ℕ) (c : MacroCall) (put : List ℕ) : Type 0 
 
 -- ---- a word that is searched for in what the preprocessor leaves
 
--- A letter, a digit or `_`.
-abbrev pub is_name_byte : ℕ → Bool
-is_name_byte b = is_ascii_alphanumeric b || b == 95
-
 -- One word of these.
 abbrev pub is_name : List ℕ → Bool
-is_name word = nat_lt 0 (length word) && list_all is_name_byte word
+is_name word = nat_lt 0 (length word) && list_all is_of_name word
 
 -- No backslash, which might join two lines.
 abbrev pub is_unjoined : ℕ → Bool

@@ -12,10 +12,7 @@ use Rattle.port_idioms.specs.declared.idioms.Idioms.TheVariants.{Exact, All}
 use Rattle.ac_calls.specs.Calls.{MacroCall}
 use Rattle.ac_calls.specs.declared.call.Extent.{Extent}
 use Rattle.lint_text.specs.Parts.{part}
-
--- The text of an argument. (own)
-abbrev pub arg_text : List ℕ → Extent → List ℕ
-arg_text text arg = part text arg.start arg.end
+pub use Rattle.port_definitions.specs.Defined.{arg_text}
 
 -- The number of arguments that are given: none, if the only one has nothing but blanks. To m4 that is the same. (own)
 abbrev pub count_of : List ℕ → List Extent → ℕ

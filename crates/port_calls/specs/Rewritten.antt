@@ -11,8 +11,8 @@ use Rattle.lint_macros.specs.Entries.{entry_of}
 use Rattle.lint_macros.specs.declared.text.TheConstants.{TABLE}
 use Rattle.port_idioms.specs.Rows.{put_by, Differs}
 use Rattle.port_idioms.specs.declared.idioms.Idioms.TheVariants.{Exact, All}
-use Rattle.port_calls.specs.Defined.{Defines, IsNameAt, IsUnused}
-use Rattle.port_calls.specs.Making.{IsMade, LacksVersion, is_name_byte}
+use Rattle.port_definitions.specs.Defined.{Defines, IsNameAt, IsUnused, is_letter, is_of_name}
+use Rattle.port_calls.specs.Making.{IsMade, LacksVersion}
 use Rattle.port_calls.specs.Put.{MayPut, arg_text, is_space, difference, below}
 use Rattle.port_idioms.specs.declared.idioms.Idioms.{Idioms}
 
@@ -44,14 +44,10 @@ is_basic word =
     bytes_eq word (codes "char") || bytes_eq word (codes "short") || bytes_eq word (codes "int") || bytes_eq word (codes "long")
     || bytes_eq word (codes "signed") || bytes_eq word (codes "unsigned") || bytes_eq word (codes "float") || bytes_eq word (codes "double")
 
--- A letter or `_`.
-abbrev pub begins_name : ℕ → Bool
-begins_name b = is_ascii_alphabetic b || b == 95
-
 -- A name that ends in `_t`.
 abbrev pub ends_in_t : List ℕ → Bool
 ends_in_t word =
-    nat_le 3 (length word) && begins_name (slice_index word 0) && list_all is_name_byte word
+    nat_le 3 (length word) && is_letter (slice_index word 0) && list_all is_of_name word
     && slice_index word (length word - 2) == 95 && slice_index word (length word - 1) == 116
 
 -- The text before the first space.
@@ -71,7 +67,7 @@ pub record HasDefault (text : List ℕ) (c : MacroCall) : Type 0 where
 
 -- A macro of C may have this name.
 abbrev pub is_c_name : List ℕ → Bool
-is_c_name word = nat_le 1 (length word) && begins_name (slice_index word 0) && list_all is_name_byte word
+is_c_name word = nat_le 1 (length word) && is_letter (slice_index word 0) && list_all is_of_name word
 
 -- The first argument of the call is such a name.
 pub record NamesType (text : List ℕ) (c : MacroCall) : Type 0 where

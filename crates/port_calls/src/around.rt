@@ -6,7 +6,8 @@ ghost use Rattle.port_calls.specs.Put as specs;
 ghost use Rattle.port_calls.specs.Rewritten as rewritten;
 
 use crate::spots::Spot;
-use lint_text::{before, from, is_word_byte, part};
+use lint_text::{before, from, part};
+pub(crate) use port_definitions::{is_dropped, last_line, space_len};
 
 /// Returns whether the byte is a space, a tab or a carriage return.
 pub(crate) fn is_space(byte: u8) -> bool
@@ -25,11 +26,6 @@ pub(crate) fn are_blank(text: &[u8]) -> bool
     ensures { result ≡ list_all rewritten.is_blank text.now }
 {
     text.iter().all(|byte| is_blank(*byte))
-}
-
-/// Returns the number of spaces and tabs at the front.
-pub(crate) fn space_len(text: &[u8]) -> usize {
-    text.iter().take_while(|byte| is_space(**byte)).count()
 }
 
 /// Returns the number of blanks and newlines at the front.
@@ -120,20 +116,6 @@ pub(crate) fn has_compound(text: &[u8]) -> bool {
         ends = ends || line.ends_with(b"fi") || line.ends_with(b"esac");
     }
     begins && ends && !text.contains(&b'#')
-}
-
-/// Returns the offset of the first byte of the last line.
-pub(crate) fn last_line(text: &[u8]) -> usize {
-    let len = text.iter().rev().take_while(|byte| **byte != b'\n').count();
-    text.len().saturating_sub(len)
-}
-
-/// Returns whether a text begins with `dnl`, and m4 drops the rest of its line.
-pub(crate) fn is_dropped(text: &[u8]) -> bool {
-    let is_longer = text
-        .get(3)
-        .is_some_and(|byte| is_word_byte(*byte) || *byte == b'(');
-    text.starts_with(b"dnl") && !is_longer
 }
 
 /// Returns whether a line is blank or a comment.

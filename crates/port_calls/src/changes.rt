@@ -11,7 +11,6 @@ use crate::around::{
     space_len,
 };
 use crate::bare::bare_in;
-use crate::definitions::{Written, written_in};
 use crate::gnu::compiler_in;
 use crate::names::defined_in;
 use crate::noted::noted_change;
@@ -22,6 +21,7 @@ use crate::spots::Spot;
 use ac_calls::{CallAt, Extent};
 use lint_macros::Index;
 use lint_text::{from, part};
+use port_definitions::{Written, written_in};
 use port_idioms::{Exact, Idioms, exact_of, filled};
 use std::alloc::{AllocError, Global};
 use std::collections::BTreeSet;

@@ -1,7 +1,7 @@
 //! What is put in the place of a call if all idioms are wanted, and depends on the text of another
 //! call or of a program.
 
-ghost use Rattle.std.specs.Prelude.{◌≡◌, ◌≤◌, ◌<◌, length, slice_get, slice_range, codes, Contains, OnOk, IsTrue};
+ghost use Rattle.std.specs.Prelude.{◌≡◌, ◌≤◌, ◌<◌, length, slice_range, codes, Contains, OnOk, IsTrue};
 ghost use Rattle.ac_calls.specs.Calls.{calls_in, macro_call_of};
 ghost use Rattle.port_idioms.specs.declared.idioms.Idioms.TheVariants.{All};
 ghost use Rattle.port_calls.specs.Making as specs;
@@ -11,17 +11,11 @@ use crate::around::{begins_statement, ends_statement};
 use crate::changes::{Known, can_be_noted};
 use crate::spots::Spot;
 use crate::writing::{Pass, write_change};
-use ac_calls::{CallAt, Extent};
+use ac_calls::CallAt;
 use lint_text::from;
+pub(crate) use port_definitions::argument;
 use port_idioms::Idioms;
 use std::alloc::AllocError;
-
-/// Returns where an argument of the call is.
-pub(crate) fn argument(call: &CallAt, index: usize) -> Option<Extent>
-    ensures { result ≡ slice_get (macro_call_of call.now).args index }
-{
-    call.args.get(index).copied()
-}
 
 /// Returns whether the call is one of AC_INIT.
 pub(crate) fn is_init(text: &[u8], call: &CallAt) -> bool

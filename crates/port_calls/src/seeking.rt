@@ -11,6 +11,7 @@ ghost use Rattle.text_cut.specs.Cuts.{parts};
 ghost use Rattle.port_idioms.specs.Filled.{text_of};
 ghost use Rattle.port_idioms.specs.Rows.{put_by, Differs};
 ghost use Rattle.port_idioms.specs.declared.idioms.Idioms.TheVariants.{All};
+ghost use Rattle.port_definitions.specs.Defined.{is_of_name};
 ghost use Rattle.port_calls.specs.Put.{arg_text, count_of, difference, below, is_space};
 ghost use Rattle.port_calls.specs.Making as specs;
 ghost use Rattle.port_calls.specs.Rewritten as rewritten;
@@ -24,22 +25,16 @@ use crate::spots::Spot;
 use crate::writing::Pass;
 use ac_calls::{CallAt, Extent};
 use lint_text::{before, part};
+use port_definitions::is_of_name;
 use port_idioms::{Idioms, Other, other_of, text_of};
 use std::alloc::{AllocError, Global};
 use text_cut::{parts, trim};
 
-/// Returns whether the byte may be in a name.
-fn is_name_byte(byte: u8) -> bool
-    ensures { result ≡ specs.is_name_byte byte }
-{
-    byte.is_ascii_alphanumeric() || byte == b'_'
-}
-
-/// Returns whether a text has nothing but such bytes.
+/// Returns whether a text has nothing but letters, digits and `_`.
 pub(crate) fn are_name_bytes(text: &[u8]) -> bool
-    ensures { result ≡ list_all specs.is_name_byte text.now }
+    ensures { result ≡ list_all is_of_name text.now }
 {
-    text.iter().all(|byte| is_name_byte(*byte))
+    text.iter().all(|byte| is_of_name(*byte))
 }
 
 /// Returns whether a text is one word, of letters, digits and `_`.

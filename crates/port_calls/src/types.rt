@@ -12,6 +12,7 @@ use crate::making::argument;
 use crate::seeking::are_name_bytes;
 use ac_calls::{CallAt, Extent};
 use lint_text::part;
+use port_definitions::is_letter;
 use port_idioms::{ending, text_of};
 
 /// Returns whether the byte may be in the name of a type.
@@ -47,20 +48,13 @@ fn is_basic(word: &[u8]) -> bool
         || word == b"double".as_slice()
 }
 
-/// Returns whether a name may begin with the byte.
-fn begins_name(byte: u8) -> bool
-    ensures { result ≡ specs.begins_name byte }
-{
-    byte.is_ascii_alphabetic() || byte == b'_'
-}
-
 /// Returns whether a text is a name that ends in `_t`.
 fn ends_in_t(word: &[u8]) -> bool
     ensures { result ≡ specs.ends_in_t word.now }
 {
     let len = word.len();
     len >= 3
-        && begins_name(word[0])
+        && is_letter(word[0])
         && are_name_bytes(word)
         && word[len - 2] == b'_'
         && word[len - 1] == b't'
@@ -102,13 +96,6 @@ fn is_check(text: &[u8], call: &CallAt) -> bool
     has_name && &text[call.start..call.name_end] == b"AC_CHECK_TYPE".as_slice()
 }
 
-/// Returns where the second argument of the call is.
-fn second_argument(call: &CallAt) -> Option<Extent>
-    ensures { result ≡ slice_get (macro_call_of call.now).args 1 }
-{
-    call.args.get(1).copied()
-}
-
 /// Returns whether an argument is a type, with nothing after it but spaces.
 fn is_default(text: &[u8], arg: Extent) -> bool
     ensures kind { IsTrue result
@@ -127,7 +114,7 @@ fn is_default(text: &[u8], arg: Extent) -> bool
 fn has_default(text: &[u8], call: &CallAt) -> bool
     ensures { IsTrue result → specs.HasDefault text.now (macro_call_of call.now) }
 {
-    match second_argument(call) {
+    match argument(call, 1) {
         Some(default) => is_default(text, default),
         None => false,
     }
@@ -137,7 +124,7 @@ fn has_default(text: &[u8], call: &CallAt) -> bool
 fn is_c_name(word: &[u8]) -> bool
     ensures { result ≡ specs.is_c_name word.now }
 {
-    word.len() >= 1 && begins_name(word[0]) && are_name_bytes(word)
+    word.len() >= 1 && is_letter(word[0]) && are_name_bytes(word)
 }
 
 /// Returns whether an argument is such a name.

@@ -21,11 +21,27 @@ is_newline b = b == 10
 abbrev pub HasDnl : List ℕ → Type 0
 HasDnl text = (at : ℕ) × (slice_range text at (at + 3) ≡ codes "dnl")
 
+-- The line that ends at this newline has no `dnl` from `start` on, so m4 keeps the newline. (own)
+pub record KeepsNewline (text : List ℕ) (start newline : ℕ) : Type 0 where
+  pub line : ℕ
+  pub order : (line ≤ newline) × (newline ≤ length text)
+  pub begins : (line ≡ start) ⊎ (slice_index text (line - 1) ≡ 10)
+  pub no_dnl : HasDnl (slice_range text line newline) → ⊥
+
+-- The newline at this offset ends a comment of a shell, if there is one. m4 drops a newline after `dnl`, and a comment would go on in the next
+-- line: so m4 keeps it, or no `#` is before it from `start` on. (own)
+unfoldable pub EndsLine : List ℕ → ℕ → ℕ → Type 0
+EndsLine text start newline = KeepsNewline text start newline ⊎ HasNoHash (slice_range text start newline)
+
+-- A line begins at this offset: the text begins there, or the newline before it ends a comment.
+abbrev pub BeginsLine : List ℕ → ℕ → Type 0
+BeginsLine text at = (at ≡ 0) ⊎ ((0 < at) × (slice_index text (at - 1) ≡ 10) × EndsLine text 0 (at - 1))
+
 -- From the start of some line on, the text has neither a `#` nor `dnl`. (own)
 pub record HasPlainEnd (text : List ℕ) : Type 0 where
   pub line : ℕ
   pub within : line ≤ length text
-  pub begins : (line ≡ 0) ⊎ (slice_index text (line - 1) ≡ 10)
+  pub begins : BeginsLine text line
   pub no_comment : HasNoHash (slice_range text line (length text))
   pub no_dnl : HasDnl (slice_range text line (length text)) → ⊥
 
@@ -52,12 +68,14 @@ pub record IsSemicolon (text : List ℕ) (start end : ℕ) : Type 0 where
   pub is : slice_index text at ≡ 59
   pub after : AreSpaces text (at + 1) end
 
--- The last line of the text before `end` has nothing but spaces, and no backslash joins it to the line before. (POSIX shell, 2.2.1)
+-- The last line of the text before `end` has nothing but spaces. Neither a backslash nor a comment joins it to the line before. (POSIX shell,
+-- 2.2.1 and 2.3)
 pub record IsAtLineStart (text : List ℕ) (start end : ℕ) : Type 0 where
   pub newline : ℕ
   pub order : (start ≤ newline) × (newline < end)
   pub is : slice_index text newline ≡ 10
   pub not_joined : slice_index text (newline - 1) ≡ 92 → ⊥
+  pub ends : EndsLine text start newline
   pub spaces : AreSpaces text (newline + 1) end
 
 -- A `;` is after a body, whose last line has neither a `#` nor `dnl`. (POSIX shell, 2.9.3)

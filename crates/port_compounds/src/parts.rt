@@ -1,11 +1,12 @@
 //! The parts of a statement: conditions and bodies.
 
-ghost use Rattle.std.specs.Prelude.{◌≡◌, ◌⊎◌, ◌≤◌, ◌+◌, ◌-◌, [], ◌∷◌, length, IfOk, IfSome, IsTrue, false, slice_index, slice_range, codes};
+ghost use Rattle.std.specs.Prelude.{◌≡◌, ◌⊎◌, ◌≤◌, ◌<◌, ◌+◌, ◌-◌, [], ◌∷◌, length, IfOk, IfSome, IsTrue, false, slice_index, slice_range, codes};
 ghost use Rattle.std.specs.List.{list_any};
 ghost use Rattle.m4quote.specs.ItemValue.{bare, view, views};
 ghost use Rattle.m4quote.specs.Spelling.{IsSpelling};
 ghost use Rattle.port_compounds.specs.Ifs as ifs;
 ghost use Rattle.port_compounds.specs.Parts as specs;
+ghost use Rattle.port_compounds.specs.Places.{AreSpaces};
 
 use crate::places::{after_spaces, are_blank, are_spaces, before_spaces, is_blank};
 use m4quote::{Item, QuoteFault, read_items};
@@ -203,14 +204,74 @@ pub fn has_dnl(text: &[u8]) -> bool
     false
 }
 
-/// Returns whether a line begins at an offset.
-fn begins_line(text: &[u8], at: usize) -> bool
-    ensures { IsTrue result → (at ≡ 0) ⊎ (slice_index text.now (at - 1) ≡ 10) }
+/// Returns the offset after the last newline between two offsets, or the first offset.
+fn line_start(text: &[u8], start: usize, at: usize) -> usize {
+    for i in (start..at.min(text.len())).rev() {
+        if text[i] == b'\n' {
+            return i.saturating_add(1);
+        }
+    }
+    start
+}
+
+/// Returns whether an offset is another one, or after a newline.
+fn is_start_of_line(text: &[u8], start: usize, at: usize) -> bool
+    ensures { IsTrue result → (at ≡ start) ⊎ (slice_index text.now (at - 1) ≡ 10) }
 {
-    if at == 0 {
+    if at == start {
         return true;
     }
-    at <= text.len() && text[at - 1] == b'\n'
+    0 < at && at <= text.len() && text[at - 1] == b'\n'
+}
+
+/// Returns whether a line begins between an offset and that of a newline, and has no `dnl` from
+/// there on.
+fn keeps_newline(text: &[u8], start: usize, line: usize, newline: usize) -> bool
+    ensures { IsTrue result → specs.KeepsNewline text.now start newline }
+{
+    line <= newline
+        && newline <= text.len()
+        && is_start_of_line(text, start, line)
+        && !has_dnl(&text[line..newline])
+}
+
+/// Returns whether there is no `#` between two offsets.
+fn has_no_hash(text: &[u8], start: usize, end: usize) -> bool
+    ensures { IsTrue result → specs.HasNoHash (slice_range text.now start end) }
+{
+    start <= end && end <= text.len() && !has_hash(&text[start..end])
+}
+
+/// Returns whether the newline at an offset ends a comment of a shell: m4 keeps it, or no `#` is
+/// between another offset and it.
+#[tactic(auto, unfolding(crate::specs::Parts::EndsLine))]
+fn ends_line(text: &[u8], start: usize, newline: usize) -> bool
+    ensures { IsTrue result → specs.EndsLine text.now start newline }
+{
+    keeps_newline(text, start, line_start(text, start, newline), newline)
+        || has_no_hash(text, start, newline)
+}
+
+/// Returns whether a newline is right before an offset.
+fn is_after_newline(text: &[u8], at: usize) -> bool
+    ensures { IsTrue result → (0 < at) × (slice_index text.now (at - 1) ≡ 10) }
+{
+    0 < at && at <= text.len() && text[at - 1] == b'\n'
+}
+
+/// Returns whether a newline that ends a comment of a shell is right before an offset.
+fn is_after_line(text: &[u8], at: usize) -> bool
+    ensures { IsTrue result
+        → (0 < at) × (slice_index text.now (at - 1) ≡ 10) × specs.EndsLine text.now 0 (at - 1) }
+{
+    is_after_newline(text, at) && ends_line(text, 0, at.saturating_sub(1))
+}
+
+/// Returns whether a line begins at an offset.
+fn begins_line(text: &[u8], at: usize) -> bool
+    ensures { IsTrue result → specs.BeginsLine text.now at }
+{
+    at == 0 || is_after_line(text, at)
 }
 
 /// Returns whether a line begins at an offset, and the text has neither a `#` nor `dnl` from there
@@ -235,10 +296,14 @@ pub(crate) fn has_plain_end(text: &[u8]) -> bool
     is_plain_from(text, line)
 }
 
-/// Returns whether the line before an offset has nothing but spaces after its newline, which is at
-/// another offset.
-fn is_line_start(text: &[u8], start: usize, newline: usize, end: usize) -> bool
-    ensures { IsTrue result → specs.IsAtLineStart text.now start end }
+/// Returns whether a newline is at an offset between two others, which no backslash is before, and
+/// spaces alone are after it.
+fn is_spaced_newline(text: &[u8], start: usize, newline: usize, end: usize) -> bool
+    ensures { IsTrue result
+        → ((start ≤ newline) × (newline < end))
+        × ((slice_index text.now newline ≡ 10)
+        × ((slice_index text.now (newline - 1) ≡ 92 → ⊥)
+        × AreSpaces text.now (newline + 1) end)) }
 {
     start <= newline
         && newline < end
@@ -246,6 +311,14 @@ fn is_line_start(text: &[u8], start: usize, newline: usize, end: usize) -> bool
         && text[newline] == b'\n'
         && text[newline.saturating_sub(1)] != b'\\'
         && are_spaces(&text[newline + 1..end])
+}
+
+/// Returns whether the line before an offset has nothing but spaces after its newline, which is at
+/// another offset.
+fn is_line_start(text: &[u8], start: usize, newline: usize, end: usize) -> bool
+    ensures { IsTrue result → specs.IsAtLineStart text.now start end }
+{
+    is_spaced_newline(text, start, newline, end) && ends_line(text, start, newline)
 }
 
 /// Returns whether a body between two offsets ends in the newline of its last line.

@@ -6,9 +6,6 @@ ghost use Rattle.m4quote.specs.ItemValue.{span, view, views};
 ghost use Rattle.lint_errors.specs.Errors.{IsAccepted};
 ghost use Rattle.port_shell.specs.Calls as specs;
 
-use ac_statement::ParseFault;
-use acparse::parse;
-use lint_errors::errors_of;
 use m4quote::{Arg, Item, QuoteFault, read_items};
 use std::alloc::{AllocError, Global};
 
@@ -156,33 +153,12 @@ pub(crate) fn source_with(alloc: Global, text: &[u8]) -> Result<Vec<u8>, AllocEr
     Ok(out)
 }
 
-/// Returns whether a source can be read. Its errors are then soon found.
-fn is_read(alloc: Global, source: &[u8]) -> Result<bool, AllocError> {
-    match parse(alloc, source) {
-        Ok(_) => Ok(true),
-        Err(ParseFault::OutOfMemory) => Err(AllocError),
-        Err(_) => Ok(false),
-    }
-}
-
-/// Returns whether a source has no errors.
-fn has_no_errors(alloc: Global, source: &[u8]) -> Result<bool, AllocError>
-    ensures { IfOk result (λ b. IsTrue b → IsAccepted source.now) }
-{
-    let errors = errors_of(alloc, source)?;
-    Ok(errors.is_empty())
-}
-
 /// Returns whether acrun accepts a source with this statement alone.
 pub(crate) fn is_accepted(alloc: Global, text: &[u8]) -> Result<bool, AllocError>
     ensures { IfOk result (λ b. IsTrue b → IsAccepted (specs.source_with text.now)) }
 {
     let source = source_with(alloc, text)?;
-    if is_read(alloc, source.as_slice())? {
-        has_no_errors(alloc, source.as_slice())
-    } else {
-        Ok(false)
-    }
+    lint_errors::is_accepted(alloc, source.as_slice())
 }
 
 /// Returns whether at an offset a backslash is before a closing bracket.

@@ -4,35 +4,10 @@ use crate::compounds::Compounds;
 use crate::cut::{Cut, Kept};
 use crate::shell::Shell;
 use ac_calls::{CallAt, Extent};
+use ac_macros::holds_statements;
 use ac_macros::table::row_named;
-use ac_macros::{ChoiceMacro, Macro, Named, QuestionMacro};
 use lint_text::{first_line, first_name, from, is_word_byte, part, without_end_blanks};
 use std::alloc::{AllocError, Global};
-
-/// Returns whether the argument of a macro at an index holds statements, if there are so many
-/// arguments.
-fn holds_statements(named: Named, count: usize, index: usize) -> bool {
-    let first = match named {
-        Named::Statement(Macro::Choice(ChoiceMacro::If)) => {
-            return index % 2 == 1 || index.saturating_add(1) == count;
-        }
-        Named::Statement(Macro::Choice(ChoiceMacro::Case)) => {
-            return index > 0 && (index % 2 == 0 || index.saturating_add(1) == count);
-        }
-        Named::Statement(Macro::Question(question)) => first_action(question),
-        Named::Statement(Macro::Check) => return index == 2,
-        Named::Statement(Macro::Plain(_)) | Named::Argument(_) => return false,
-    };
-    index == first || index == first.saturating_add(1)
-}
-
-/// Returns the index of the first argument after those of a question.
-fn first_action(question: QuestionMacro) -> usize {
-    match question {
-        QuestionMacro::Given(_) | QuestionMacro::Library | QuestionMacro::Libraries => 2,
-        QuestionMacro::Tries(_) | QuestionMacro::Checks(_) | QuestionMacro::ChecksEach(_) => 1,
-    }
-}
 
 /// Returns whether the brackets of a text are closed at its end, and not earlier.
 fn is_one_run(text: &[u8]) -> bool {

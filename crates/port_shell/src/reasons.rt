@@ -7,7 +7,7 @@ use crate::needs::drawing_in;
 use crate::noting::draws;
 use ac_calls::calls_of;
 use deftable::Bytes;
-use lint_errors::errors_of;
+use lint_errors::{errors_of, read};
 use lint_text::{after_blanks, before, first_name, from, is_word_byte, part};
 use port_compounds::{CaseCut, GuardCut, IfBranch, IfCut, case_parts, guard_parts, if_parts};
 use port_joints::joined_texts;
@@ -69,7 +69,8 @@ pub struct Staying {
 fn refusal(alloc: Global, name: &[u8], parts: &[&[u8]]) -> Result<Option<Reason>, AllocError> {
     let call = call_text(alloc, name, parts)?;
     let source = source_with(alloc, call.as_slice())?;
-    let errors = errors_of(alloc, source.as_slice())?;
+    let reading = read(alloc, source.as_slice())?;
+    let errors = errors_of(alloc, source.as_slice(), &reading)?;
     match errors.first() {
         Some(error) => {
             let message = Vec::from_slice(alloc, error.message.as_slice())?;

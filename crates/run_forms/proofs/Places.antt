@@ -3,8 +3,8 @@ use Rattle.std.proofs.Common.{◌≡◌, ℕ, zero, suc, ◌+◌, ◌<◌, ◌^�
 use Rattle.std.specs.Prelude.{Option, Some, None, slice_get, option_map, IfSome}
 use Rattle.meaning.specs.Asking as asking
 use Rattle.test_forms.specs.declared.form.TryForm.{TryForm}
-use Rattle.form_rows.specs.Batches.{first_job}
-use Rattle.form_rows.specs.Forms.{Table, snippet_job}
+use Rattle.meaning.specs.Forms.{Table, snippet_job}
+use Rattle.meaning.specs.Batches.{first_job}
 use Rattle.run_forms.specs.declared.attempts.Attempt.{Attempt}
 use Rattle.run_forms.specs.Attempts.{IsAt, attempt_of}
 

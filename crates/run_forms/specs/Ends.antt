@@ -2,8 +2,8 @@
 use Rattle.std.specs.Prelude.{ℕ, Bool, List, ◌++◌, Option, Some, None, codes}
 use Rattle.meaning.specs.State.{State, with_variable, Cut}
 use Rattle.meaning.specs.Batches.{yes_or_no}
+use Rattle.meaning.specs.Forms.{form_used}
 use Rattle.meaning.specs.Tests.{broken, with_result}
-use Rattle.form_rows.specs.Forms.{form_used}
 use Rattle.run_forms.specs.declared.course.FormCourse.{FormCourse}
 
 -- The test ends with a value: its name gets it, it is printed, and what is done with it is done. (Autoconf's manual, "Caching

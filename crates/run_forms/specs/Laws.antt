@@ -2,7 +2,8 @@
 use Rattle.std.specs.Prelude.{◌≡◌, ℕ, List, Option, length}
 use Rattle.deftable.specs.Table.{value_of}
 use Rattle.meaning.specs.State.{State}
-use Rattle.form_rows.specs.Forms.{FormTest, Table, form_name, form_used, row_of}
+use Rattle.meaning.specs.Rows.{Formed, row_of}
+use Rattle.meaning.specs.Forms.{FormTest, Table, form_name, form_used}
 use Rattle.test_forms.specs.declared.form.TestForm.{TestForm}
 use Rattle.run_forms.specs.declared.course.FormCourse.{FormCourse}
 use Rattle.run_forms.specs.Courses.{attempts_in, bare_of, course_of, row_in}
@@ -11,7 +12,7 @@ use Rattle.run_forms.specs.Ends.{known}
 -- The row of a test is that of its course: name, message, attempts, the value if none of them ends the test, what is shown,
 -- whether it can begin, and what is done with the value. (own)
 abbrev pub RowsAreOfCourses : Type 0
-RowsAreOfCourses = (t : FormTest) (st : State) → row_of t st ≡ row_in (course_of t st) st
+RowsAreOfCourses = (t : FormTest) (st : State) → row_of (Formed t) st ≡ row_in (course_of t st) st
 
 -- A course has as many attempts as its form has tries. (own)
 abbrev pub CountsAreOfAttempts : Type 0

@@ -2,8 +2,8 @@
 //! Files").
 
 ghost use Rattle.std.specs.Prelude.{◌≡◌, IfOk, unwrap_or, []};
-ghost use Rattle.form_rows.specs.Batches.{test_job};
-ghost use Rattle.form_rows.specs.Forms.{after_in, attempt_of_try, includes_in, libs_with, snippet_job};
+ghost use Rattle.meaning.specs.Forms.{after_in, attempt_of_try, includes_in, libs_with, snippet_job};
+ghost use Rattle.meaning.specs.Batches.{test_job};
 ghost use Rattle.run_forms.specs.Attempts.{IsAttempt, IsMade};
 
 use crate::course::FormCourse;

@@ -8,7 +8,7 @@
 //!
 //! No function has a case for a macro. [`attempt_at`] has a case for each [`Snippet`], and
 //! [`use_value`] one for each [`Gives`]. The laws on [`courses_are_tests`] say that the course of a
-//! form has the row that `form_rows` gives the form.
+//! form has the row that `meaning` gives the test.
 //!
 //! A list whose tests are asked for at once makes its jobs with [`test_job`], and ends each test by
 //! [`end_known`] or [`end_heard`].

@@ -1,7 +1,7 @@
 //! Where a form becomes a course.
 
 ghost use Rattle.std.specs.Prelude.{◌≡◌, IfOk};
-ghost use Rattle.form_rows.specs.Forms.{form_name, value_in};
+ghost use Rattle.meaning.specs.Forms.{form_name, value_in};
 ghost use Rattle.run_forms.specs.Courses.{Opens, bare_course, value_unless};
 
 use crate::course::FormCourse;

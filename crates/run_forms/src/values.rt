@@ -1,8 +1,7 @@
 //! What is done with the value of a test.
 
 ghost use Rattle.std.specs.Prelude.{◌≡◌, ◌++◌, IfOk, OnOk, codes};
-ghost use Rattle.form_rows.specs.Forms.{digit_of, form_used, says_found, with_given};
-ghost use Rattle.meaning.specs.Rows.{defined_if, is_linked, is_yes, symbol_part, with_library, with_library_if, with_linked};
+ghost use Rattle.meaning.specs.Forms.{digit_of, form_used, says_found, with_given, defined_if, is_linked, is_yes, symbol_part, with_library, with_library_if, with_linked};
 ghost use Rattle.meaning.specs.State.{with_definition};
 
 use crate::loan::Loan;

@@ -6,8 +6,7 @@ ghost use Rattle.deftable.specs.Table.{value_of};
 ghost use Rattle.shellword.specs.Truth.{truth};
 ghost use Rattle.shellword.specs.Value.{word_value};
 ghost use Rattle.meaning.specs.Meaning.{has_value, is_full_name, is_unsettled, settled, with_prefixes};
-ghost use Rattle.meaning.specs.Rows.{value_or_empty};
-ghost use Rattle.meaning.specs.State.{opened, with_note, with_child, with_definition, with_variable, without_variable};
+ghost use Rattle.meaning.specs.State.{opened, with_note, with_child, with_definition, with_variable, without_variable, value_or_empty};
 ghost use Rattle.meaning.specs.Tries.{text_of};
 ghost use Rattle.run_state.specs.Copies.{Copied};
 

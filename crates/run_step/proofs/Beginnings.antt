@@ -11,9 +11,9 @@ use Rattle.run_test.specs.Waits.{Awaits, Suits}
 use Rattle.run_test.specs.Batched.{after_entries, at_once, batch_end, is_refused}
 use Rattle.run_test.specs.declared.wait.Waiting as waiting
 use Rattle.run_test.specs.declared.wait.Wait.TheVariants as wait
-use Rattle.run_step.specs.BatchRuns.{batch_of}
+use Rattle.meaning.specs.Entries.{tests_of}
 use Rattle.run_step.specs.Waiting.{forms_in, fronted, jobs_of, waiting_for}
-use Rattle.run_step.proofs.Committing.{at_once_is, batch_asks, batch_now, entries_are, few_jobs, few_waiting, forms_length, jobs_are, jobs_for, list_is}
+use Rattle.run_step.proofs.Committing.{at_once_is, batch_asks, batch_now, entries_may, few_jobs, few_waiting, forms_length, jobs_are, jobs_for, list_is}
 
 -- The tests and the jobs of a list.
 pub record Made (what : Listed) (list : List (List ℕ)) (given : Option (List Part)) (entries : List waiting.Waiting) (jobs : List Job) (st : State) : Type 0 where
@@ -27,26 +27,26 @@ made what whole list given entries view jobs st l e v j =
     record { tests = tests; jobs_is = j ∙ ap (λ x. jobs_of given 1 x st) (v ∙ tests) ∙ jobs_are given 1 [] (forms_in what whole) st }
 
 pub begins_now : (what : Listed) (list : List (List ℕ)) (given : Option (List Part)) (entries view : List waiting.Waiting) (jobs : List Job) (st : State) (tests : List (List ℕ)) (next : State → Run) → Made what list given entries jobs st → view ≡ entries → jobs ≡ []
-    → fronted tests view next st ≡ then_run (guarded_all tests (batched (batch_of what list given) st)) next
+    → fronted tests view next st ≡ then_run (guarded_all tests (batched (tests_of what list given) st)) next
 begins_now what list given entries view jobs st tests next m v none =
-    ap (λ l. fronted tests l next st) (v ∙ m.tests) ∙ sym (batch_now given (forms_in what list) tests st next (entries_are what list) (sym m.jobs_is ∙ none))
-    ∙ sym (ap (λ r. then_run (guarded_all tests r) next) (list_is what list given st))
+    ap (λ l. fronted tests l next st) (v ∙ m.tests) ∙ sym (batch_now given (forms_in what list) tests st next (entries_may what list) (sym m.jobs_is ∙ none))
+    ∙ sym (ap (λ l. then_run (guarded_all tests (batched l st)) next) (list_is what list given))
 
 some_jobs : (what : Listed) (list : List (List ℕ)) (given : Option (List Part)) (entries : List waiting.Waiting) (jobs : List Job) (st : State) → Made what list given entries jobs st → 0 < length jobs → 0 < length (jobs_for given (forms_in what list) st)
 some_jobs what list given entries jobs st m some = subst (λ l. 0 < length l) m.jobs_is some
 
 pub begins_asking : (what : Listed) (list : List (List ℕ)) (given : Option (List Part)) (entries : List waiting.Waiting) (jobs : List Job) (st : State) (tests : List (List ℕ)) (next : State → Run) → Made what list given entries jobs st → 0 < length jobs
-    → then_run (guarded_all tests (batched (batch_of what list given) st)) next ≡ Asks jobs (λ replies. batch_end tests (is_refused entries replies) next (after_entries entries jobs replies st))
+    → then_run (guarded_all tests (batched (tests_of what list given) st)) next ≡ Asks jobs (λ replies. batch_end tests (is_refused entries replies) next (after_entries entries jobs replies st))
 begins_asking what list given entries jobs st tests next m some =
     let forms = forms_in what list in
-    ap (λ r. then_run (guarded_all tests r) next) (list_is what list given st)
-    ∙ batch_asks given forms tests st next (entries_are what list) (some_jobs what list given entries jobs st m some)
+    ap (λ l. then_run (guarded_all tests (batched l st)) next) (list_is what list given)
+    ∙ batch_asks given forms tests st next (entries_may what list) (some_jobs what list given entries jobs st m some)
     ∙ ap (λ js. Asks js (λ replies. batch_end tests (is_refused (waiting_for [] forms st) replies) next (after_entries (waiting_for [] forms st) js replies st))) (sym m.jobs_is)
     ∙ ap (λ es. Asks jobs (λ replies. batch_end tests (is_refused es replies) next (after_entries es jobs replies st))) (sym m.tests)
 
 pub few_asked : (what : Listed) (list : List (List ℕ)) (given : Option (List Part)) (entries : List waiting.Waiting) (jobs : List Job) (st : State) → Made what list given entries jobs st → 0 < length jobs → length jobs ≤ length list
 few_asked what list given entries jobs st m some =
-    omega (arith, ap length m.jobs_is, few_jobs given (forms_in what list) st (entries_are what list) (some_jobs what list given entries jobs st m some), forms_length what list)
+    omega (arith, ap length m.jobs_is, few_jobs given (forms_in what list) st (entries_may what list) (some_jobs what list given entries jobs st m some), forms_length what list)
 
 pub few_made : (what : Listed) (list : List (List ℕ)) (given : Option (List Part)) (entries : List waiting.Waiting) (jobs : List Job) (st : State) → Made what list given entries jobs st → length entries ≡ length list
 few_made what list given entries jobs st m = ap length m.tests ∙ few_waiting what list st
@@ -56,5 +56,5 @@ unfolding Suits
 batch_awaits what list given entries jobs st m some few = record {
   some = some;
   few = omega (arith, few, few_asked what list given entries.items jobs st m some);
-  fit = ap length m.jobs_is ∙ at_once_is given (forms_in what list) st (entries_are what list) (some_jobs what list given entries.items jobs st m some) ∙ ap at_once (sym m.tests);
+  fit = ap length m.jobs_is ∙ at_once_is given (forms_in what list) st (entries_may what list) (some_jobs what list given entries.items jobs st m some) ∙ ap at_once (sym m.tests);
 }

@@ -1,37 +1,30 @@
 -- The tests of a batch, one after the other: what the meaning says, and what the machine does.
 use Rattle.std.proofs.Common.{◌≡◌, ℕ, suc, ◌<◌, ◌≤◌, Option, Some, None, map, List, [], ◌∷◌, ◌++◌, codes, Bool, true, false, cond, ◌⊎◌, inl, inr, refl, sym, ap, ◌∙◌, subst, ⊎_elim, length, arith}
-use Rattle.std.specs.Prelude.{◌||◌, ◌==◌, not, bytes_eq, is_some, unwrap_or, option_to_list, drop}
+use Rattle.std.specs.Prelude.{◌||◌, not, bytes_eq, is_some, unwrap_or, option_to_list, drop}
 use Rattle.std.specs.List.{list_any}
 use Rattle.std.proofs.lemmas.Bool.{cases_Bool}
 use Rattle.std.proofs.Math.Path.{fun_ext}
 use Rattle.crew_jobs.specs.declared.job.Job.{Job}
-use Rattle.crew_jobs.specs.Probe.{job_of, words_of}
 use Rattle.crew_trait.specs.declared.reply.Reply.{Reply}
 use Rattle.deftable.specs.Table.{value_of, with_entry}
 use Rattle.deftable.specs.declared.note.Stream.TheVariants as streams
 use Rattle.shellword.specs.declared.part.Part.{Part}
-use Rattle.text_cut.specs.Cuts.{fields}
 use Rattle.ac_tree.specs.declared.listed.Listed.{Listed}
-use Rattle.ac_tree.specs.declared.listed.Listed.TheVariants as kinds
 use Rattle.meaning.specs.State.{State, with_note, with_child, with_variable, How, Goes_on, Stopped, Cut, Run, Ends, Asks, then_run, as_is}
 use Rattle.meaning.specs.Asking.{success, only_reply, after_child, no_compiler, without_compiler}
-use Rattle.meaning.specs.Batches.{asks_all, batched, commits, is_known, replied, with_body, yes_or_no}
-use Rattle.meaning.specs.Rows.{defined_if, is_yes}
+use Rattle.meaning.specs.Batches.{IsBatched, asking, asks_all, batched, commits, committed, is_known, job_for, jobs_in, replied, test_job, with_body, yes_or_no}
+use Rattle.meaning.specs.Entries.{entry_test, tests_of}
+use Rattle.meaning.specs.Forms.{FormTest, form_name}
+use Rattle.meaning.specs.Rows.{Formed, row_of}
 use Rattle.meaning.specs.Tests.{guarded, checking, with_result, Row, may_begin, test_by, tested, tested_by}
 use Rattle.plan.specs.Broken.{broken_all, guarded_all}
+use Rattle.meaning.proofs.Batches.{entries_are, has_job, lacks_in, lacks_job, ready_is}
 use Rattle.meaning.proofs.Values.{same_text, value_here, value_there, without_unset}
-use Rattle.test_forms.specs.declared.form.Snippet.{Snippet}
-use Rattle.test_forms.specs.declared.form.Snippet.TheVariants.{Header, Function, Library, Body}
 use Rattle.test_forms.specs.declared.form.TestForm.{TestForm}
-use Rattle.test_forms.specs.declared.form.TryForm.{TryForm}
-use Rattle.form_rows.specs.Batches.{asking, committed, first_job, forms_batched, job_for, jobs_in, listed_form, test_job, tests_of}
-use Rattle.form_rows.specs.Forms.{FormTest, Table, attempt_of_try, form_name, form_used, libs_with, may_start, row_of, snippet_job, value_in}
-use Rattle.form_rows.proofs.Lists.{lists_are}
 use Rattle.run_forms.specs.Courses.{bare_course}
 use Rattle.run_forms.specs.Ends.{heard_end}
 use Rattle.run_test.specs.Batched.{after_entries, at_once, batch_end, is_refused, known_end, refuses}
 use Rattle.run_test.specs.declared.wait.Waiting as waiting
-use Rattle.run_step.specs.BatchRuns.{batch_of}
 use Rattle.run_step.specs.Waiting.{any_asks, forms_in, front_end, fronted, job_at, jobs_of, waiting_at, waiting_for}
 
 -- The test of a form that was given this text.
@@ -45,14 +38,14 @@ tests_with given forms = map (test_of given) forms
 -- ---- one entry
 
 abbrev row_at : Option (List Part) → TestForm → Option Job → Reply → State → Row
-row_at given form job reply st = with_body (replied (form_name form) job reply) (row_of (test_of given form) st)
+row_at given form job reply st = with_body (replied (form_name form) job reply) (row_of (Formed (test_of given form)) st)
 
 abbrev how_if : Bool → How
 how_if true = Cut
 how_if false = Goes_on
 
 abbrev lacks : State → Bool
-lacks st = length (words_of st.vars (codes "CC")) == 0
+lacks st = lacks_in st.vars
 
 -- There is no value: the child was refused before.
 abbrev is_missing : Option (List ℕ) → Bool
@@ -104,92 +97,23 @@ commit_one false refused run s rest e = ap (λ r. commits r refused rest) e
 
 -- ---- jobs
 
--- With a compiler each test has a job, and without one none has.
-if_some : (b : Bool) (job : Job) → b ≡ false → (j : Job) × (cond b None (Some job) ≡ Some j)
-if_some b job e = (job, ap (λ c. cond c None (Some job)) e)
+-- The tests of these forms may be in a batch.
+abbrev pub AllBatched : List TestForm → Type 0
+AllBatched [] = Unit {0}
+AllBatched (form ∷ more) = IsBatched form × AllBatched more
 
-if_none : (b : Bool) (job : Job) → b ≡ true → cond b None (Some job) ≡ None
-if_none b job e = ap (λ c. cond c None (Some job)) e
-
-abbrev lacks_in : Table → Bool
-lacks_in vars = length (words_of vars (codes "CC")) == 0
-
--- The value of LIBS doesn't count.
-with_libs : (vars : Table) (libs : List ℕ) (b : Bool) → lacks_in vars ≡ b → lacks_in (with_entry vars (codes "LIBS") libs) ≡ b
-unfolding words_of
-with_libs vars libs b e = ap (λ o. length (fields (unwrap_or o [])) == 0) (value_there vars (codes "LIBS") libs (codes "CC") refl) ∙ e
-
-snippet_some : (s : Snippet) (entry : List ℕ) (given : Option (List ℕ)) (number : ℕ) (vars defs : Table) → lacks_in vars ≡ false → (job : Job) × (snippet_job s entry given number vars defs ≡ Some job)
-unfolding job_of
-snippet_some Header entry given number vars defs e = if_some (lacks_in vars) _ e
-snippet_some Function entry given number vars defs e = if_some (lacks_in vars) _ e
-snippet_some (Library library) entry given number vars defs e =
-    let libs = libs_with library given vars in
-    if_some (lacks_in (with_entry vars (codes "LIBS") libs)) _ (with_libs vars libs false e)
-snippet_some (Body text) entry given number vars defs e = if_some (lacks_in vars) _ e
-
-snippet_none : (s : Snippet) (entry : List ℕ) (given : Option (List ℕ)) (number : ℕ) (vars defs : Table) → lacks_in vars ≡ true → snippet_job s entry given number vars defs ≡ None
-unfolding job_of
-snippet_none Header entry given number vars defs e = if_none (lacks_in vars) _ e
-snippet_none Function entry given number vars defs e = if_none (lacks_in vars) _ e
-snippet_none (Library library) entry given number vars defs e =
-    let libs = libs_with library given vars in
-    if_none (lacks_in (with_entry vars (codes "LIBS") libs)) _ (with_libs vars libs true e)
-snippet_none (Body text) entry given number vars defs e = if_none (lacks_in vars) _ e
-
--- A test that may be in a batch has a first try, and what is done with its value sets no variable.
-pub record IsBatched (form : TestForm) : Type 0 where
-  pub first : TryForm
-  pub more : List TryForm
-  pub is : form.tries ≡ first ∷ more
-  pub vars : (value : Option (List ℕ)) (st : State) → (form_used form value st).vars ≡ st.vars
-
--- So are all of these.
-abbrev pub AreBatched : List TestForm → Type 0
-AreBatched [] = Unit {0}
-AreBatched (form ∷ more) = IsBatched form × AreBatched more
-
-defined_vars : (found : Bool) (name : List ℕ) (st : State) → (defined_if found name st).vars ≡ st.vars
-defined_vars true name st = refl
-defined_vars false name st = refl
-
--- The tests of entries are.
-entry_is : (what : Listed) (entry : List ℕ) → IsBatched (listed_form what entry true)
-entry_is kinds.Header entry = record { first = _; more = _; is = refl; vars = λ value st. defined_vars (is_yes value) _ st }
-entry_is kinds.Function entry = record { first = _; more = _; is = refl; vars = λ value st. defined_vars (is_yes value) _ st }
-entry_is kinds.Declaration entry = record { first = _; more = _; is = refl; vars = λ value st. refl }
-
-pub entries_are : (what : Listed) (entries : List (List ℕ)) → AreBatched (forms_in what entries)
-entries_are what [] = _
-entries_are what (entry ∷ more) = (entry_is what entry, entries_are what more)
+-- Those of entries may.
+pub entries_may : (what : Listed) (entries : List (List ℕ)) → AllBatched (forms_in what entries)
+entries_may what [] = _
+entries_may what (entry ∷ more) = ((entries_are what (entry ∷ []) None).0, entries_may what more)
 
 -- The tests of a list are those of its forms.
-pub list_is : (what : Listed) (entries : List (List ℕ)) (includes : Option (List Part)) (st : State) → batched (batch_of what entries includes) st ≡ forms_batched (tests_with includes (forms_in what entries)) st
-list_is what entries includes st = lists_are (batch_of what entries includes) st ∙ ap (λ tests. forms_batched tests st) (same entries)
-  where
-    same : (l : List (List ℕ)) → tests_of (batch_of what l includes) ≡ tests_with includes (forms_in what l)
-    same [] = refl
-    same (entry ∷ more) = ap (λ tests. test_of includes (listed_form what entry true) ∷ tests) (same more)
-
-first_is : (given : Option (List Part)) (form : TestForm) (number : ℕ) (st : State) (h : IsBatched form) → test_job (test_of given form) number st ≡ snippet_job h.first.snippet form.entry (value_in given st) number st.vars st.defs
-first_is given form number st h = ap (λ tries. first_job tries form.entry (value_in given st) number st.vars st.defs) h.is
-
-some_job : (given : Option (List Part)) (form : TestForm) (number : ℕ) (st : State) → IsBatched form → lacks st ≡ false → (job : Job) × (test_job (test_of given form) number st ≡ Some job)
-some_job given form number st h e =
-    let j = snippet_some h.first.snippet form.entry (value_in given st) number st.vars st.defs e in
-    (j.0, first_is given form number st h ∙ j.1)
-
-no_job : (given : Option (List Part)) (form : TestForm) (number : ℕ) (st : State) → IsBatched form → lacks st ≡ true → test_job (test_of given form) number st ≡ None
-no_job given form number st h e = first_is given form number st h ∙ snippet_none h.first.snippet form.entry (value_in given st) number st.vars st.defs e
-
--- A test is ready if its first try has a job.
-ready_is : (given : Option (List Part)) (form : TestForm) (st : State) → IsBatched form → (row_of (test_of given form) st).ready ≡ is_some (test_job (test_of given form) 0 st)
-ready_is given form st h =
-    ap (λ tries. may_start (map (attempt_of_try form.entry (value_in given st) st.vars st.defs) tries)) h.is
-    ∙ sym (ap is_some (first_is given form 0 st h))
+pub list_is : (what : Listed) (entries : List (List ℕ)) (includes : Option (List Part)) → tests_of what entries includes ≡ tests_with includes (forms_in what entries)
+list_is what [] includes = refl
+list_is what (entry ∷ more) includes = ap (λ tests. entry_test what includes entry ∷ tests) (list_is what more includes)
 
 is_ready : (given : Option (List Part)) (form : TestForm) (job : Option Job) (reply : Reply) (first : State) → IsBatched form → lacks first ≡ false → (row_at given form job reply first).ready ≡ true
-is_ready given form job reply first h e = ready_is given form first h ∙ ap is_some (some_job given form 0 first h e).1
+is_ready given form job reply first h e = ready_is (test_of given form) first h ∙ ap is_some (has_job (test_of given form) 0 first h e).1
 
 -- The jobs of the tests are those that the meaning asks for.
 at_place : (given : Option (List Part)) (place : ℕ) (earlier : List (List ℕ)) (form : TestForm) (st : State)
@@ -389,7 +313,7 @@ asked_comes given form job tail more replies refused first now h has unset rest 
     ∙ rest s (heard_vars form job reply now (success reply) h unset)
     ∙ ap (λ b. Ends (how_if b) (after_entries more (jobs_in tail) (drop 1 replies) s)) (or_swap (refuses (success reply)) refused (is_refused more (drop 1 replies)))
 
-comes : (given : Option (List Part)) (first : State) → lacks first ≡ false → (forms : List TestForm) → AreBatched forms → (place : ℕ) (earlier : List (List ℕ)) (replies : List Reply) (refused : Bool) (now : State) → Stands earlier refused first now
+comes : (given : Option (List Part)) (first : State) → lacks first ≡ false → (forms : List TestForm) → AllBatched forms → (place : ℕ) (earlier : List (List ℕ)) (replies : List Reply) (refused : Bool) (now : State) → Stands earlier refused first now
     → Comes first (asking place earlier (tests_with given forms) first) (waiting_for earlier forms first) replies refused now
 comes given first has [] all place earlier replies refused now stands = no_tests first replies refused now
 comes given first has (form ∷ more) all place earlier replies refused now stands =
@@ -401,7 +325,7 @@ comes given first has (form ∷ more) all place earlier replies refused now stan
     quiet_commits given form tail replies refused first now (λ s. Ends (how_if (refused || is_refused later replies)) (after_entries later (jobs_in tail) replies s)) all.0
     (λ _. is_ready given form None (only_reply replies) first all.0 has) (missing name earlier refused first now stands t)
     (λ s same. comes given first has more all.1 (suc place) (name ∷ earlier) replies refused s (after_quiet name earlier refused first now s stands t same)))
-    (λ f. subst (λ job. Comes first ((test_of given form, job) ∷ tail) (waiting_if form true ∷ later) replies refused now) (sym (some_job given form place first all.0 has).1)
+    (λ f. subst (λ job. Comes first ((test_of given form, job) ∷ tail) (waiting_if form true ∷ later) replies refused now) (sym (has_job (test_of given form) place first all.0 has).1)
     (asked_comes given form _ tail later replies refused first now all.0 has (unknown name earlier refused first now stands f)
     (λ s is. comes given first has more all.1 (suc place) (name ∷ earlier) (drop 1 replies) _ s (after_heard name earlier refused first now s (success (only_reply replies)) stands f is))))
 
@@ -426,16 +350,16 @@ stops : (given : Option (List Part)) (form : TestForm) (first now : State) → I
 stops given form first now h has unset =
     let r = row_at given form None (only_reply []) first in
     ap (λ o. tested_by (may_begin o r.ready) r now) unset
-    ∙ ap (λ b. tested_by b r now) (ready_is given form first h ∙ ap is_some (no_job given form 0 first h has))
+    ∙ ap (λ b. tested_by b r now) (ready_is (test_of given form) first h ∙ ap is_some (lacks_job (test_of given form) 0 first h has))
 
 -- A test without a job has no compiler.
 lacking : (given : Option (List Part)) (form : TestForm) (place : ℕ) (first : State) → IsBatched form → test_job (test_of given form) place first ≡ None → lacks first ≡ true
 lacking given form place first h none =
     ⊎_elim (λ t. t)
-    (λ f. let j = some_job given form place first h f in absurd (let z : Some j.0 ≡ None = sym j.1 ∙ none in cc))
+    (λ f. let j = has_job (test_of given form) place first h f in absurd (let z : Some j.0 ≡ None = sym j.1 ∙ none in cc))
     (cases_Bool (lacks first))
 
-fronts_all : (given : Option (List Part)) (first : State) (forms : List TestForm) → AreBatched forms → (place : ℕ) (earlier : List (List ℕ)) (now : State) → jobs_in (asking place earlier (tests_with given forms) first) ≡ [] → Stands earlier false first now
+fronts_all : (given : Option (List Part)) (first : State) (forms : List TestForm) → AllBatched forms → (place : ℕ) (earlier : List (List ℕ)) (now : State) → jobs_in (asking place earlier (tests_with given forms) first) ≡ [] → Stands earlier false first now
     → Fronts first (asking place earlier (tests_with given forms) first) (waiting_for earlier forms first) now
 fronts_all given first [] all place earlier now quiet stands = refl
 fronts_all given first (form ∷ more) all place earlier now quiet stands =
@@ -455,12 +379,12 @@ fronts_all given first (form ∷ more) all place earlier now quiet stands =
 
 -- ---- a batch inside tests
 
-asks_nothing : (given : Option (List Part)) (first : State) → lacks first ≡ true → (forms : List TestForm) → AreBatched forms → (place : ℕ) (earlier : List (List ℕ)) → jobs_in (asking place earlier (tests_with given forms) first) ≡ []
+asks_nothing : (given : Option (List Part)) (first : State) → lacks first ≡ true → (forms : List TestForm) → AllBatched forms → (place : ℕ) (earlier : List (List ℕ)) → jobs_in (asking place earlier (tests_with given forms) first) ≡ []
 asks_nothing given first has [] all place earlier = refl
 asks_nothing given first has (form ∷ more) all place earlier =
     let rest = asking (suc place) (form_name form ∷ earlier) (tests_with given more) first in
     jobs_first (test_of given form) (job_for (test_of given form) place earlier first) rest
-    ∙ ap (λ j. option_to_list j ++ jobs_in rest) (either (is_known (form_name form) earlier first) (no_job given form place first all.0 has))
+    ∙ ap (λ j. option_to_list j ++ jobs_in rest) (either (is_known (form_name form) earlier first) (lacks_job (test_of given form) place first all.0 has))
     ∙ asks_nothing given first has more all.1 (suc place) (form_name form ∷ earlier)
   where
     either : (b : Bool) {j : Option Job} → j ≡ None → cond b None j ≡ None
@@ -471,7 +395,7 @@ asks_nothing given first has (form ∷ more) all place earlier =
 abbrev pub jobs_for : Option (List Part) → List TestForm → State → List Job
 jobs_for given forms st = jobs_in (asking 1 [] (tests_with given forms) st)
 
-has_compiler : (given : Option (List Part)) (forms : List TestForm) (st : State) → AreBatched forms → 0 < length (jobs_for given forms st) → lacks st ≡ false
+has_compiler : (given : Option (List Part)) (forms : List TestForm) (st : State) → AllBatched forms → 0 < length (jobs_for given forms st) → lacks st ≡ false
 has_compiler given forms st all some =
     ⊎_elim (λ t. absurd (omega (arith, some, ap length (asks_nothing given st t forms all 1 [])))) (λ f. f) (cases_Bool (lacks st))
 
@@ -483,9 +407,9 @@ ends_as : (tests : List (List ℕ)) (refused : Bool) (st : State) (next : State 
 ends_as tests true st next = refl
 ends_as tests false st next = refl
 
-pub batch_asks : (given : Option (List Part)) (forms : List TestForm) (tests : List (List ℕ)) (st : State) (next : State → Run) → AreBatched forms → 0 < length (jobs_for given forms st)
+pub batch_asks : (given : Option (List Part)) (forms : List TestForm) (tests : List (List ℕ)) (st : State) (next : State → Run) → AllBatched forms → 0 < length (jobs_for given forms st)
     → (let entries = waiting_for [] forms st in let jobs = jobs_for given forms st in
-    then_run (guarded_all tests (forms_batched (tests_with given forms) st)) next ≡ Asks jobs (λ replies. batch_end tests (is_refused entries replies) next (after_entries entries jobs replies st)))
+    then_run (guarded_all tests (batched (tests_with given forms) st)) next ≡ Asks jobs (λ replies. batch_end tests (is_refused entries replies) next (after_entries entries jobs replies st)))
 batch_asks given forms tests st next all some =
     let entries = waiting_for [] forms st in
     let asks = asking 1 [] (tests_with given forms) st in
@@ -499,8 +423,8 @@ fronted_as : (tests : List (List ℕ)) (asks : Bool) (st : State) (next : State 
 fronted_as tests true st next = refl
 fronted_as tests false st next = refl
 
-pub batch_now : (given : Option (List Part)) (forms : List TestForm) (tests : List (List ℕ)) (st : State) (next : State → Run) → AreBatched forms → jobs_for given forms st ≡ []
-    → then_run (guarded_all tests (forms_batched (tests_with given forms) st)) next ≡ fronted tests (waiting_for [] forms st) next st
+pub batch_now : (given : Option (List Part)) (forms : List TestForm) (tests : List (List ℕ)) (st : State) (next : State → Run) → AllBatched forms → jobs_for given forms st ≡ []
+    → then_run (guarded_all tests (batched (tests_with given forms) st)) next ≡ fronted tests (waiting_for [] forms st) next st
 batch_now given forms tests st next all none =
     let entries = waiting_for [] forms st in
     let asks = asking 1 [] (tests_with given forms) st in
@@ -510,19 +434,19 @@ batch_now given forms tests st next all none =
 
 -- ---- how many
 
-at_once_of : (given : Option (List Part)) (first : State) → lacks first ≡ false → (forms : List TestForm) → AreBatched forms → (place : ℕ) (earlier : List (List ℕ))
+at_once_of : (given : Option (List Part)) (first : State) → lacks first ≡ false → (forms : List TestForm) → AllBatched forms → (place : ℕ) (earlier : List (List ℕ))
     → length (jobs_in (asking place earlier (tests_with given forms) first)) ≡ at_once (waiting_for earlier forms first)
 at_once_of given first has [] all place earlier = refl
 at_once_of given first has (form ∷ more) all place earlier =
     ap length (jobs_first (test_of given form) (job_for (test_of given form) place earlier first) (asking (suc place) (form_name form ∷ earlier) (tests_with given more) first))
-    ∙ counted (is_known (form_name form) earlier first) _ (some_job given form place first all.0 has).1
+    ∙ counted (is_known (form_name form) earlier first) _ (has_job (test_of given form) place first all.0 has).1
     ∙ ap (λ n. cond (not (is_known (form_name form) earlier first)) (suc n) n) (at_once_of given first has more all.1 (suc place) (form_name form ∷ earlier))
   where
     counted : (b : Bool) {j : Option Job} {job : Job} (tail : List Job) → j ≡ Some job → length (option_to_list (cond b None j) ++ tail) ≡ cond (not b) (suc (length tail)) (length tail)
     counted true tail e = refl
     counted false tail e = ap (λ o. length (option_to_list o ++ tail)) e
 
-pub at_once_is : (given : Option (List Part)) (forms : List TestForm) (st : State) → AreBatched forms → 0 < length (jobs_for given forms st) → length (jobs_for given forms st) ≡ at_once (waiting_for [] forms st)
+pub at_once_is : (given : Option (List Part)) (forms : List TestForm) (st : State) → AllBatched forms → 0 < length (jobs_for given forms st) → length (jobs_for given forms st) ≡ at_once (waiting_for [] forms st)
 at_once_is given forms st all some = at_once_of given st (has_compiler given forms st all some) forms all 1 []
 
 at_once_few : (entries : List waiting.Waiting) → at_once entries ≤ length entries
@@ -544,6 +468,6 @@ forms_length what (entry ∷ more) = ap suc (forms_length what more)
 pub few_waiting : (what : Listed) (entries : List (List ℕ)) (st : State) → length (waiting_for [] (forms_in what entries) st) ≡ length entries
 few_waiting what entries st = waiting_length [] (forms_in what entries) st ∙ forms_length what entries
 
-pub few_jobs : (given : Option (List Part)) (forms : List TestForm) (st : State) → AreBatched forms → 0 < length (jobs_for given forms st) → length (jobs_for given forms st) ≤ length forms
+pub few_jobs : (given : Option (List Part)) (forms : List TestForm) (st : State) → AllBatched forms → 0 < length (jobs_for given forms st) → length (jobs_for given forms st) ≤ length forms
 few_jobs given forms st all some =
     omega (arith, at_once_is given forms st all some, at_once_few (waiting_for [] forms st), waiting_length [] forms st)

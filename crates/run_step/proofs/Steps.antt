@@ -17,7 +17,9 @@ use Rattle.ac_tree.specs.declared.statement.ProgramValue.TheVariants.{Text, Full
 use Rattle.meaning.specs.State.{State, Scope, answered, Run, Ends, Goes_on, then_run}
 use Rattle.meaning.specs.Asking.{child, compiled}
 use Rattle.meaning.specs.Meaning.{effect, after_subject, check_prog, has_value, first_found, program_test}
-use Rattle.meaning.specs.Rows.{TestKind, kind_for}
+use Rattle.meaning.specs.Forms.{FormTest}
+use Rattle.meaning.specs.Entries.{sought_test}
+use Rattle.meaning.specs.Rows.{TestKind, Formed}
 use Rattle.plan.specs.Broken.{broken_all, guarded_all}
 use Rattle.plan.specs.Inside.{asks_to_try}
 use Rattle.plan.specs.Walk.{Mind, mind_of}
@@ -29,8 +31,8 @@ use Rattle.run_test.specs.Runs.{kind_run, question_run, waiting_run}
 use Rattle.run_test.specs.Starts.{Opens, program_kind}
 use Rattle.run_test.specs.declared.trying.Opening.{Opening}
 use Rattle.run_test.proofs.Flows.{continued, led}
-use Rattle.run_test.proofs.Rows.{entry_asks, question_found}
-use Rattle.run_step.specs.Openings.{search_kind, first_kind}
+use Rattle.run_test.proofs.Rows.{question_found}
+use Rattle.run_step.specs.Openings.{search_kind, first_test}
 use Rattle.run_step.specs.Runs.{own_run, looks_run, tries_run, first_job, found_run, round}
 
 -- A test that is opened and started continues what its kind is.
@@ -59,21 +61,19 @@ pub batch_leads : (does : Effect) (listed : Listed) (entries : List (List ℕ)) 
 unfolding effect
 batch_leads does listed entries includes scope st tests next is = sym (ap (λ x. own_run x scope st tests next) is)
 
--- A test of an entry as a question.
-pub entry_leads : (what : Sought) (entry : List ℕ) (includes : Option (List Part)) (defines : Bool) (scope : Scope) (st : State) (tests : List (List ℕ)) (next : ℕ → Scope → State → Run)
-    → kind_run (kind_for what entry includes defines) scope st tests next ≡ found_run (kind_for what entry includes defines) st tests next
-entry_leads what entry includes defines scope st tests next =
-    question_found (kind_for what entry includes defines) scope st tests next (entry_asks what entry includes defines)
+-- The test of a form as a question.
+pub form_leads : (t : FormTest) (scope : Scope) (st : State) (tests : List (List ℕ)) (next : ℕ → Scope → State → Run) → kind_run (Formed t) scope st tests next ≡ found_run t st tests next
+form_leads t scope st tests next = question_found t scope st tests next
 
 pub first_leads : (what : Sought) (entries : List (List ℕ)) (includes : Option (List Part)) (scope : Scope) (st : State) (tests : List (List ℕ)) (next : ℕ → Scope → State → Run) → 0 < length entries
-    → kind_run (first_kind what entries includes) scope st tests next ≡ first_found (broken_all tests) what entries includes st (next 0)
+    → kind_run (Formed (first_test what entries includes)) scope st tests next ≡ first_found (broken_all tests) what entries includes st (next 0)
 first_leads what [] includes scope st tests next some = absurd (omega (arith, some))
-first_leads what (entry ∷ more) includes scope st tests next some = entry_leads what entry includes true scope st tests next
+first_leads what (entry ∷ more) includes scope st tests next some = form_leads (sought_test what entry includes true) scope st tests next
 
 pub round_leads : (what : Sought) (entry : List ℕ) (includes : Option (List Part)) (scope : Scope) (st : State) (tests : List (List ℕ)) (next : ℕ → Scope → State → Run)
-    → kind_run (kind_for what entry includes true) scope st tests next ≡ round what entry includes st tests next
+    → kind_run (Formed (sought_test what entry includes true)) scope st tests next ≡ round what entry includes st tests next
 unfolding after_subject
-round_leads what entry includes scope st tests next = entry_leads what entry includes true scope st tests next
+round_leads what entry includes scope st tests next = form_leads (sought_test what entry includes true) scope st tests next
 
 pub continued_ok : (r : Result Flow AllocError) (c : Scope) (tests : List (List ℕ)) (st : State) (run : List (List ℕ) → (ℕ → Scope → State → Run) → Run) (step : (ℕ → Mind → State → Run) → Run)
     → ((next : ℕ → Mind → State → Run) → step next ≡ run tests (λ n scope. next n (mind_of scope tests)))

@@ -15,10 +15,10 @@ use Rattle.meaning.specs.State.{State, with_child, Cut, Run, Ends}
 use Rattle.plan.specs.Broken.{broken_all}
 use Rattle.meaning.specs.Asking.{success}
 use Rattle.meaning.specs.Batches.{is_known}
+use Rattle.meaning.specs.Forms.{form_name}
+use Rattle.meaning.specs.Entries.{listed_form}
 use Rattle.meaning.specs.Play.{refused_here, first_refused}
 use Rattle.meaning.specs.Tests.{checking}
-use Rattle.form_rows.specs.Batches.{listed_form}
-use Rattle.form_rows.specs.Forms.{form_name}
 use Rattle.run_forms.specs.Courses.{bare_course}
 use Rattle.run_forms.specs.Ends.{heard_end}
 use Rattle.run_forms.specs.declared.course.FormCourse.{FormCourse}

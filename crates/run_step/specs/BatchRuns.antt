@@ -6,7 +6,8 @@ use Rattle.crew_jobs.specs.declared.job.Job.{Job}
 use Rattle.deftable.specs.Table.{value_of}
 use Rattle.shellword.specs.declared.part.Part.{Part}
 use Rattle.ac_tree.specs.declared.listed.Listed.{Listed}
-use Rattle.meaning.specs.Batches.{Batch, batched}
+use Rattle.meaning.specs.Batches.{batched}
+use Rattle.meaning.specs.Entries.{tests_of}
 use Rattle.meaning.specs.State.{State, Scope, then_run}
 use Rattle.plan.specs.Broken.{guarded_all}
 use Rattle.run_forms.specs.declared.course.FormCourse.{FormCourse}
@@ -18,13 +19,9 @@ use Rattle.run_test.specs.Flows.{Inside}
 use Rattle.run_test.specs.Waits.{all_replies, resumed}
 use Rattle.run_step.specs.Waiting.{any_asks, front_end, fronted}
 
--- A batch. (Autoconf's manual, "Generic Headers" to "Generic Declarations")
-abbrev pub batch_of : Listed → List (List ℕ) → Option (List Part) → Batch
-batch_of listed entries includes = record { listed = listed; entries = entries; includes = includes }
-
 -- The run of a batch. (own)
 abbrev pub list_run : Listed → List (List ℕ) → Option (List Part) → Scope → State → Inside
-list_run listed entries includes scope st tests next = then_run (guarded_all tests (batched (batch_of listed entries includes) st)) (next 0 scope)
+list_run listed entries includes scope st tests next = then_run (guarded_all tests (batched (tests_of listed entries includes) st)) (next 0 scope)
 
 -- What follows if nothing is asked for. (own)
 abbrev pub front_run : List waiting.Waiting → Scope → State → Inside

@@ -4,8 +4,7 @@ use Rattle.std.specs.declared.alloc.AllocError.{AllocError}
 use Rattle.deftable.specs.Table.{value_of}
 use Rattle.shellword.specs.declared.part.Part.{Part}
 use Rattle.shellword.specs.Value.{word_value}
-use Rattle.meaning.specs.State.{State}
-use Rattle.meaning.specs.Rows.{value_or_empty}
+use Rattle.meaning.specs.State.{State, value_or_empty}
 use Rattle.meaning.specs.Tests.{checking, with_result}
 use Rattle.run_test.specs.declared.flow.Flow.{Flow}
 use Rattle.run_test.specs.declared.flow.Flow.TheVariants as flow

@@ -7,10 +7,11 @@ use Rattle.ac_tree.specs.declared.statement.ProgramValue.{ProgramValue}
 use Rattle.ac_tree.specs.declared.statement.ProgramValue.TheVariants.{Text, FullName}
 use Rattle.ac_tree.specs.TestNames.{search_name}
 use Rattle.meaning.specs.Meaning.{check_prog, has_value, is_full_name}
-use Rattle.meaning.specs.Rows.{TestKind, Search, kind_for, value_or_empty}
-use Rattle.meaning.specs.State.{State}
+use Rattle.meaning.specs.Rows.{TestKind, Search}
+use Rattle.meaning.specs.Entries.{sought_test}
+use Rattle.meaning.specs.Forms.{FormTest, value_in}
+use Rattle.meaning.specs.State.{State, value_or_empty}
 use Rattle.run_test.specs.declared.trying.Opening.{Opening}
-use Rattle.form_rows.specs.Forms.{value_in}
 use Rattle.run_test.specs.Starts.{Opens, program_kind}
 
 -- The value that a variable gets if its program is found; none stands for the full name of the program. (Autoconf's
@@ -37,7 +38,7 @@ search_kind variable program value otherwise st = program_kind (search_for varia
 abbrev pub OpensListed : List ℕ → List ℕ → State → Opening → Type 0
 OpensListed variable program st o = Opens (program_kind (check_prog variable program program None) (has_value st variable) st) st o
 
--- The kind of test of the first entry of a list, if there is one. (own)
-abbrev pub first_kind : Sought → List (List ℕ) → Option (List Part) → TestKind
-first_kind sought [] includes = kind_for sought [] includes true
-first_kind sought (entry ∷ more) includes = kind_for sought entry includes true
+-- The test of the first entry of a list, if there is one. (own)
+abbrev pub first_test : Sought → List (List ℕ) → Option (List Part) → FormTest
+first_test sought [] includes = sought_test sought [] includes true
+first_test sought (entry ∷ more) includes = sought_test sought entry includes true

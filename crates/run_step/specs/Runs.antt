@@ -15,7 +15,7 @@ use Rattle.ac_tree.specs.declared.tree.Subject.{Subject}
 use Rattle.ac_tree.specs.declared.tree.Subject.TheVariants.{Asked}
 use Rattle.ac_tree.specs.declared.tree.When.{When}
 use Rattle.meaning.specs.Meaning.{after_question, after_subject, found_by, after_option, is_taken, looks}
-use Rattle.meaning.specs.Rows.{TestKind}
+use Rattle.meaning.specs.Forms.{FormTest}
 use Rattle.meaning.specs.State.{State, Scope, answered, then_run}
 use Rattle.meaning.specs.Tries.{text_of, tried}
 use Rattle.plan.specs.Broken.{broken_all, guarded_all}
@@ -46,8 +46,8 @@ abbrev pub given_run : OptionKind → List ℕ → State → Inside
 given_run kind variable st tests next = after_option (value_of st.vars variable) kind st (next 0)
 
 -- A test as a question. (own)
-abbrev pub found_run : TestKind → State → Inside
-found_run kind st tests next = found_by (broken_all tests) kind st (next 0)
+abbrev pub found_run : FormTest → State → Inside
+found_run t st tests next = found_by (broken_all tests) t st (next 0)
 
 -- A question. (own)
 abbrev pub asked_run : Question → State → Inside

@@ -8,12 +8,12 @@ use Rattle.shellword.specs.declared.part.Part.{Part}
 use Rattle.ac_tree.specs.declared.listed.Listed.{Listed}
 use Rattle.meaning.specs.State.{State, Run, Ends, Stopped, with_note}
 use Rattle.meaning.specs.Asking.{no_compiler}
-use Rattle.meaning.specs.Batches.{is_known}
+use Rattle.meaning.specs.Batches.{is_known, test_job}
+use Rattle.meaning.specs.Forms.{form_name}
+use Rattle.meaning.specs.Entries.{listed_form}
 use Rattle.meaning.specs.Tests.{checking}
 use Rattle.plan.specs.Broken.{broken_all}
 use Rattle.test_forms.specs.declared.form.TestForm.{TestForm}
-use Rattle.form_rows.specs.Batches.{listed_form, test_job}
-use Rattle.form_rows.specs.Forms.{form_name}
 use Rattle.run_forms.specs.Courses.{bare_course}
 use Rattle.run_test.specs.Batched.{known_end}
 use Rattle.run_test.specs.declared.wait.Waiting as waiting

@@ -6,7 +6,8 @@ ghost use Rattle.deftable.specs.Table as tables;
 ghost use Rattle.meaning.specs.Meaning.{value_name};
 ghost use Rattle.meaning.specs.Tries.{text_of};
 ghost use Rattle.plan.specs.Inside.{asks_about, asks_to_find, asks_to_try};
-ghost use Rattle.run_step.specs.Openings.{first_kind};
+ghost use Rattle.meaning.specs.Rows.{Formed};
+ghost use Rattle.run_step.specs.Openings.{first_test};
 ghost use Rattle.run_step.specs.Runs.{asked_run, first_job, given_run, round, subject_run, tries_run};
 ghost use Rattle.run_test.specs.Flows.{IsStep, Led, LedOn};
 ghost use Rattle.run_test.specs.Starts.{Opens};
@@ -92,7 +93,8 @@ fn open_first(
     includes: &Option<HereText>,
 ) -> Result<Opening, AllocError>
     ensures some { 0 < length entries.now }
-    ensures opens { IfOk result (Opens (first_kind sought entries.now includes.now) store.now) }
+    ensures opens { IfOk result (
+        Opens (Formed (first_test sought entries.now includes.now)) store.now) }
 {
     let list = entries.as_slice();
     let entry = &list[0];

@@ -3,7 +3,7 @@
 ghost use Rattle.std.specs.Prelude.{◌≡◌, ◌≤◌, ◌||◌, [], true, IfOk, length};
 ghost use Rattle.std.specs.Prelude.{◌++◌, OnOk, bytes_eq, option_to_list};
 ghost use Rattle.meaning.specs.Batches.{is_known};
-ghost use Rattle.form_rows.specs.Batches.{listed_form};
+ghost use Rattle.meaning.specs.Entries.{listed_form};
 ghost use Rattle.run_forms.specs.Courses.{bare_course};
 ghost use Rattle.run_step.specs.Waiting.{forms_in, is_named, job_at, jobs_of, names_before, waiting_for};
 

@@ -19,7 +19,7 @@ use Rattle.run_forms.specs.Attempts.{attempt_of}
 use Rattle.run_test.specs.Attempts.{IsAttempt, lacks_job}
 use Rattle.run_test.specs.Flows.{Leads, Led}
 use Rattle.run_test.specs.Runs.{begun_run, trying_run}
-use Rattle.form_rows.specs.Forms.{may_start}
+use Rattle.meaning.specs.Forms.{may_start}
 use Rattle.run_test.specs.Courses.{name_in, message_in, attempts_in, count_in, otherwise_in}
 use Rattle.run_test.specs.Trying.{test_end, trying, after_attempt, moved, scope_otherwise, state_otherwise, stopped_in}
 use Rattle.run_test.proofs.Rows.{count_is}

@@ -6,12 +6,12 @@ use Rattle.deftable.specs.Table.{value_of}
 use Rattle.meaning.specs.State.{State, Scope, How, as_is, Run, Ends, Goes_on, then_run}
 use Rattle.meaning.specs.Asking.{Attempt, same, compiled, attempted, without_compiler}
 use Rattle.meaning.specs.Rows.{TestKind, name_of}
+use Rattle.meaning.specs.Forms.{may_start}
 use Rattle.meaning.specs.Tests.{Row, guarded, by_attempts, checking, with_result, with_value, may_begin, test_by, tested, tested_by}
 use Rattle.plan.specs.Broken.{broken_all, guarded_all}
 use Rattle.plan.proofs.Endings.{then_then, guarded_then, guarded_inner, Carries, then_carries, ended_carries, compiled_carried}
 use Rattle.run_test.specs.declared.course.Course.{Course}
 use Rattle.run_test.specs.Courses.{name_in, message_in, attempts_in, count_in, otherwise_in, shown_in, used_in, scope_in, course_of, course_by, row_in}
-use Rattle.form_rows.specs.Forms.{may_start}
 use Rattle.run_test.specs.Runs.{kind_run, started_run}
 use Rattle.run_test.specs.Trying.{known_in, test_end, trying}
 use Rattle.run_test.specs.Starts.{Opens, most_of}

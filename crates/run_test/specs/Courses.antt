@@ -1,18 +1,12 @@
 -- Tests that have begun: a column of the courses for each question.
-use Rattle.std.specs.Prelude.{ℕ, Bool, List, [], ◌++◌, Option, Some, None, codes, map, unwrap_or, length}
-use Rattle.shellword.specs.declared.part.Part.{Part}
-use Rattle.ac_tree.specs.declared.listed.Sought.{Sought}
-use Rattle.ac_tree.specs.declared.listed.Sought.TheVariants as sought
-use Rattle.meaning.specs.State.{State, Scope, answered, with_variable}
+use Rattle.std.specs.Prelude.{ℕ, List, [], ◌++◌, Option, Some, None, codes, map, unwrap_or, length}
+use Rattle.meaning.specs.State.{State, Scope, answered, with_variable, value_or_empty}
 use Rattle.meaning.specs.Asking.{Attempt}
 use Rattle.meaning.specs.Directories.{directories_of}
 use Rattle.meaning.specs.Rows as rows
-use Rattle.meaning.specs.Rows.{TestKind, attempt_in, first_of, text_or_no, value_or_empty}
+use Rattle.meaning.specs.Rows.{TestKind, attempt_in, first_of, text_or_no}
+use Rattle.meaning.specs.Forms.{Table, form_used, may_start, says_found}
 use Rattle.meaning.specs.Tests.{Row, by_attempts}
-use Rattle.test_forms.specs.declared.form.TestForm.{TestForm}
-use Rattle.test_forms.specs.Macros.{type_form, library_form, search_form}
-use Rattle.form_rows.specs.Batches.{listed_form}
-use Rattle.form_rows.specs.Forms.{FormTest, Table, form_used, may_start, says_found}
 use Rattle.run_forms.specs.Courses as forms
 use Rattle.run_test.specs.declared.course.Course.{Course}
 use Rattle.run_test.specs.declared.course.Course.TheVariants.{Program, Formed}
@@ -62,38 +56,15 @@ abbrev pub directories_for : Option (List ℕ) → State → List (List ℕ)
 directories_for None st = directories_of (value_or_empty st (codes "PATH"))
 directories_for (Some value) st = []
 
--- The form of the test of an entry or a type. (Autoconf's manual, "Generic Headers" to "Generic Types")
-abbrev pub sought_form : Sought → List ℕ → Bool → TestForm
-sought_form (sought.ListEntry listed) entry defines = listed_form listed entry defines
-sought_form sought.«Type» entry defines = type_form entry defines
-
--- The test of an entry or a type. (own)
-abbrev pub sought_test : Sought → List ℕ → Option (List Part) → Bool → FormTest
-sought_test what entry includes defines = record { form = sought_form what entry defines; given = includes }
-
--- The test of AC_CHECK_LIB. (Autoconf's manual, "Library Files")
-abbrev pub library_test : List ℕ → List ℕ → Option (List Part) → Bool → FormTest
-library_test library function others adds = record { form = library_form library function adds; given = others }
-
--- The test of AC_SEARCH_LIBS. (Autoconf's manual, "Library Files")
-abbrev pub search_test : List ℕ → List (List ℕ) → Option (List Part) → FormTest
-search_test function libraries others = record { form = search_form function libraries; given = others }
-
--- The course of a test of this kind that begins in this state. (own)
+-- The course of a test that begins in this state. (own)
 abbrev pub course_of : TestKind → State → Course
 course_of (rows.Program s own) st = Program (record s { otherwise = first_of own s.otherwise }) (directories_for own st)
-course_of (rows.Single listed entry includes defines) st = Formed (forms.course_of (sought_test (sought.ListEntry listed) entry includes defines) st)
-course_of (rows.Sized name includes defines) st = Formed (forms.course_of (sought_test sought.«Type» name includes defines) st)
-course_of (rows.Library library function others adds) st = Formed (forms.course_of (library_test library function others adds) st)
-course_of (rows.Libraries function libraries others) st = Formed (forms.course_of (search_test function libraries others) st)
+course_of (rows.Formed t) st = Formed (forms.course_of t st)
 
 -- The course of a test whose name is set: it needs none of the values that attempts are made of. (own)
 abbrev pub bare_of : TestKind → Course
 bare_of (rows.Program s own) = Program s []
-bare_of (rows.Single listed entry includes defines) = Formed (forms.bare_of (sought_test (sought.ListEntry listed) entry includes defines))
-bare_of (rows.Sized name includes defines) = Formed (forms.bare_of (sought_test sought.«Type» name includes defines))
-bare_of (rows.Library library function others adds) = Formed (forms.bare_of (library_test library function others adds))
-bare_of (rows.Libraries function libraries others) = Formed (forms.bare_of (search_test function libraries others))
+bare_of (rows.Formed t) = Formed (forms.bare_of t)
 
 -- The course of a test, by the value of its name. (own)
 abbrev pub course_by : Option (List ℕ) → TestKind → State → Course

@@ -5,12 +5,12 @@ use Rattle.deftable.specs.Table.{value_of}
 use Rattle.meaning.specs.State.{State, Scope, answered, then_run}
 use Rattle.meaning.specs.Asking.{child, same, without_compiler}
 use Rattle.meaning.specs.Rows.{TestKind, row_of, name_of}
+use Rattle.meaning.specs.Forms.{may_start}
 use Rattle.meaning.specs.Tests.{checking, tested}
 use Rattle.plan.specs.Broken.{broken_all, guarded_all}
 use Rattle.run_test.specs.declared.course.Course.{Course}
 use Rattle.run_test.specs.declared.course.Trial.{Trial}
 use Rattle.run_test.specs.declared.wait.Wait.{Wait}
-use Rattle.form_rows.specs.Forms.{may_start}
 use Rattle.run_test.specs.Courses.{name_in, message_in, attempts_in, scope_in, course_of}
 use Rattle.run_test.specs.Flows.{Inside}
 use Rattle.run_test.specs.Trying.{known_in, trying, after_attempt}

@@ -1,12 +1,10 @@
 -- The tests that a plan's steps begin.
-use Rattle.std.specs.Prelude.{◌≡◌, ◌+◌, ℕ, Bool, None, Some, Result, IfOk, length}
+use Rattle.std.specs.Prelude.{◌≡◌, ℕ, Bool, None, Some, Result, IfOk, length}
 use Rattle.deftable.specs.Table.{value_of}
 use Rattle.std.specs.declared.alloc.AllocError.{AllocError}
-use Rattle.meaning.specs.State.{State, Scope}
-use Rattle.meaning.specs.Rows.{TestKind, Search, Program, Single, Sized, Library, Libraries, name_of, value_if, value_or_empty}
+use Rattle.meaning.specs.State.{State, Scope, value_or_empty}
+use Rattle.meaning.specs.Rows.{TestKind, Search, Program, name_of, value_if, Formed}
 use Rattle.plan.specs.Inside.{most_directories}
-use Rattle.form_rows.specs.Forms.{FormTest, form_name}
-use Rattle.run_forms.specs.Courses as forms
 use Rattle.run_test.specs.declared.course.Course.{Course}
 use Rattle.run_test.specs.declared.course.Course.TheVariants.{Formed}
 use Rattle.run_test.specs.declared.trying.Opening.{Opening}
@@ -24,13 +22,10 @@ pub record Opens (kind : TestKind) (st : State) (o : Opening) : Type 0 where
 abbrev pub Begins : Opening → Result Flow AllocError → Scope → Scope → State → State → Type 0
 Begins o result scope about st now = (kind : TestKind) → Opens kind st o → Led result (kind_run kind scope st) about now
 
--- How many jobs the test of a kind may ask for. (own)
+-- How many jobs the test may ask for. (own)
 abbrev pub most_of : TestKind → ℕ
 most_of (Program s own) = most_directories
-most_of (Single listed entry includes defines) = 1
-most_of (Sized name includes defines) = 2
-most_of (Library library function others adds) = 1
-most_of (Libraries function libraries others) = 1 + length libraries
+most_of (Formed t) = length t.form.tries
 
 -- If the opening is that of a kind, no more jobs are asked for than the test of this kind may. (own)
 abbrev pub AsksMost : Opening → State → Result Flow AllocError → Type 0
@@ -47,8 +42,3 @@ path_course s st = course_of (Program s None) st
 -- The course of a search that has its variable's own value. (Autoconf's manual, "Generic Programs")
 abbrev pub own_course : Search → State → Course
 own_course s st = course_of (Program s (Some (value_or_empty st s.variable))) st
-
--- An opening is that of the test of a form, which the definitions of forms have. (own)
-pub record OpensFormed (t : FormTest) (st : State) (o : Opening) : Type 0 where
-  pub value : o.value ≡ value_of st.vars (form_name t.form)
-  pub course : o.course ≡ Formed (forms.course_by o.value t st)

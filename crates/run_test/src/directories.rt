@@ -2,7 +2,7 @@
 
 ghost use Rattle.std.specs.Prelude.{◌≡◌, IfOk, codes, map, take};
 ghost use Rattle.meaning.specs.Directories.{ends_empty, directory_of, directories_of, without_last_empty};
-ghost use Rattle.meaning.specs.Rows.{value_or_empty};
+ghost use Rattle.meaning.specs.State.{value_or_empty};
 
 use deftable::{Bytes, Texts};
 use run_state::Store;

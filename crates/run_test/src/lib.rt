@@ -12,10 +12,10 @@
 //!
 //! In `src`, read `course`, `wait` and `flow`, which have the types. `values` has the columns, and
 //! `attempts` makes an attempt when its turn comes. `trying` begins any test, takes the answers to
-//! its attempts and ends it. `starting` makes the course of a test: a new kind of test adds a start,
-//! and its form.
+//! its attempts and ends it. `starting` makes the course of a test: a new test adds a start and its
+//! form.
 //!
-//! The theorem is that the test of each kind, with what follows it, continues as the flow says,
+//! The theorem is that each test, with what follows it, continues as the flow says,
 //! whatever the tests around it.
 #![tactic(auto)]
 
@@ -39,12 +39,12 @@ pub use starting::{listed_form, open_entry, open_libraries, open_library, open_p
 pub use trying::{Opening, break_off, start, take_answer};
 pub use wait::{Wait, Waiting};
 
-/// The test of each kind is that of its course.
+/// Each test is that of its course.
 pub fn rows_are_of_courses()
     ensures rows { RowsAreOfCourses }
 {}
 
-/// What the course of each kind answers is what the kind does.
+/// What the course of a test answers is what the test does.
 pub fn scopes_are_of_kinds()
     ensures scopes { ScopesAreOfKinds }
 {}

@@ -1,10 +1,10 @@
 //! Where a step of a plan becomes a course: the tests of programs, entries, types and libraries.
 
 ghost use Rattle.std.specs.Prelude.{◌≡◌, IfOk};
-ghost use Rattle.form_rows.specs.Batches.{listed_form};
-ghost use Rattle.meaning.specs.Rows.{Libraries, Library, kind_for};
-ghost use Rattle.run_test.specs.Courses.{course_of, sought_form};
-ghost use Rattle.run_test.specs.Starts.{Opens, OpensFormed, own_course, path_course, program_kind};
+ghost use Rattle.meaning.specs.Entries.{library_test, listed_form, search_test, sought_form, sought_test};
+ghost use Rattle.meaning.specs.Rows.{Formed};
+ghost use Rattle.run_test.specs.Courses.{course_of};
+ghost use Rattle.run_test.specs.Starts.{Opens, own_course, path_course, program_kind};
 
 use crate::course::{Course, Search};
 use crate::directories::path_directories;
@@ -80,13 +80,14 @@ pub fn open_program(
 }
 
 /// Opens the test of a form, which was given these includes or other libraries.
+#[tactic(auto, using(crate::proofs::Rows::formed_opens))]
 fn open_formed(
     alloc: Global,
     store: &Store,
     form: TestForm,
     given: &Option<HereText>,
 ) -> Result<Opening, AllocError>
-    ensures { IfOk result (OpensFormed (record { form = form; given = given.now }) store.now) }
+    ensures { IfOk result (Opens (Formed (record { form = form; given = given.now })) store.now) }
 {
     let run_forms::Opening { course, value } = open_form(alloc, store, form, given)?;
     Ok(Opening {
@@ -127,7 +128,6 @@ fn sought_form(
 }
 
 /// Opens the test of an entry or a type.
-#[tactic(auto, using(crate::proofs::Rows::entry_opens))]
 pub fn open_entry(
     alloc: Global,
     store: &Store,
@@ -136,14 +136,14 @@ pub fn open_entry(
     includes: &Option<HereText>,
     defines: bool,
 ) -> Result<Opening, AllocError>
-    ensures { IfOk result (Opens (kind_for sought entry.now includes.now defines) store.now) }
+    ensures { IfOk result (
+        Opens (Formed (sought_test sought entry.now includes.now defines)) store.now) }
 {
     let form = sought_form(alloc, sought, entry.as_slice(), defines)?;
     open_formed(alloc, store, form, includes)
 }
 
 /// Opens the test of AC_CHECK_LIB.
-#[tactic(auto, using(crate::proofs::Rows::library_opens))]
 pub fn open_library(
     alloc: Global,
     store: &Store,
@@ -152,14 +152,14 @@ pub fn open_library(
     others: &Option<HereText>,
     adds: bool,
 ) -> Result<Opening, AllocError>
-    ensures { IfOk result (Opens (Library library.now function.now others.now adds) store.now) }
+    ensures { IfOk result (
+        Opens (Formed (library_test library.now function.now others.now adds)) store.now) }
 {
     let form = library_form(alloc, library.as_slice(), function.as_slice(), adds)?;
     open_formed(alloc, store, form, others)
 }
 
 /// Opens the test of AC_SEARCH_LIBS.
-#[tactic(auto, using(crate::proofs::Rows::libraries_open))]
 pub fn open_libraries(
     alloc: Global,
     store: &Store,
@@ -167,7 +167,8 @@ pub fn open_libraries(
     libraries: &Texts,
     others: &Option<HereText>,
 ) -> Result<Opening, AllocError>
-    ensures { IfOk result (Opens (Libraries function.now libraries.now others.now) store.now) }
+    ensures { IfOk result (
+        Opens (Formed (search_test function.now libraries.now others.now)) store.now) }
 {
     let form = search_form(alloc, function.as_slice(), libraries)?;
     open_formed(alloc, store, form, others)

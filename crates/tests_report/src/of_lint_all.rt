@@ -1,7 +1,9 @@
 //! The errors that are found by reading on after each.
 
 use lint_all::all_errors;
+use lint_errors::read;
 use lint_findings::Finding;
+use std::alloc::{AllocError, Global};
 use std::test::Fail;
 use test_rows::{Page, RowCall, try_rows};
 
@@ -23,11 +25,17 @@ fn put_errors(page: &mut Page, text: &[u8], errors: &[Finding]) {
     }
 }
 
+/// Returns all errors of a source.
+fn found_in(alloc: Global, text: &[u8]) -> Result<Vec<Finding>, AllocError> {
+    let reading = read(alloc, text)?;
+    all_errors(alloc, text, &reading)
+}
+
 struct AllErrors;
 
 impl RowCall for AllErrors {
     fn put(&self, page: &mut Page, given: &[u8]) {
-        let made = all_errors(page.alloc(), given);
+        let made = found_in(page.alloc(), given);
         if let Some(errors) = page.given(made) {
             put_errors(page, given, &errors);
         }

@@ -1,7 +1,8 @@
 //! The errors that are found.
 
-use lint_errors::errors_of;
+use lint_errors::{errors_of, read};
 use lint_findings::Finding;
+use std::alloc::{AllocError, Global};
 use std::test::Fail;
 use test_rows::{Page, RowCall, try_rows};
 
@@ -23,11 +24,17 @@ fn put_errors(page: &mut Page, text: &[u8], errors: &[Finding]) {
     }
 }
 
+/// Returns the errors of a source.
+fn found_in(alloc: Global, text: &[u8]) -> Result<Vec<Finding>, AllocError> {
+    let reading = read(alloc, text)?;
+    errors_of(alloc, text, &reading)
+}
+
 struct Errors;
 
 impl RowCall for Errors {
     fn put(&self, page: &mut Page, given: &[u8]) {
-        let made = errors_of(page.alloc(), given);
+        let made = found_in(page.alloc(), given);
         if let Some(errors) = page.given(made) {
             put_errors(page, given, &errors);
         }

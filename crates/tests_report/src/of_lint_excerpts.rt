@@ -1,8 +1,9 @@
 //! How the errors of a source are shown.
 
-use lint_errors::errors_of;
+use lint_errors::{errors_of, read};
 use lint_excerpts::{excerpt_of, json_of};
 use lint_findings::Finding;
+use std::alloc::{AllocError, Global};
 use std::test::Fail;
 use test_rows::{Page, RowCall, try_rows};
 
@@ -47,11 +48,17 @@ fn put_objects(page: &mut Page, text: &[u8], errors: &[Finding]) {
     }
 }
 
+/// Returns the errors of a source.
+fn found_in(alloc: Global, text: &[u8]) -> Result<Vec<Finding>, AllocError> {
+    let reading = read(alloc, text)?;
+    errors_of(alloc, text, &reading)
+}
+
 struct Excerpts;
 
 impl RowCall for Excerpts {
     fn put(&self, page: &mut Page, given: &[u8]) {
-        let made = errors_of(page.alloc(), given);
+        let made = found_in(page.alloc(), given);
         if let Some(errors) = page.given(made) {
             put_excerpts(page, given, &errors);
         }
@@ -62,7 +69,7 @@ struct Objects;
 
 impl RowCall for Objects {
     fn put(&self, page: &mut Page, given: &[u8]) {
-        let made = errors_of(page.alloc(), given);
+        let made = found_in(page.alloc(), given);
         if let Some(errors) = page.given(made) {
             put_objects(page, given, &errors);
         }

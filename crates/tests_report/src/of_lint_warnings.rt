@@ -1,8 +1,6 @@
 //! Warnings about what a shell or Autoconf reads otherwise.
 
-use ac_calls::calls_of;
-use ac_tree::Source;
-use acparse::parse;
+use lint_errors::read;
 use lint_findings::Finding;
 use lint_templates::warn_of_outputs;
 use lint_warnings::{warn_of_calls, warn_of_source};
@@ -27,19 +25,15 @@ fn put_warnings(page: &mut Page, text: &[u8], warnings: &[Finding]) {
     }
 }
 
-/// Returns the source that a text is, if it is read.
-fn source_of(alloc: Global, text: &[u8]) -> Option<Source> {
-    parse(alloc, text).ok()
-}
-
 /// Returns the warnings about a source.
 fn warnings_of(alloc: Global, text: &[u8]) -> Result<Vec<Finding>, AllocError> {
-    let calls = calls_of(alloc, text)?;
+    let reading = read(alloc, text)?;
+    let calls = reading.calls.as_slice();
     let mut found = Vec::new(alloc);
-    warn_of_calls(alloc, text, calls.as_slice(), &mut found)?;
-    if let Some(source) = source_of(alloc, text) {
-        warn_of_source(alloc, text, calls.as_slice(), &source, &mut found)?;
-        warn_of_outputs(alloc, text, &source, &mut found)?;
+    warn_of_calls(alloc, &reading.index, text, calls, &mut found)?;
+    if let Ok(source) = &reading.source {
+        warn_of_source(alloc, text, calls, source, &mut found)?;
+        warn_of_outputs(alloc, text, source, &mut found)?;
     }
     Ok(found)
 }
@@ -59,6 +53,10 @@ const ROWS: &[u8] = br##"
 AC_INIT([a], [1])^JAC_OUTPUT =>
 // names of macros in texts: of the table those with a `_` alone
 AC_INIT([a], [1])^JAC_ARG_VAR([B], [for GCC, not gl_INIT])^JAC_OUTPUT =>  macro-in-text [gl_INIT]
+// what a variable gets if no program is found is text, too
+AC_INIT([a], [1])^JAC_PATH_PROG([B], [b], [AC_PACKAGE_NAME])^JAC_OUTPUT =>  macro-in-text [AC_PACKAGE_NAME]
+// blanks at the ends of the name of a variable
+AC_INIT([a], [1])^JAC_CHECK_PROG([ B ], [b], [yes])^JAC_OUTPUT =>  blank-in-name [[ B ]]
 AC_INIT([a], [1])^JAC_ARG_VAR([B], [for GCC, not config.status])^JAC_OUTPUT =>
 // variables that a configure script sets: each once, and none that is set, declared or only named
 // in a comment

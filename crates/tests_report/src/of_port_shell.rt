@@ -93,6 +93,10 @@ if :; then^J  dnl a ]^J  x=1^Jfi => the same
 if :; then^J  dnl it's^J  x=1^Jfi => AS_IF([:], [^J  dnl it's^J  x=1^J])
 if :; then x=1 # one; fi^Jfi => AS_IF([:], [x=1 # one; fi^J])
 if :; then x=1 dnl one; fi^Jfi => AS_IF([:], [x=1 dnl one; fi^J])
+if :; then x=1 [#] dnl one^J  x=2; fi => the same
+if :; then^J  x=1 [#] dnl one^J  dnl two^Jfi => the same
+if :; then x=1 dnl one^J  x=2; fi => AS_IF([:], [x=1 dnl one^J  x=2])
+if :; then^J  # one^J  x=2; fi => AS_IF([:], [^J  # one^J  x=2])
 if test a = b # one^Jthen x=1; fi => the same
 if test a = b; dnl one^Jthen x=1; fi => the same
 if test a = #b^Jthen x=1; fi => the same

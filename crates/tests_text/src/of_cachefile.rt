@@ -1,7 +1,7 @@
 //! cachefile: what cache texts set, their errors, and how they are written.
 
 use crate::of_deftable::Tables;
-use cachefile::{OldCache, cache_text, is_cache_name, read_cache, word_text};
+use cachefile::{OldCache, cache_text, is_cache_name, is_mark, read_cache, word_text};
 use deftable::Vars;
 use std::alloc::AllocError;
 use std::test::Fail;
@@ -10,7 +10,7 @@ use test_rows::{Page, RowCall, cut, put_fronts, try_tables};
 
 /// `read` and a text: the variables after it is poured where none is set, or its error. `over`,
 /// steps as in `tables` and a text with a comma between them: the same where the steps are taken
-/// first.
+/// first. `marks` as `over`: the variables after its marks alone are poured.
 const READ: &[u8] = b"
 read  =>
 read ^J^J =>
@@ -29,6 +29,8 @@ over v_cv_a=0;CC=cc,v_cv_a=1^Jtest ${v_cv_a+y} || v_cv_a=2 => v_cv_a[1];CC[cc];
 // What configure saves of the environment.
 read ac_cv_env_CC_set=set^Jac_cv_env_CC_value='gcc  -O'^J => ac_cv_env_CC_set[set];ac_cv_env_CC_value[gcc  -O];
 over ac_cv_env_CC_value=cc,ac_cv_env_CC_set=^Jac_cv_env_CC_value='gcc  -O' => ac_cv_env_CC_value[gcc  -O];ac_cv_env_CC_set[];
+marks v_cv_a=0;ac_cv_env_CC_set=,v_cv_a=1^Jac_cv_env_CC_set=set^Jac_cv_env_CC_value=${ac_cv_env_CC_value=gcc} => v_cv_a[0];ac_cv_env_CC_set[set];ac_cv_env_CC_value[gcc];
+marks ac_cv_env_CC_set=,ac_cv_env_CC_set=${ac_cv_env_CC_set=set}^Jv_cv_ac_cv_env_=1^J => ac_cv_env_CC_set[];
 
 // Words.
 read v_cv_a='a b'\"c ' d\"\\ \\'e\\\\ => v_cv_a[a bc ' d 'e\\];
@@ -97,7 +99,7 @@ read test \"${ac_cv_a+set}\" = set || ac_cv_a='{}'^Jtest \"${ac_cv_b+set}\" = se
 
 /// `write` and steps: the cache text of what they leave. `back` and steps: the variables after that
 /// text is poured where none is set. `word` and a value: its word. `name` and a text: whether it is
-/// a cache name.
+/// a cache name, and then whether it is that of a mark.
 const WRITTEN: &[u8] = b"
 write CC=cc => # config.cache of configure^J
 write v_cv_a=a b;v_cv_c=x^Jy => # config.cache of configure^Jv_cv_a=${v_cv_a='a b'}^J
@@ -128,6 +130,7 @@ word a^Jb => 'a^Jb'
 name a_cv_ => yes
 name _cv_ => yes
 name ac_cv_func_f => yes
+name ac_cv_env_CC_set => yes mark
 name v__cv_9 => yes
 name _cv => no
 name a_CV_b => no
@@ -187,6 +190,28 @@ fn put_poured(page: &mut Page, cache: &OldCache, before: &Vars, after: &mut Vars
     }
     if cache.would(before, b"v_cv_unset").is_some() {
         page.put(b"set out of nothing");
+    }
+}
+
+/// Puts the variables that pouring marks left.
+fn put_marks(page: &mut Page, steps: &[u8], text: &[u8]) {
+    let mut after = vars_of(page, steps);
+    if let Some(cache) = read(page, text) {
+        page.given(cache.pour_marks(&mut after.vars));
+        for i in 0..after.vars.len() {
+            let (name, value) = after.vars.at(i);
+            page.put(name);
+            page.put_text(value);
+            page.put(b";");
+        }
+    }
+}
+
+/// Puts whether a name is one of a cached value, and whether it is that of a mark.
+fn put_name(page: &mut Page, name: &[u8]) {
+    page.put_yes(is_cache_name(name));
+    if is_mark(name) {
+        page.put(b" mark");
     }
 }
 
@@ -260,10 +285,11 @@ impl RowCall for Caches {
         match call {
             [b'r', ..] => put_read(page, b"", text),
             [b'o', ..] => put_read(page, steps, after),
+            [b'm', ..] => put_marks(page, steps, after),
             [b'b', ..] => put_back(page, text),
             [b'f', ..] => put_fronts(page, &Outcome, FOUND),
             [b'n', b'e', ..] => put_largest(page),
-            [b'n', ..] => page.put_yes(is_cache_name(text)),
+            [b'n', ..] => put_name(page, text),
             [b'w', b'o', ..] => put_word(page, text),
             _ => put_written(page, text),
         }

@@ -146,6 +146,7 @@ fn record_with(
 ) -> Result<Record, AllocError> {
     let files = outputs_of(alloc, outputs, b"file")?;
     let headers = outputs_of(alloc, outputs, b"header")?;
+    let defs = defs.copy(alloc)?;
     record_of(alloc, vars, defs, names, b"../s", args, &files, &headers)
 }
 

@@ -1,6 +1,6 @@
-use Rattle.std.proofs.Common.{length, map, arith, ap, ◌++◌}
+use Rattle.std.proofs.Common.{length, map, arith}
 use Rattle.ac_calls.specs.Calls.{macro_call_of, in_argument}
-use Rattle.ac_calls.specs.Holding.{holds_statements}
+use Rattle.ac_macros.specs.Arguments.{holds_statements}
 use Rattle.ac_calls.proofs.Turns.{args_turn, placed_at}
 use Rattle.ac_calls.proofs.finding.+calls.Goals as goal
 

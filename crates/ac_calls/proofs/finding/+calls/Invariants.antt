@@ -1,7 +1,7 @@
 use Rattle.std.proofs.Common.{◌≡◌, ◌++◌, map, length, take, drop, ◌+◌, ◌*◌}
-use Rattle.m4quote.specs.ItemValue.{span, view, views}
+use Rattle.m4quote.specs.ItemValue.{span, views}
 use Rattle.ac_calls.specs.Calls.{macro_call_of, in_argument, in_args, in_items}
-use Rattle.ac_calls.specs.Holding.{holds_statements}
+use Rattle.ac_macros.specs.Arguments.{holds_statements}
 use Rattle.ac_calls.proofs.finding.+calls.Given as goal
 
 abbrev pub decreases-find_in_argument : goal.decreases-find_in_argument

@@ -7,4 +7,4 @@ use Rattle.lint_errors.proofs.errors.errors_of.Goals as goal
 pub returns-clause-no_error : goal.returns-clause-no_error
 returns-clause-no_error c =
     let text = c.args.text.now in
-    along (λ v. AreErrors text (source_of text) v.items) (λ v. (v.items ≡ []) ↔ IsAccepted text) (λ v errors. none_if_accepted text v.items errors) c.find_errors.result c.find_errors.ensures.exact
+    along (λ v. AreErrors text (source_of text) v.items) (λ v. (v.items ≡ []) ↔ IsAccepted text) (λ v errors. none_if_accepted text v.items errors) c.errors_with.result c.errors_with.ensures.exact

@@ -1,4 +1,4 @@
-use Rattle.form_rows.specs.Forms.{attempt_of_try}
+use Rattle.meaning.specs.Forms.{attempt_of_try}
 use Rattle.run_forms.proofs.Places.{made_there}
 use Rattle.run_forms.proofs.attempts.attempt_at.Goals as goal
 

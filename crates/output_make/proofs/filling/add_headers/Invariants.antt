@@ -1,7 +1,0 @@
-use Rattle.std.proofs.Common.{◌≡◌, ◌++◌, map, take}
-use Rattle.output_make.specs.Choice.{chosen}
-use Rattle.output_make.specs.Making.{made_header}
-use Rattle.output_make.proofs.filling.add_headers.Given as goal
-
-abbrev pub invariant-outputs : goal.invariant-outputs
-invariant-outputs l = l.artifacts ≡ l.fn.artifacts ++ map (made_header l.recorded l.templates) (chosen l.tags (take l.header-index l.headers))

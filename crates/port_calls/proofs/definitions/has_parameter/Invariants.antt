@@ -1,6 +1,0 @@
-use Rattle.std.proofs.Common.{ℕ, ◌<◌}
-use Rattle.port_calls.specs.Defined.{IsParameterAt}
-use Rattle.port_calls.proofs.definitions.has_parameter.Given as goal
-
-abbrev pub invariant-loop-at : goal.invariant-loop-at
-invariant-loop-at l = (k : ℕ) → k < l.at → IsParameterAt l.text k → ⊥

@@ -1,6 +1,0 @@
-use Rattle.std.proofs.Common.{ℕ, ◌<◌, ◌≤◌}
-use Rattle.port_calls.specs.Defined.{IsWordAt}
-use Rattle.port_calls.proofs.definitions.is_used.Given as goal
-
-abbrev pub invariant-loop-at : goal.invariant-loop-at
-invariant-loop-at l = (k : ℕ) → l.start ≤ k → k < l.at → IsWordAt l.text k l.name → ⊥

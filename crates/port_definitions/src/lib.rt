@@ -1,0 +1,25 @@
+//! Macros without parameters that a configure.ac defines itself: which of them can be written out, and
+//! where their names are.
+//!
+//! A name that can be written out is called on a line of its own, and at no other place. Its body
+//! calls no macro that requires others, and m4 reads it to its end, whatever is after it.
+//!
+//! ```text
+//! AC_DEFUN([MY_CHECK], [AC_MSG_NOTICE([checked])])
+//! MY_CHECK                     // becomes AC_MSG_NOTICE([checked])
+//! ```
+//!
+//! Read `specs/Defined`, and then `definition` (what a call defines, and where its name is). `lines`,
+//! `reading` and `finding` say which definitions are written out, without clauses: whoever writes one
+//! out asks `definition` again. The time is in proportion to the length of the text, for each of at
+//! most 50 definitions. A call fails only if memory runs out. "own" marks a rule that no manual gives.
+#![tactic(auto)]
+
+mod definition;
+mod finding;
+mod lines;
+mod reading;
+
+pub use definition::{argument, body_of, inner, is_letter, is_name_at, is_of_name, is_used};
+pub use finding::{UseSpot, Written, written_in};
+pub use lines::{is_dropped, last_line, space_len};
