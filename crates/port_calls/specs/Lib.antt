@@ -1,3 +1,5 @@
+pub mod Chains
+pub mod Compiler
 pub mod Making
 pub mod Put
 pub mod Rewritten

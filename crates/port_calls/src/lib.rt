@@ -33,7 +33,9 @@
 mod around;
 mod bare;
 mod brackets;
+mod chains;
 mod changes;
+mod compiler;
 mod definitions;
 mod gnu;
 mod joints;
@@ -47,6 +49,7 @@ mod output;
 mod package;
 mod passes;
 mod passing;
+mod plain;
 mod readers;
 mod rows;
 mod seeking;
