@@ -18,7 +18,7 @@ of LATER_NAMES; with --idioms also `==`, `-eq`, `-ne`, `exit` and `echo` without
 `-a` and `-o` join; with --idioms also `+=`, `echo` with `exit`, and such an operator in double quotes, as far as docs/commands.md names them.
 From number 3000000 on it may also have blanks after the arguments of macros that have an exact idiom, more texts of NEWEST_ARGUMENTS, and
 the macros of NEWEST_NAMES. From number 4000000 on it also defines macros without parameters, and calls them. From number 5000000 on it also
-has AC_PATH_PROGS, and defines plain words.
+has AC_PATH_PROGS, checks with `break`, and AC_CACHE_VAL between its messages, and defines plain words.
 A difference is allowed if a line `~ ` of macros.txt states it for a macro of the source, or one of the sentences below of docs/differences.md.
 
 With --idioms a source has also calls of the macros that have a line `& `, if Autoconf itself has them, and port is given that switch. If
@@ -998,6 +998,13 @@ class Maker:
         for _ in range(self.at.randint(0, 2)):
             name, tools = self.one(["FZ_TOOL", "FZ_PROG"]), self.at.sample(TOOLS, self.at.randint(1, 4))
             listed = self.one([" ".join(tools), f"[{' '.join(tools)}]", "[" + "\n  ".join(tools) + "]"])
+            if self.has(0.3):
+                macro, two = self.one([("AC_CHECK_HEADERS", ["zlib.h", "sys/time.h", "no/such.h"]), ("AC_CHECK_FUNCS", ["getcwd", "strtok", "no_such"])])
+                blocks.insert(self.at.randint(0, len(blocks)), f"{macro}([{' '.join(self.at.sample(two, 2))}], [break])")
+            if self.has(0.3):
+                kept = self.fresh("fz_cv_k")
+                what = self.one([f"[{kept}=yes]", f"\nAC_TRY_COMPILE([#include <time.h>], [struct tm t;], {kept}=yes, {kept}=no)", f"[test -n \"$v1\" && {kept}=\"a b\" || {kept}=no]"])
+                blocks.insert(self.at.randint(0, len(blocks)), f"AC_MSG_CHECKING({self.one(['for it', '[for it, too]'])})\nAC_CACHE_VAL({kept},{what})\nAC_MSG_RESULT([${kept}])")
             value = self.one(["", "", ", [:]", ", no", ",", ", [/opt/none]", ", [$v1]"])
             call = f"AC_PATH_PROGS({self.one([name, f'[{name}]'])},{self.one(['', ' '])}{listed}{value})"
             blocks.insert(self.at.randint(0, len(blocks)), self.one([call, call, f"  {call} # a note", f"if test -n \"$v1\"; then\n  {call}\nfi", f"AS_IF([:], [{call}])"]))

@@ -9,7 +9,7 @@ use Rattle.ac_calls.specs.declared.call.Extent.{Extent}
 use Rattle.ac_calls.specs.Calls.{MacroCall, calls_in, macro_call_of}
 use Rattle.port_calls.specs.Rewritten.{IsPass, IsRewritten, HasToGo, IsAround, DeclaresOption, IsOldHelp, JoinsWords, EndsItsLine, AreSpaces, IsBare, IsBareAlone, in_brackets, DoesArgument, NamesVariable, SetsGnu, SetsUp, AreMessages, messages_first}
 use Rattle.port_calls.specs.Rewritten as specs
-use Rattle.port_calls.specs.Chains.{IsChain}
+use Rattle.port_calls.specs.Exchanged.{IsExchanged}
 use Rattle.port_calls.specs.Making.{IsMade}
 use Rattle.port_definitions.specs.Defined.{Defines, DefinesWord, IsNameAt, IsPlainUse, IsUnused}
 use Rattle.port_idioms.specs.Filled.{text_of}
@@ -33,7 +33,7 @@ pass_bound idioms text at out (specs.IsPass.named c before is names to) = to
 pass_bound idioms text at out (specs.IsPass.checked c put before is all compiler sets to) = to
 pass_bound idioms text at out (specs.IsPass.turned c start end before is all output around messages) = omega arith
 pass_bound idioms text at out (specs.IsPass.made c put before is all made to) = to
-pass_bound idioms text at out (specs.IsPass.chained c put before is chain to) = to
+pass_bound idioms text at out (specs.IsPass.exchanged end put before is to) = to
 pass_bound idioms text at out (specs.IsPass.written d name body before defined defines after here to) = to
 pass_bound idioms text at out (specs.IsPass.forgotten d name body before defined defines unused to) = to
 pass_bound idioms text at out (specs.IsPass.substituted start end name word before defines after here to) = to
@@ -103,12 +103,12 @@ made_step idioms text at out c put new_at new before is all made from order to (
     let copied = specs.IsPass.copied c.start before from (omega (arith, order, to)) in
     subst (λ a. IsPass idioms text a new) (sym at_is) (subst (IsPass idioms text c.end) (sym new_is) (specs.IsPass.made c put copied is all made to))
 
-pub chain_step : (idioms : Idioms) (text : List ℕ) (at : ℕ) (out : List ℕ) (c : MacroCall) (put : List ℕ) (new_at : ℕ) (new : List ℕ)
-    → IsPass idioms text at out → Contains (calls_in text) c → IsChain text c put → at ≤ c.start → c.start ≤ c.end → c.end ≤ length text
-    → (new_at ≡ c.end) × (new ≡ (out ++ slice_range text at c.start) ++ put) → IsPass idioms text new_at new
-chain_step idioms text at out c put new_at new before is chain from order to (at_is, new_is) =
-    let copied = specs.IsPass.copied c.start before from (omega (arith, order, to)) in
-    subst (λ a. IsPass idioms text a new) (sym at_is) (subst (IsPass idioms text c.end) (sym new_is) (specs.IsPass.chained c put copied is chain to))
+pub exchange_step : (idioms : Idioms) (text : List ℕ) (at : ℕ) (out : List ℕ) (start end : ℕ) (put : List ℕ) (new_at : ℕ) (new : List ℕ)
+    → IsPass idioms text at out → IsExchanged text start end put → at ≤ start → start ≤ end → end ≤ length text
+    → (new_at ≡ end) × (new ≡ (out ++ slice_range text at start) ++ put) → IsPass idioms text new_at new
+exchange_step idioms text at out start end put new_at new before is from order to (at_is, new_is) =
+    let copied = specs.IsPass.copied start before from (omega (arith, order, to)) in
+    subst (λ a. IsPass idioms text a new) (sym at_is) (subst (IsPass idioms text end) (sym new_is) (specs.IsPass.exchanged end put copied is to))
 
 pub write_step : (idioms : Idioms) (text : List ℕ) (read : ℕ) (out : List ℕ) (d : MacroCall) (name body : List ℕ) (at new_at : ℕ) (new : List ℕ)
     → IsPass idioms text read out → Contains (calls_in text) d → Defines text d name body → d.end ≤ at → IsNameAt text at name → read ≤ at → at + length name ≤ length text

@@ -85,6 +85,10 @@ is_space b = b == 32 || b == 9 || b == 13
 abbrev pub is_c_name : List ℕ → Bool
 is_c_name word = nat_le 1 (length word) && is_letter (slice_index word 0) && list_all is_of_name word
 
+-- A space, a tab, a carriage return or a newline. (own)
+abbrev pub is_blank : ℕ → Bool
+is_blank b = b == 32 || b == 9 || b == 13 || b == 10
+
 -- Nothing, or the command `:`, which does nothing. (own)
 abbrev pub DoesNothing : List ℕ → Type 0
 DoesNothing put = (put ≡ []) ⊎ (put ≡ codes ":")

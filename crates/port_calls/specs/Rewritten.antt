@@ -12,15 +12,11 @@ use Rattle.lint_macros.specs.declared.text.TheConstants.{TABLE}
 use Rattle.port_idioms.specs.Rows.{put_by, Differs}
 use Rattle.port_idioms.specs.declared.idioms.Idioms.TheVariants.{Exact, All}
 use Rattle.port_definitions.specs.Defined.{Defines, DefinesWord, IsNameAt, IsPlainUse, IsUnused, is_letter, is_of_name}
-use Rattle.port_calls.specs.Chains.{IsChain}
 use Rattle.port_calls.specs.Compiler.{IsBelowCompiler}
+use Rattle.port_calls.specs.Exchanged.{IsExchanged}
 use Rattle.port_calls.specs.Making.{IsMade, LacksVersion}
-use Rattle.port_calls.specs.Put.{MayPut, arg_text, is_c_name, is_space, difference, below}
+use Rattle.port_calls.specs.Put.{MayPut, arg_text, is_blank, is_c_name, is_space, difference, below}
 use Rattle.port_idioms.specs.declared.idioms.Idioms.{Idioms}
-
--- A space, a tab, a carriage return or a newline.
-abbrev pub is_blank : ℕ → Bool
-is_blank b = b == 32 || b == 9 || b == 13 || b == 10
 
 -- The argument is more than blanks and a pair of brackets.
 abbrev pub IsGiven : List ℕ → Extent → Type 0
@@ -254,8 +250,8 @@ messages_first messages call = ((((before_output ++ 10 ∷ []) ++ messages) ++ 1
 -- to go, with blanks around it, may be replaced by what may be put in its place; in a call that declares an option the old name of
 -- AS_HELP_STRING may become the name; a backslash that joins two lines of a list of words may go; after a call that ends its line a newline
 -- and an indent may be put in place of the spaces; an argument of a macro that acrun reads, which has no brackets outside the calls in it,
--- may get a pair; so may an argument of another macro that does what it says, and the name of a variable that is spelled as a macro; in the place of AC_PATH_PROGS may be put the calls of AC_PATH_PROG
--- that it is made of; in the place of the name
+-- may get a pair; so may an argument of another macro that does what it says, and the name of a variable that is spelled as a macro; in the place of calls may be put others
+-- that do the same; in the place of the name
 -- of a macro without parameters that the source defines before, by AC_DEFUN or as a plain word, may be put its body, and the definition of one whose name
 -- is nowhere after it may go; and if all idioms are wanted, the lines that set GCC and CFLAGS and look for the default headers may be put
 -- after AC_PROG_CC, messages after AC_OUTPUT may be put before it, if nothing else is there, and in the place of AC_INIT and of AC_EGREP_CPP may be put what
@@ -282,8 +278,8 @@ pub data IsPass (idioms : Idioms) (text : List ℕ) : ℕ → List ℕ → Type 
       → IsPass idioms text (length text) (out ++ messages_first (slice_range text start end) (slice_range text c.start c.end))
   made : {out : List ℕ} (c : MacroCall) (put : List ℕ) → IsPass idioms text c.start out → Contains (calls_in text) c → idioms ≡ All → IsMade text c put → c.end ≤ length text
       → IsPass idioms text c.end (out ++ put)
-  chained : {out : List ℕ} (c : MacroCall) (put : List ℕ) → IsPass idioms text c.start out → Contains (calls_in text) c → IsChain text c put → c.end ≤ length text
-      → IsPass idioms text c.end (out ++ put)
+  exchanged : {start : ℕ} {out : List ℕ} (end : ℕ) (put : List ℕ) → IsPass idioms text start out → IsExchanged text start end put → end ≤ length text
+      → IsPass idioms text end (out ++ put)
   written : {at : ℕ} {out : List ℕ} (d : MacroCall) (name body : List ℕ) → IsPass idioms text at out → Contains (calls_in text) d → Defines text d name body → d.end ≤ at → IsNameAt text at name
       → at + length name ≤ length text → IsPass idioms text (at + length name) (out ++ body)
   forgotten : {out : List ℕ} (d : MacroCall) (name body : List ℕ) → IsPass idioms text d.start out → Contains (calls_in text) d → Defines text d name body → IsUnused text d.end name

@@ -11,10 +11,11 @@ ghost use Rattle.port_calls.specs.Rewritten as rewritten;
 
 use crate::around::line_indent;
 use crate::changes::Known;
+use crate::exchanging::put_exchange;
 use crate::making::{argument, can_be_made};
 use crate::spots::Spot;
 use crate::types::is_c_name;
-use crate::writing::{Pass, write_change};
+use crate::writing::Pass;
 use ac_calls::{CallAt, Extent};
 use lint_text::part;
 use port_idioms::{Idioms, text_of};
@@ -321,7 +322,7 @@ fn chain_of(
     chain_in(alloc, text, indent, call, variable, programs)
 }
 
-/// Writes lines in the place of a call, unless that is not after what was read.
+/// Writes lines in the place of a call.
 fn put_chain(
     idioms: Idioms,
     text: &[u8],
@@ -334,11 +335,7 @@ fn put_chain(
     requires begun { rewritten.IsPass idioms text.now pass.old.at pass.old.out.items }
     ensures { OnOk result (rewritten.IsPass idioms text.now pass.new.at pass.new.out.items) }
 {
-    let _ = idioms;
-    if call.start < pass.at || call.end < call.start || text.len() < call.end {
-        return Ok(());
-    }
-    write_change(text, call.start, call.end, put, pass)
+    put_exchange(idioms, text, call.start, call.end, put, pass)
 }
 
 /// Writes AC_PATH_PROGS without a path as the calls of AC_PATH_PROG that it is made of.

@@ -33,10 +33,12 @@
 mod around;
 mod bare;
 mod brackets;
+mod cached;
 mod chains;
 mod changes;
 mod compiler;
 mod definitions;
+mod exchanging;
 mod gnu;
 mod joints;
 mod keeping;

@@ -7,9 +7,11 @@ ghost use Rattle.port_calls.specs.Rewritten as specs;
 
 use crate::around::{are_blank, blank_len};
 use crate::brackets::pass_arguments;
+use crate::cached::pass_cached;
 use crate::chains::pass_chain;
 use crate::changes::{Change, Known, change_of, known_of};
 use crate::definitions::{pass_defined, pass_spots};
+use crate::exchanging::pass_first_found;
 use crate::gnu::pass_compiler;
 use crate::joints::{first_argument, pass_words};
 use crate::lines::pass_line;
@@ -309,6 +311,8 @@ fn pass_call(
     pass_title(alloc, idioms, known, text, calls, spot, call, pass)?;
     pass_search(alloc, idioms, known, text, spot, call, pass)?;
     pass_chain(alloc, idioms, known, text, spot, call, pass)?;
+    pass_first_found(alloc, idioms, known, text, spot, call, pass)?;
+    pass_cached(alloc, idioms, known, text, calls, first, spot, call, pass)?;
     pass_whole(alloc, idioms, known, text, spot, call, pass)?;
     pass_compiler(alloc, idioms, known, text, spot, call, pass)?;
     pass_output(alloc, idioms, text, calls, first, spot, call, pass)?;

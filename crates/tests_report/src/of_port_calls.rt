@@ -174,6 +174,31 @@ fn programs(rt: HostRuntime) -> Result<(), Fail> {
     try_rows(rt.alloc(), &Calls, PROGRAMS)
 }
 
+/// A text with calls that are exchanged for others, and what becomes of it.
+const EXCHANGED: &[u8] = br##"
+AC_CHECK_HEADERS(a.h b/c.h, [break]) => AC_CHECK_HEADERS([a.h], [], [AC_CHECK_HEADERS([b/c.h])])
+  AC_CHECK_FUNCS([f g], break) # d =>   AC_CHECK_FUNCS([f], [], [AC_CHECK_FUNCS([g])]) # d
+AC_CHECK_HEADERS([a.h b.h c.h], [break]) => the same
+AC_CHECK_HEADERS([a.h], [break]) => the same
+AC_CHECK_HEADERS([a.h b.h], [x=1; break]) => the same
+AC_CHECK_HEADERS([a.h b.h], [break], [x=1]) => the same
+AC_CHECK_HEADERS([a.h $b], [break]) => the same
+AC_CHECK_LIB([a b], [break]) => the same
+// a check with its messages
+AC_MSG_CHECKING(for x)^JAC_CACHE_VAL(x_cv_x, [x_cv_x=1])^JAC_MSG_RESULT($x_cv_x) => AC_CACHE_CHECK(for x, x_cv_x,[x_cv_x=1])
+  AC_MSG_CHECKING([for x])^J  AC_CACHE_VAL([x_cv_x],^J[x_cv_x=1])^J^J  AC_MSG_RESULT([$x_cv_x]) # a =>   AC_CACHE_CHECK([for x], x_cv_x,[x_cv_x=1]) # a
+AC_MSG_CHECKING(for x)^JAC_CACHE_VAL(x_cv_x, [x_cv_x=1])^JAC_MSG_RESULT($y) => the same
+AC_MSG_CHECKING(for x)^JAC_CACHE_VAL(x_cv_x, [x_cv_x=1])^Ja=1^JAC_MSG_RESULT($x_cv_x) => the same
+AC_MSG_CHECKING(for x)^Ja=1^JAC_CACHE_VAL(x_cv_x, [x_cv_x=1])^JAC_MSG_RESULT($x_cv_x) => the same
+AC_MSG_CHECKING(for x, y)^JAC_CACHE_VAL(x_cv_x, [x_cv_x=1])^JAC_MSG_RESULT($x_cv_x) => the same
+AC_MSG_CHECKING(for x)^JAC_CACHE_VAL(x_cv_x, [x_cv_x=1])^JAC_MSG_RESULT([it is $x_cv_x]) => the same
+"##;
+
+#[test]
+fn exchanged(rt: HostRuntime) -> Result<(), Fail> {
+    try_rows(rt.alloc(), &Calls, EXCHANGED)
+}
+
 /// A text with AC_PROG_CC, and what becomes of it if all idioms are wanted.
 const COMPILERS: &[u8] = br##"
 AC_PROG_CC^Ja=1 => AC_PROG_CC^Jdnl acrun: in place of CFLAGS: AC_PROG_CC does not set it here, so an empty value becomes what Autoconf sets for a compiler of GNU^JAS_IF([test -z "$CFLAGS"], [CFLAGS="-g -O2"])^Ja=1

@@ -1,9 +1,7 @@
+use Rattle.std.proofs.Common.{refl}
 use Rattle.ac_calls.specs.Calls.{macro_call_of}
-use Rattle.std.proofs.Common.{arith}
-use Rattle.port_calls.proofs.Steps.{on_ok, chain_step}
+use Rattle.port_calls.specs.Exchanged.{IsExchanged}
 use Rattle.port_calls.proofs.chains.put_chain.Goals as goal
 
-pub returns : goal.returns
-returns c =
-    on_ok (chain_step c.args.idioms c.args.text.now _ _ (macro_call_of c.args.call.now) _ _ _ c.requires.begun c.requires.call c.requires.chain (omega (arith, c.if-call-pass.false)) (omega (arith, c.if-call.false)) (omega (arith, c.if-text-call.false)))
-    c.write_change.result c.write_change.ensures
+pub put_exchange-requires-clause-exchanged : goal.put_exchange-requires-clause-exchanged
+put_exchange-requires-clause-exchanged c = IsExchanged.chained (macro_call_of c.args.call.now) c.requires.call (refl, refl) c.requires.chain
