@@ -17,7 +17,8 @@ have variables whose names are spelled as those of macros, conditions on several
 of LATER_NAMES; with --idioms also `==`, `-eq`, `-ne`, `exit` and `echo` without words. From number 2000000 on it may also have `!` before what
 `-a` and `-o` join; with --idioms also `+=`, `echo` with `exit`, and such an operator in double quotes, as far as docs/commands.md names them.
 From number 3000000 on it may also have blanks after the arguments of macros that have an exact idiom, more texts of NEWEST_ARGUMENTS, and
-the macros of NEWEST_NAMES. From number 4000000 on it also defines macros without parameters, and calls them.
+the macros of NEWEST_NAMES. From number 4000000 on it also defines macros without parameters, and calls them. From number 5000000 on it also
+has AC_PATH_PROGS, checks with `break`, and AC_CACHE_VAL between its messages, and defines plain words.
 A difference is allowed if a line `~ ` of macros.txt states it for a macro of the source, or one of the sentences below of docs/differences.md.
 
 With --idioms a source has also calls of the macros that have a line `& `, if Autoconf itself has them, and port is given that switch. If
@@ -735,6 +736,13 @@ NEWEST = 3_000_000
 NEWEST_NAMES = ("AC_TRY_LINK_FUNC(main)",)
 # From this number on also macros without parameters that the source defines, and that it calls on lines of their own.
 DEFINING = 4_000_000
+# From this number on also AC_PATH_PROGS without a path, and macros that are plain words.
+WRITING = 5_000_000
+WORD_USES = ("v1={0}", "v2=\"a-{0}.b\"", "v1='{0}' v2=1{0}", "AC_SUBST([{1}], [{0}])", "AC_SUBST([{1}], [\"$v1 {0}\"])", "AC_DEFINE([{1}], [{0}], [a text])",
+            "AC_DEFINE_UNQUOTED([{1}], [\"$v1-{0}\"], [a text])", "AC_MSG_NOTICE([it is {0}])", "if test \"$v1\" = {0}; then\n  v2={0}\nfi", "v1={0}x",
+            "AC_MSG_NOTICE([[{0}]])", "v1={0} # a note", "# {0}", "AS_IF([test \"$v1\" = {0}], [v2={0}])", "AC_MSG_CHECKING(for {0})\nAC_MSG_RESULT([{0}, yes])")
+PLAIN_WORDS = ("1.2", "2.0-rc1", "word", "a.b-c", "7")
+TOOLS = ("strip", "nm", "ranlib", "sed", "gawk", "mawk", "no-such_tool", "x.y+z", "grep")
 BODIES_OF_MACROS = (
     "v1=plain", "\nv1=\"$v1 b\"\n", "AC_DEFINE([{D}], [1], [a text])", "\nif test \"$v1\" = yes; then\n  AC_DEFINE([{D}], 1, [a text])\nfi\n",
     "\nAC_MSG_CHECKING(for it with ${{CC}})\nAC_CACHE_VAL(fz_cv_{D},\n[\nAC_TRY_COMPILE([#include <time.h>],[struct tm t;],\nfz_cv_{D}=yes,\n"
@@ -789,6 +797,7 @@ class Maker:
     def __init__(self, number, names=None, switches=()):
         self.at = random.Random(number)
         self.is_later, self.is_newer, self.is_newest, self.is_defining = (number >= it for it in (LATER, NEWER, NEWEST, DEFINING))
+        self.is_writing = number >= WRITING
         self.all_idioms = switches == IDIOMS
         rows = [*(others() * 3 if self.all_idioms else []), *exact()]
         left_out = (*NO_CALLS, *(() if self.is_later else LATER_NAMES), *(() if self.is_newest else NEWEST_NAMES))
@@ -984,6 +993,39 @@ class Maker:
             for _ in range(self.at.choice((0, 1, 1, 2))):
                 blocks.insert(self.at.randint(place + 1, len(blocks)), self.one([name, name, f"  {name}", f"{name} # a note", f"if test -n \"$v1\"; then\n  {name}\nfi"]))
 
+    def with_programs(self, blocks):
+        """Adds calls of AC_PATH_PROGS, most of which are a statement at the top."""
+        for _ in range(self.at.randint(0, 2)):
+            name, tools = self.one(["FZ_TOOL", "FZ_PROG"]), self.at.sample(TOOLS, self.at.randint(1, 4))
+            listed = self.one([" ".join(tools), f"[{' '.join(tools)}]", "[" + "\n  ".join(tools) + "]"])
+            if self.has(0.3):
+                macro, two = self.one([("AC_CHECK_HEADERS", ["zlib.h", "sys/time.h", "no/such.h"]), ("AC_CHECK_FUNCS", ["getcwd", "strtok", "no_such"])])
+                blocks.insert(self.at.randint(0, len(blocks)), f"{macro}([{' '.join(self.at.sample(two, 2))}], [break])")
+            if self.has(0.3):
+                kept = self.fresh("fz_cv_k")
+                what = self.one([f"[{kept}=yes]", f"\nAC_TRY_COMPILE([#include <time.h>], [struct tm t;], {kept}=yes, {kept}=no)", f"[test -n \"$v1\" && {kept}=\"a b\" || {kept}=no]"])
+                blocks.insert(self.at.randint(0, len(blocks)), f"AC_MSG_CHECKING({self.one(['for it', '[for it, too]'])})\nAC_CACHE_VAL({kept},{what})\nAC_MSG_RESULT([${kept}])")
+            value = self.one(["", "", ", [:]", ", no", ",", ", [/opt/none]", ", [$v1]"])
+            call = f"AC_PATH_PROGS({self.one([name, f'[{name}]'])},{self.one(['', ' '])}{listed}{value})"
+            blocks.insert(self.at.randint(0, len(blocks)), self.one([call, call, f"  {call} # a note", f"if test -n \"$v1\"; then\n  {call}\nfi", f"AS_IF([:], [{call}])"]))
+
+    def with_words(self, first, blocks):
+        """Adds macros that are plain words, and uses of their names after them."""
+        for _ in range(self.at.randint(0, 2)):
+            name, word = self.fresh(self.one(["fz_word", "FzWord", "FZ_VERSION"])), self.one(PLAIN_WORDS)
+            macro, title, what = self.one(["define", "m4_define"]), self.one([name, f"[{name}]"]), self.one([word, f"[{word}]"])
+            defined = f"{macro}({title},{self.one([' ', '', chr(10)])}{what}){self.one(['', '', 'dnl', ' # a note'])}"
+            place = self.at.randint(0, len(blocks))
+            if self.has(0.3):
+                first.insert(0, defined)
+                place = -1
+                if self.has(0.5):
+                    first[:] = [f"AC_INIT([fuzz], [{name}])" if it.startswith("AC_INIT") else it for it in first]
+            else:
+                blocks.insert(place, defined)
+            for _ in range(self.at.choice((0, 1, 1, 2, 3))):
+                blocks.insert(self.at.randint(place + 1, len(blocks)), self.one(WORD_USES).format(name, self.fresh("D")))
+
     def assignment(self):
         return f"{self.one(['v1', 'v2', 'level'])}={self.one(SET)}"
 
@@ -1084,6 +1126,9 @@ class Maker:
         last = self.one(LAST)
         if self.is_defining:
             self.with_macros(blocks)
+        if self.is_writing:
+            self.with_programs(blocks)
+            self.with_words(first, blocks)
         if self.all_idioms:
             # The stand-in for a compiler looks at no file, so such a test has an operator that stays.
             blocks = [it.replace("test -f configure", "test -L configure") for it in blocks]
@@ -1118,6 +1163,7 @@ class Maker:
                     arguments.append(f"{name}={value}")
                 else:
                     environment.append((name, value))
+            environment += [("FZ_PROG", self.one(["/opt/none", "sed", ""]))] if self.is_writing and self.has(0.3) else []
             programs = self.one(["plain", "plain", "cross", "half", "none"]) if not is_host else self.one(["cross", "cross", "half", "plain"])
             found.append(Setting(tuple(arguments), tuple(environment), programs, is_host and self.has(0.6), self.at.randrange(1000)))
         return found

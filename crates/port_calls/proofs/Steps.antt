@@ -7,10 +7,11 @@ use Rattle.std.proofs.lemmas.List.Elements.{Contains-get_or}
 use Rattle.ac_calls.specs.declared.call.CallAt.{CallAt}
 use Rattle.ac_calls.specs.declared.call.Extent.{Extent}
 use Rattle.ac_calls.specs.Calls.{MacroCall, calls_in, macro_call_of}
-use Rattle.port_calls.specs.Rewritten.{IsPass, IsRewritten, HasToGo, IsAround, DeclaresOption, IsOldHelp, JoinsWords, EndsItsLine, AreSpaces, IsBare, IsBareAlone, in_brackets, DoesArgument, NamesVariable, SetsGnu, AreMessages, messages_first}
+use Rattle.port_calls.specs.Rewritten.{IsPass, IsRewritten, HasToGo, IsAround, DeclaresOption, IsOldHelp, JoinsWords, EndsItsLine, AreSpaces, IsBare, IsBareAlone, in_brackets, DoesArgument, NamesVariable, SetsGnu, SetsUp, AreMessages, messages_first}
 use Rattle.port_calls.specs.Rewritten as specs
+use Rattle.port_calls.specs.Exchanged.{IsExchanged}
 use Rattle.port_calls.specs.Making.{IsMade}
-use Rattle.port_definitions.specs.Defined.{Defines, IsNameAt, IsUnused}
+use Rattle.port_definitions.specs.Defined.{Defines, DefinesWord, IsNameAt, IsPlainUse, IsUnused}
 use Rattle.port_idioms.specs.Filled.{text_of}
 use Rattle.port_calls.specs.Put.{MayPut, arg_text, is_space, difference, below}
 use Rattle.lint_macros.specs.Entries.{entry_of}
@@ -32,8 +33,11 @@ pass_bound idioms text at out (specs.IsPass.named c before is names to) = to
 pass_bound idioms text at out (specs.IsPass.checked c put before is all compiler sets to) = to
 pass_bound idioms text at out (specs.IsPass.turned c start end before is all output around messages) = omega arith
 pass_bound idioms text at out (specs.IsPass.made c put before is all made to) = to
+pass_bound idioms text at out (specs.IsPass.exchanged end put before is to) = to
 pass_bound idioms text at out (specs.IsPass.written d name body before defined defines after here to) = to
 pass_bound idioms text at out (specs.IsPass.forgotten d name body before defined defines unused to) = to
+pass_bound idioms text at out (specs.IsPass.substituted start end name word before defines after here to) = to
+pass_bound idioms text at out (specs.IsPass.undefined end name word before defines unused to) = to
 
 -- What follows from what an `Ok` says holds of the `Ok`.
 pub on_ok : {T E P Q : Type 0} → (P → Q) → (r : Result T E) → OnOk r P → OnOk r Q
@@ -99,6 +103,13 @@ made_step idioms text at out c put new_at new before is all made from order to (
     let copied = specs.IsPass.copied c.start before from (omega (arith, order, to)) in
     subst (λ a. IsPass idioms text a new) (sym at_is) (subst (IsPass idioms text c.end) (sym new_is) (specs.IsPass.made c put copied is all made to))
 
+pub exchange_step : (idioms : Idioms) (text : List ℕ) (at : ℕ) (out : List ℕ) (start end : ℕ) (put : List ℕ) (new_at : ℕ) (new : List ℕ)
+    → IsPass idioms text at out → IsExchanged text start end put → at ≤ start → start ≤ end → end ≤ length text
+    → (new_at ≡ end) × (new ≡ (out ++ slice_range text at start) ++ put) → IsPass idioms text new_at new
+exchange_step idioms text at out start end put new_at new before is from order to (at_is, new_is) =
+    let copied = specs.IsPass.copied start before from (omega (arith, order, to)) in
+    subst (λ a. IsPass idioms text a new) (sym at_is) (subst (IsPass idioms text end) (sym new_is) (specs.IsPass.exchanged end put copied is to))
+
 pub write_step : (idioms : Idioms) (text : List ℕ) (read : ℕ) (out : List ℕ) (d : MacroCall) (name body : List ℕ) (at new_at : ℕ) (new : List ℕ)
     → IsPass idioms text read out → Contains (calls_in text) d → Defines text d name body → d.end ≤ at → IsNameAt text at name → read ≤ at → at + length name ≤ length text
     → (new_at ≡ at + length name) × (new ≡ (out ++ slice_range text read at) ++ body) → IsPass idioms text new_at new
@@ -114,13 +125,28 @@ forget_step idioms text at out d name body new_at new before is defines unused f
     subst (λ a. IsPass idioms text a new) (sym at_is)
     (subst (IsPass idioms text d.end) (sym (new_is ∙ append-nil (out ++ slice_range text at d.start))) (specs.IsPass.forgotten d name body copied is defines unused to))
 
+pub word_step : (idioms : Idioms) (text : List ℕ) (read : ℕ) (out : List ℕ) (start end : ℕ) (name word : List ℕ) (at new_at : ℕ) (new : List ℕ)
+    → IsPass idioms text read out → DefinesWord text start end name word → end ≤ at → IsPlainUse text at name → read ≤ at → at + length name ≤ length text
+    → (new_at ≡ at + length name) × (new ≡ (out ++ slice_range text read at) ++ word) → IsPass idioms text new_at new
+word_step idioms text read out start end name word at new_at new before defines after here from to (at_is, new_is) =
+    let copied = specs.IsPass.copied at before from (omega (arith, to)) in
+    subst (λ a. IsPass idioms text a new) (sym at_is) (subst (IsPass idioms text (at + length name)) (sym new_is) (specs.IsPass.substituted start end name word copied defines after here to))
+
+pub undefine_step : (idioms : Idioms) (text : List ℕ) (at : ℕ) (out : List ℕ) (start end : ℕ) (name word : List ℕ) (new_at : ℕ) (new : List ℕ)
+    → IsPass idioms text at out → DefinesWord text start end name word → IsUnused text end name → at ≤ start → start ≤ end → end ≤ length text
+    → (new_at ≡ end) × (new ≡ (out ++ slice_range text at start) ++ []) → IsPass idioms text new_at new
+undefine_step idioms text at out start end name word new_at new before defines unused from order to (at_is, new_is) =
+    let copied = specs.IsPass.copied start before from (omega (arith, order, to)) in
+    subst (λ a. IsPass idioms text a new) (sym at_is)
+    (subst (IsPass idioms text end) (sym (new_is ∙ append-nil (out ++ slice_range text at start))) (specs.IsPass.undefined end name word copied defines unused to))
+
 -- What is put after AC_PROG_CC sets GCC.
 pub sets_gnu : (put it said indent : List ℕ) → put_by (entry_of (codes "GCC") TABLE.now) ≡ Some it → Differs (codes "GCC") 0 said → list_all is_space indent ≡ true
     → put ≡ ((10 ∷ indent) ++ difference (codes "GCC") said) ++ below indent it [] → SetsGnu put
 sets_gnu put it said indent has differs blank is = record { it = it; said = said; indent = indent; has = has; differs = differs; blank = blank; is = is }
 
 pub gnu_step : (idioms : Idioms) (text : List ℕ) (at : ℕ) (out : List ℕ) (c : MacroCall) (put : List ℕ) (new_at : ℕ) (new : List ℕ)
-    → IsPass idioms text at out → Contains (calls_in text) c → idioms ≡ All → slice_range text c.start c.name_end ≡ codes "AC_PROG_CC" → SetsGnu put → at ≤ c.end → c.end ≤ length text
+    → IsPass idioms text at out → Contains (calls_in text) c → idioms ≡ All → slice_range text c.start c.name_end ≡ codes "AC_PROG_CC" → SetsUp put → at ≤ c.end → c.end ≤ length text
     → (new_at ≡ c.end) × (new ≡ (out ++ slice_range text at c.end) ++ put) → IsPass idioms text new_at new
 gnu_step idioms text at out c put new_at new before is all compiler sets from to (at_is, new_is) =
     subst (λ a. IsPass idioms text a new) (sym at_is)

@@ -1,5 +1,5 @@
 -- What is put in the place of a call if all idioms are wanted, and depends on the text of another call or of a program. All of this is own.
-use Rattle.std.specs.Prelude.{◌≡◌, ◌⊎◌, ℕ, ◌+◌, ◌≤◌, ◌==◌, ◌||◌, ◌&&◌, not, nat_eq, nat_lt, Bool, true, false, List, [], ◌∷◌, ◌++◌, length, map, slice_range, slice_get, Option, Some, None, Contains, bytes_eq, codes, if◌then◌else◌}
+use Rattle.std.specs.Prelude.{◌≡◌, ◌⊎◌, ℕ, ◌+◌, ◌-◌, ◌≤◌, ◌==◌, ◌||◌, ◌&&◌, not, nat_eq, nat_lt, Bool, true, false, List, [], ◌∷◌, ◌++◌, length, map, slice_range, slice_index, slice_get, Option, Some, None, Contains, bytes_eq, codes, if◌then◌else◌}
 use Rattle.std.specs.Char.{is_ascii_alphanumeric}
 use Rattle.std.specs.List.{list_all, starts_with}
 use Rattle.text_cut.specs.Cuts.{parts, trimmed}
@@ -115,11 +115,28 @@ abbrev pub with_error : List ℕ → ℕ → ℕ → List ℕ
 with_error program at after =
     91 ∷ slice_range program 0 at ++ codes "#else" ++ 10 ∷ codes "#error none" ++ slice_range program after (length program) ++ 93 ∷ []
 
--- These are the first two arguments of the call, a word and a program, which has such a test of the word at these offsets.
+-- A pattern begins with `^` and ends in `$`, so that it is that of a whole line.
+abbrev pub is_anchored : List ℕ → Bool
+is_anchored pattern = nat_lt 2 (length pattern) && slice_index pattern 0 == 94 && slice_index pattern (length pattern - 1) == 36
+
+-- The word of such a pattern, or the pattern.
+abbrev pub word_of : List ℕ → List ℕ
+word_of pattern = if is_anchored pattern then slice_range pattern 1 (length pattern - 1) else pattern
+
+-- A newline is before the first of these offsets, and one at the second.
+abbrev pub IsWholeLine : List ℕ → ℕ → ℕ → Type 0
+IsWholeLine program at after = (slice_index program (at - 1) ≡ 10) × (slice_index program after ≡ 10)
+
+-- A program has such a test of the word of a pattern. If that is one of a whole line, the word has no blank around it.
+pub record IsTestOf (program pattern : List ℕ) (condition at after : ℕ) : Type 0 where
+  pub test : IsTest program (word_of pattern) condition at after
+  pub alone : is_anchored pattern ≡ true → IsWholeLine program at after
+
+-- These are the first two arguments of the call, a pattern and a program, which has such a test of its word at these offsets.
 pub record IsSearch (text : List ℕ) (c : MacroCall) (word program : Extent) (condition at after : ℕ) : Type 0 where
   pub first : slice_get c.args 0 ≡ Some word
   pub second : slice_get c.args 1 ≡ Some program
-  pub test : IsTest (text_of (Some (arg_text text program))) (text_of (Some (arg_text text word))) condition at after
+  pub test : IsTestOf (text_of (Some (arg_text text program))) (text_of (Some (arg_text text word))) condition at after
 
 -- What is put in the place of AC_EGREP_CPP of a word and a program: below a comment the idiom with that program and the actions of the call.
 pub record IsSought (text : List ℕ) (c : MacroCall) (put : List ℕ) : Type 0 where

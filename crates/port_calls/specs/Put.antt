@@ -1,5 +1,5 @@
 -- What is put in the place of a call.
-use Rattle.std.specs.Prelude.{◌≡◌, ◌⊎◌, ℕ, suc, ◌==◌, nat_eq, ◌||◌, ◌&&◌, Bool, true, false, List, [], ◌∷◌, ◌++◌, length, map, slice_get, Option, Some, bytes_eq, codes, if◌then◌else◌}
+use Rattle.std.specs.Prelude.{◌≡◌, ◌⊎◌, ℕ, suc, ◌==◌, nat_eq, ◌||◌, ◌&&◌, nat_le, Bool, true, false, List, [], ◌∷◌, ◌++◌, length, map, slice_get, slice_index, Option, Some, bytes_eq, codes, if◌then◌else◌}
 use Rattle.std.specs.List.{flat_map, list_all, starts_with}
 use Rattle.text_cut.specs.Cuts.{fields, parts, trimmed}
 use Rattle.lint_macros.specs.Entries.{entry_of}
@@ -13,6 +13,7 @@ use Rattle.ac_calls.specs.Calls.{MacroCall}
 use Rattle.ac_calls.specs.declared.call.Extent.{Extent}
 use Rattle.lint_text.specs.Parts.{part}
 pub use Rattle.port_definitions.specs.Defined.{arg_text}
+use Rattle.port_definitions.specs.Defined.{is_letter, is_of_name}
 
 -- The number of arguments that are given: none, if the only one has nothing but blanks. To m4 that is the same. (own)
 abbrev pub count_of : List ℕ → List Extent → ℕ
@@ -79,6 +80,14 @@ put_for text c = put_by (entry_of (row_name text c) TABLE.now)
 -- A space, a tab or a carriage return. (own)
 abbrev pub is_space : ℕ → Bool
 is_space b = b == 32 || b == 9 || b == 13
+
+-- A macro of C, or a variable of a shell, may have this name.
+abbrev pub is_c_name : List ℕ → Bool
+is_c_name word = nat_le 1 (length word) && is_letter (slice_index word 0) && list_all is_of_name word
+
+-- A space, a tab, a carriage return or a newline. (own)
+abbrev pub is_blank : ℕ → Bool
+is_blank b = b == 32 || b == 9 || b == 13 || b == 10
 
 -- Nothing, or the command `:`, which does nothing. (own)
 abbrev pub DoesNothing : List ℕ → Type 0

@@ -11,14 +11,12 @@ use Rattle.lint_macros.specs.Entries.{entry_of}
 use Rattle.lint_macros.specs.declared.text.TheConstants.{TABLE}
 use Rattle.port_idioms.specs.Rows.{put_by, Differs}
 use Rattle.port_idioms.specs.declared.idioms.Idioms.TheVariants.{Exact, All}
-use Rattle.port_definitions.specs.Defined.{Defines, IsNameAt, IsUnused, is_letter, is_of_name}
+use Rattle.port_definitions.specs.Defined.{Defines, DefinesWord, IsNameAt, IsPlainUse, IsUnused, is_letter, is_of_name}
+use Rattle.port_calls.specs.Compiler.{IsBelowCompiler}
+use Rattle.port_calls.specs.Exchanged.{IsExchanged}
 use Rattle.port_calls.specs.Making.{IsMade, LacksVersion}
-use Rattle.port_calls.specs.Put.{MayPut, arg_text, is_space, difference, below}
+use Rattle.port_calls.specs.Put.{MayPut, arg_text, is_blank, is_c_name, is_space, difference, below}
 use Rattle.port_idioms.specs.declared.idioms.Idioms.{Idioms}
-
--- A space, a tab, a carriage return or a newline.
-abbrev pub is_blank : ℕ → Bool
-is_blank b = b == 32 || b == 9 || b == 13 || b == 10
 
 -- The argument is more than blanks and a pair of brackets.
 abbrev pub IsGiven : List ℕ → Extent → Type 0
@@ -64,10 +62,6 @@ pub record HasDefault (text : List ℕ) (c : MacroCall) : Type 0 where
   pub second : slice_get c.args 1 ≡ Some default
   pub type : is_type (text_of (Some (arg_text text default))) ≡ true
   pub spaces : list_all is_type_byte (ending (arg_text text default)) ≡ true
-
--- A macro of C may have this name.
-abbrev pub is_c_name : List ℕ → Bool
-is_c_name word = nat_le 1 (length word) && is_letter (slice_index word 0) && list_all is_of_name word
 
 -- The first argument of the call is such a name.
 pub record NamesType (text : List ℕ) (c : MacroCall) : Type 0 where
@@ -201,6 +195,11 @@ pub record SetsGnu (put : List ℕ) : Type 0 where
   pub blank : list_all is_space indent ≡ true
   pub is : put ≡ ((10 ∷ indent) ++ difference (codes "GCC") said) ++ below indent it []
 
+-- What is put after AC_PROG_CC, if all idioms are wanted. (own)
+pub data SetsUp (put : List ℕ) : Type 0 where
+  gnu : SetsGnu put → SetsUp put
+  more : IsBelowCompiler put → SetsUp put
+
 -- A macro of this name prints a message, and does nothing else. (own)
 abbrev pub is_message : List ℕ → Bool
 is_message name = bytes_eq name (codes "AC_MSG_RESULT") || bytes_eq name (codes "AC_MSG_NOTICE") || bytes_eq name (codes "AC_MSG_WARN")
@@ -247,12 +246,14 @@ before_output = codes "dnl acrun: in place of what is printed after AC_OUTPUT: i
 abbrev pub messages_first : List ℕ → List ℕ → List ℕ
 messages_first messages call = ((((before_output ++ 10 ∷ []) ++ messages) ++ 10 ∷ []) ++ call) ++ 10 ∷ []
 
--- One pass over the calls of a text has read so much of it, and written this. Everything is copied, with twelve exceptions: a call that has
+-- One pass over the calls of a text has read so much of it, and written this. Everything is copied, with thirteen exceptions: a call that has
 -- to go, with blanks around it, may be replaced by what may be put in its place; in a call that declares an option the old name of
 -- AS_HELP_STRING may become the name; a backslash that joins two lines of a list of words may go; after a call that ends its line a newline
 -- and an indent may be put in place of the spaces; an argument of a macro that acrun reads, which has no brackets outside the calls in it,
--- may get a pair; so may an argument of another macro that does what it says, and the name of a variable that is spelled as a macro; in the place of the name
--- of a macro without parameters that the source defines before may be put its body, and the definition of one whose name is nowhere after it may go; and if all idioms are wanted, the lines that set GCC may be put
+-- may get a pair; so may an argument of another macro that does what it says, and the name of a variable that is spelled as a macro; in the place of calls may be put others
+-- that do the same; in the place of the name
+-- of a macro without parameters that the source defines before, by AC_DEFUN or as a plain word, may be put its body, and the definition of one whose name
+-- is nowhere after it may go; and if all idioms are wanted, the lines that set GCC and CFLAGS and look for the default headers may be put
 -- after AC_PROG_CC, messages after AC_OUTPUT may be put before it, if nothing else is there, and in the place of AC_INIT and of AC_EGREP_CPP may be put what
 -- is made of the text of another call or of a program.
 pub data IsPass (idioms : Idioms) (text : List ℕ) : ℕ → List ℕ → Type 0 where
@@ -271,16 +272,22 @@ pub data IsPass (idioms : Idioms) (text : List ℕ) : ℕ → List ℕ → Type 
       → IsBareAlone text arg end → IsPass idioms text end (out ++ in_brackets (slice_range text arg.start end))
   named : {out : List ℕ} (c : MacroCall) → IsPass idioms text c.start out → Contains (calls_in text) c → NamesVariable text c → c.end ≤ length text
       → IsPass idioms text c.end (out ++ in_brackets (slice_range text c.start c.end))
-  checked : {out : List ℕ} (c : MacroCall) (put : List ℕ) → IsPass idioms text c.end out → Contains (calls_in text) c → idioms ≡ All → slice_range text c.start c.name_end ≡ codes "AC_PROG_CC" → SetsGnu put → c.end ≤ length text
+  checked : {out : List ℕ} (c : MacroCall) (put : List ℕ) → IsPass idioms text c.end out → Contains (calls_in text) c → idioms ≡ All → slice_range text c.start c.name_end ≡ codes "AC_PROG_CC" → SetsUp put → c.end ≤ length text
       → IsPass idioms text c.end (out ++ put)
   turned : {out : List ℕ} (c : MacroCall) (start end : ℕ) → IsPass idioms text c.start out → Contains (calls_in text) c → idioms ≡ All → slice_range text c.start c.name_end ≡ codes "AC_OUTPUT" → IsAround text c c.start start → AreMessages text start end
       → IsPass idioms text (length text) (out ++ messages_first (slice_range text start end) (slice_range text c.start c.end))
   made : {out : List ℕ} (c : MacroCall) (put : List ℕ) → IsPass idioms text c.start out → Contains (calls_in text) c → idioms ≡ All → IsMade text c put → c.end ≤ length text
       → IsPass idioms text c.end (out ++ put)
+  exchanged : {start : ℕ} {out : List ℕ} (end : ℕ) (put : List ℕ) → IsPass idioms text start out → IsExchanged text start end put → end ≤ length text
+      → IsPass idioms text end (out ++ put)
   written : {at : ℕ} {out : List ℕ} (d : MacroCall) (name body : List ℕ) → IsPass idioms text at out → Contains (calls_in text) d → Defines text d name body → d.end ≤ at → IsNameAt text at name
       → at + length name ≤ length text → IsPass idioms text (at + length name) (out ++ body)
   forgotten : {out : List ℕ} (d : MacroCall) (name body : List ℕ) → IsPass idioms text d.start out → Contains (calls_in text) d → Defines text d name body → IsUnused text d.end name
       → d.end ≤ length text → IsPass idioms text d.end out
+  substituted : {at : ℕ} {out : List ℕ} (start end : ℕ) (name word : List ℕ) → IsPass idioms text at out → DefinesWord text start end name word → end ≤ at → IsPlainUse text at name
+      → at + length name ≤ length text → IsPass idioms text (at + length name) (out ++ word)
+  undefined : {start : ℕ} {out : List ℕ} (end : ℕ) (name word : List ℕ) → IsPass idioms text start out → DefinesWord text start end name word → IsUnused text end name
+      → end ≤ length text → IsPass idioms text end out
 
 -- The one text becomes the other by passes over its calls, each of which reads what the one before it wrote.
 pub data IsRewritten (idioms : Idioms) : List ℕ → List ℕ → Type 0 where

@@ -3,7 +3,6 @@
 ghost use Rattle.std.specs.Prelude.{◌≡◌, true};
 ghost use Rattle.std.specs.List.{list_all};
 ghost use Rattle.port_calls.specs.Put as specs;
-ghost use Rattle.port_calls.specs.Rewritten as rewritten;
 
 use crate::spots::Spot;
 use lint_text::{before, from, part};
@@ -17,13 +16,13 @@ pub(crate) fn is_space(byte: u8) -> bool
 }
 
 pub(crate) fn is_blank(byte: u8) -> bool
-    ensures { result ≡ rewritten.is_blank byte }
+    ensures { result ≡ specs.is_blank byte }
 {
     byte == b' ' || byte == b'\t' || byte == b'\r' || byte == b'\n'
 }
 
 pub(crate) fn are_blank(text: &[u8]) -> bool
-    ensures { result ≡ list_all rewritten.is_blank text.now }
+    ensures { result ≡ list_all specs.is_blank text.now }
 {
     text.iter().all(|byte| is_blank(*byte))
 }

@@ -4,6 +4,7 @@
 ghost use Rattle.std.specs.Prelude.{◌≡◌, ◌≤◌, ◌<◌, ◌==◌, ◌||◌, true, Some, map, length, slice_get, slice_index, slice_range, ℕ, Contains, IfOk, OnOk, IsTrue};
 ghost use Rattle.std.specs.List.{list_all};
 ghost use Rattle.ac_calls.specs.Calls.{calls_in, macro_call_of};
+ghost use Rattle.port_calls.specs.Put as put;
 ghost use Rattle.port_calls.specs.Rewritten as specs;
 
 use crate::around::{are_blank, has_compound, without_end_blanks};
@@ -259,7 +260,7 @@ fn is_bare_alone(text: &[u8], calls: &[CallAt], whole: Extent) -> bool
 fn is_blank_after(text: &[u8], arg: Extent, end: usize) -> bool
     ensures { IsTrue result
         → ((arg.start ≤ end) × (end ≤ arg.end) × (arg.end ≤ length text.now))
-        × (list_all specs.is_blank (slice_range text.now end arg.end) ≡ true) }
+        × (list_all put.is_blank (slice_range text.now end arg.end) ≡ true) }
 {
     let is_there = arg.start <= end && end <= arg.end && arg.end <= text.len();
     is_there && are_blank(&text[end..arg.end])
@@ -278,7 +279,7 @@ fn put_enclosed(
     pass: &mut Pass,
 ) -> Result<(), AllocError>
     requires place { ((arg.start ≤ end) × (end ≤ arg.end) × (arg.end ≤ length text.now))
-        × (list_all specs.is_blank (slice_range text.now end arg.end) ≡ true) }
+        × (list_all put.is_blank (slice_range text.now end arg.end) ≡ true) }
     requires inner { map macro_call_of inner.now ≡ calls_in (slice_range text.now arg.start end) }
     requires call { Contains (calls_in text.now) (macro_call_of call.now) }
     requires does { specs.DoesArgument text.now (macro_call_of call.now) index }

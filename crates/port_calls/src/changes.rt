@@ -11,6 +11,7 @@ use crate::around::{
     space_len,
 };
 use crate::bare::bare_in;
+use crate::compiler::{Needed, lines_needed};
 use crate::gnu::compiler_in;
 use crate::names::defined_in;
 use crate::noted::noted_change;
@@ -21,7 +22,7 @@ use crate::spots::Spot;
 use ac_calls::{CallAt, Extent};
 use lint_macros::Index;
 use lint_text::{from, part};
-use port_definitions::{Written, written_in};
+use port_definitions::{PlainWord, Written, plain_word_in, written_in};
 use port_idioms::{Exact, Idioms, exact_of, filled};
 use std::alloc::{AllocError, Global};
 use std::collections::BTreeSet;
@@ -51,11 +52,15 @@ pub(crate) struct Known {
     /// done so.
     pub has_compiler: bool,
     /// The offset after the first call of AC_PROG_CC that is in no argument of another one.
-    after_compiler: Option<usize>,
+    pub after_compiler: Option<usize>,
     /// Where AC_INIT is to get a name and a version, if it is.
     pub at_title: Option<TitleSpot>,
     /// The definitions of macros that are written out.
     pub written: Written,
+    /// The definition of a plain word that is written out, if there is one.
+    pub plain: Option<PlainWord>,
+    /// Which lines are to come after AC_PROG_CC.
+    pub below: Needed,
 }
 
 /// Marks an offset.
@@ -106,6 +111,8 @@ pub(crate) fn known_of(alloc: Global, text: &[u8], calls: &[CallAt]) -> Result<K
     let at_compiler = compiler_in(text, calls);
     let after_compiler = after_compiler(text, calls);
     let at_title = title_in(text, calls);
+    let plain = plain_word_in(alloc, text, calls)?;
+    let below = lines_needed(text, calls, after_compiler.unwrap_or(text.len()));
     let written = written_in(alloc, &index, text, calls, &defined, after_compiler)?;
     Ok(Known {
         index,
@@ -117,6 +124,8 @@ pub(crate) fn known_of(alloc: Global, text: &[u8], calls: &[CallAt]) -> Result<K
         after_compiler,
         at_title,
         written,
+        plain,
+        below,
     })
 }
 

@@ -1,4 +1,4 @@
-//! Sets GCC after AC_PROG_CC, if the source reads it, and all idioms are wanted.
+//! Sets GCC and CFLAGS and looks for the default headers after AC_PROG_CC, if all idioms are wanted.
 
 ghost use Rattle.std.specs.Prelude.{◌≡◌, ◌≤◌, ◌<◌, ◌∷◌, ◌++◌, [], true, Some, length, slice_range, codes, Contains, IfOk, IfSome, OnOk, IsTrue};
 ghost use Rattle.std.specs.List.{list_all};
@@ -12,6 +12,7 @@ ghost use Rattle.port_calls.specs.Rewritten as specs;
 
 use crate::around::{line_indent, space_len};
 use crate::changes::Known;
+use crate::compiler::{Needed, flags_below, headers_below, standard_below};
 use crate::noting::{difference, put_idiom};
 use crate::spots::Spot;
 use crate::writing::{Pass, write_change};
@@ -126,7 +127,7 @@ fn put_after(
     requires all { idioms ≡ All }
     requires compiler { slice_range text.now (macro_call_of call.now).start (macro_call_of call.now).name_end
         ≡ codes "AC_PROG_CC" }
-    requires sets { specs.SetsGnu put.now }
+    requires sets { specs.SetsUp put.now }
     requires begun { specs.IsPass idioms text.now pass.old.at pass.old.out.items }
     ensures { OnOk result (specs.IsPass idioms text.now pass.new.at pass.new.out.items) }
 {
@@ -163,7 +164,126 @@ fn put_gnu(
     }
 }
 
-/// Returns whether the call has a line of its own outside other calls, after which GCC is to be set.
+/// Sets CFLAGS after a call of AC_PROG_CC.
+fn put_flags(
+    alloc: Global,
+    idioms: Idioms,
+    text: &[u8],
+    indent: &[u8],
+    call: &CallAt,
+    pass: &mut Pass,
+) -> Result<(), AllocError>
+    requires call { Contains (calls_in text.now) (macro_call_of call.now) }
+    requires all { idioms ≡ All }
+    requires compiler { slice_range text.now (macro_call_of call.now).start (macro_call_of call.now).name_end
+        ≡ codes "AC_PROG_CC" }
+    requires blank { list_all is_space indent.now ≡ true }
+    requires begun { specs.IsPass idioms text.now pass.old.at pass.old.out.items }
+    ensures { OnOk result (specs.IsPass idioms text.now pass.new.at pass.new.out.items) }
+{
+    let put = flags_below(alloc, indent)?;
+    put_after(idioms, text, call, put.as_slice(), pass)
+}
+
+/// Looks for the default headers after a call of AC_PROG_CC.
+fn put_headers(
+    alloc: Global,
+    idioms: Idioms,
+    text: &[u8],
+    indent: &[u8],
+    call: &CallAt,
+    pass: &mut Pass,
+) -> Result<(), AllocError>
+    requires call { Contains (calls_in text.now) (macro_call_of call.now) }
+    requires all { idioms ≡ All }
+    requires compiler { slice_range text.now (macro_call_of call.now).start (macro_call_of call.now).name_end
+        ≡ codes "AC_PROG_CC" }
+    requires blank { list_all is_space indent.now ≡ true }
+    requires begun { specs.IsPass idioms text.now pass.old.at pass.old.out.items }
+    ensures { OnOk result (specs.IsPass idioms text.now pass.new.at pass.new.out.items) }
+{
+    let put = headers_below(alloc, indent)?;
+    put_after(idioms, text, call, put.as_slice(), pass)
+}
+
+/// Defines STDC_HEADERS after a call of AC_PROG_CC.
+fn put_standard(
+    alloc: Global,
+    idioms: Idioms,
+    text: &[u8],
+    indent: &[u8],
+    call: &CallAt,
+    pass: &mut Pass,
+) -> Result<(), AllocError>
+    requires call { Contains (calls_in text.now) (macro_call_of call.now) }
+    requires all { idioms ≡ All }
+    requires compiler { slice_range text.now (macro_call_of call.now).start (macro_call_of call.now).name_end
+        ≡ codes "AC_PROG_CC" }
+    requires blank { list_all is_space indent.now ≡ true }
+    requires begun { specs.IsPass idioms text.now pass.old.at pass.old.out.items }
+    ensures { OnOk result (specs.IsPass idioms text.now pass.new.at pass.new.out.items) }
+{
+    let put = standard_below(alloc, indent)?;
+    put_after(idioms, text, call, put.as_slice(), pass)
+}
+
+/// Writes the lines that are to come after a call of AC_PROG_CC, but for those that set GCC.
+fn put_below_compiler(
+    alloc: Global,
+    idioms: Idioms,
+    below: Needed,
+    text: &[u8],
+    indent: &[u8],
+    call: &CallAt,
+    pass: &mut Pass,
+) -> Result<(), AllocError>
+    requires call { Contains (calls_in text.now) (macro_call_of call.now) }
+    requires all { idioms ≡ All }
+    requires compiler { slice_range text.now (macro_call_of call.now).start (macro_call_of call.now).name_end
+        ≡ codes "AC_PROG_CC" }
+    requires blank { list_all is_space indent.now ≡ true }
+    requires begun { specs.IsPass idioms text.now pass.old.at pass.old.out.items }
+    ensures { OnOk result (specs.IsPass idioms text.now pass.new.at pass.new.out.items) }
+{
+    if below.flags {
+        put_flags(alloc, idioms, text, indent, call, pass)?;
+    }
+    if below.headers {
+        put_headers(alloc, idioms, text, indent, call, pass)?;
+    }
+    if below.standard {
+        put_standard(alloc, idioms, text, indent, call, pass)?;
+    }
+    Ok(())
+}
+
+/// Writes the lines that are to come after a call of AC_PROG_CC.
+fn put_all_below(
+    alloc: Global,
+    idioms: Idioms,
+    known: &Known,
+    text: &[u8],
+    spot: Spot,
+    call: &CallAt,
+    pass: &mut Pass,
+) -> Result<(), AllocError>
+    requires call { Contains (calls_in text.now) (macro_call_of call.now) }
+    requires all { idioms ≡ All }
+    requires compiler { slice_range text.now (macro_call_of call.now).start (macro_call_of call.now).name_end
+        ≡ codes "AC_PROG_CC" }
+    requires begun { specs.IsPass idioms text.now pass.old.at pass.old.out.items }
+    ensures { OnOk result (specs.IsPass idioms text.now pass.new.at pass.new.out.items) }
+{
+    let indent = line_indent(text, spot);
+    put_below_compiler(alloc, idioms, known.below, text, indent, call, pass)?;
+    if known.at_compiler == Some(call.end) {
+        return put_gnu(alloc, idioms, known, text, spot, call, pass);
+    }
+    Ok(())
+}
+
+/// Returns whether the call is the first of AC_PROG_CC outside other calls, and has a line of its
+/// own.
 fn is_place(known: &Known, text: &[u8], spot: Spot, call: &CallAt) -> bool {
     let rest = from(text, call.end);
     let next = from(rest, space_len(rest)).first();
@@ -171,11 +291,11 @@ fn is_place(known: &Known, text: &[u8], spot: Spot, call: &CallAt) -> bool {
         Some(byte) => *byte == b'\n',
         None => true,
     };
-    known.at_compiler == Some(call.end) && spot.is_at_top && spot.is_first && is_last
+    known.after_compiler == Some(call.end) && spot.is_at_top && spot.is_first && is_last
 }
 
-/// Sets GCC after a call of AC_PROG_CC, if the source reads that and doesn't set it, and all idioms
-/// are wanted.
+/// Sets CFLAGS, and GCC if the source reads that, and looks for the default headers after the first
+/// call of AC_PROG_CC, if all idioms are wanted and the source doesn't do so itself.
 pub(crate) fn pass_compiler(
     alloc: Global,
     idioms: Idioms,
@@ -194,6 +314,6 @@ pub(crate) fn pass_compiler(
     }
     match idioms {
         Idioms::Exact => Ok(()),
-        Idioms::All => put_gnu(alloc, idioms, known, text, spot, call, pass),
+        Idioms::All => put_all_below(alloc, idioms, known, text, spot, call, pass),
     }
 }

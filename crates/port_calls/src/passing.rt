@@ -7,8 +7,11 @@ ghost use Rattle.port_calls.specs.Rewritten as specs;
 
 use crate::around::{are_blank, blank_len};
 use crate::brackets::pass_arguments;
+use crate::cached::pass_cached;
+use crate::chains::pass_chain;
 use crate::changes::{Change, Known, change_of, known_of};
 use crate::definitions::{pass_defined, pass_spots};
+use crate::exchanging::pass_first_found;
 use crate::gnu::pass_compiler;
 use crate::joints::{first_argument, pass_words};
 use crate::lines::pass_line;
@@ -16,6 +19,7 @@ use crate::making::lacks_version;
 use crate::names::{names_variable, pass_name};
 use crate::output::pass_output;
 use crate::package::pass_title;
+use crate::plain::pass_plain;
 use crate::seeking::pass_search;
 use crate::spots::{Spot, Walk};
 use crate::types::names_default;
@@ -306,6 +310,9 @@ fn pass_call(
     pass_defined(idioms, known, text, first, call, pass)?;
     pass_title(alloc, idioms, known, text, calls, spot, call, pass)?;
     pass_search(alloc, idioms, known, text, spot, call, pass)?;
+    pass_chain(alloc, idioms, known, text, spot, call, pass)?;
+    pass_first_found(alloc, idioms, known, text, spot, call, pass)?;
+    pass_cached(alloc, idioms, known, text, calls, first, spot, call, pass)?;
     pass_whole(alloc, idioms, known, text, spot, call, pass)?;
     pass_compiler(alloc, idioms, known, text, spot, call, pass)?;
     pass_output(alloc, idioms, text, calls, first, spot, call, pass)?;
@@ -348,6 +355,10 @@ fn pass_text(
     ensures { OnOk result (specs.IsPass idioms text.now pass.new.at pass.new.out.items) }
 {
     pass_spots(idioms, text, calls, known.written.uses.as_slice(), pass)?;
+    if pass.has_changed {
+        return Ok(());
+    }
+    pass_plain(alloc, idioms, text, &known.plain, pass)?;
     if pass.has_changed {
         return Ok(());
     }

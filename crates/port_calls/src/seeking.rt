@@ -1,7 +1,7 @@
 //! Writes AC_EGREP_CPP of a word that stands for a symbol as AC_PREPROC_IFELSE, if all idioms are
 //! wanted.
 
-ghost use Rattle.std.specs.Prelude.{◌≡◌, ◌==◌, ◌≤◌, ◌<◌, ◌+◌, ◌∷◌, ◌++◌, [], true, Some, None, length, map, option_map, position, slice_get, slice_range, codes, nat_eq, Contains, IfOk, IfSome, OnOk, IsTrue};
+ghost use Rattle.std.specs.Prelude.{◌≡◌, ◌==◌, ◌≤◌, ◌<◌, ◌+◌, ◌-◌, ◌∷◌, ◌++◌, [], true, Some, None, length, map, option_map, position, slice_get, slice_range, codes, nat_eq, Contains, IfOk, IfSome, OnOk, IsTrue};
 ghost use Rattle.std.specs.List.{list_all, starts_with};
 ghost use Rattle.ac_calls.specs.Calls.{calls_in, macro_call_of};
 ghost use Rattle.lint_macros.specs.Around.{around};
@@ -218,6 +218,62 @@ fn test_in(alloc: Global, program: &[u8], word: &[u8]) -> Result<Option<Sought>,
     }
 }
 
+/// Returns whether a pattern is that of a whole line: it begins with `^` and ends in `$`.
+fn is_anchored(pattern: &[u8]) -> bool
+    ensures { result ≡ specs.is_anchored pattern.now }
+{
+    let len = pattern.len();
+    len > 2 && pattern[0] == b'^' && pattern[len - 1] == b'$'
+}
+
+/// Returns the word of a pattern of a whole line, and otherwise the pattern.
+fn word_of(pattern: &[u8]) -> &[u8]
+    ensures { result.now ≡ specs.word_of pattern.now }
+{
+    let len = pattern.len();
+    if len > 2 && pattern[0] == b'^' && pattern[len - 1] == b'$' {
+        &pattern[1..len - 1]
+    } else {
+        pattern
+    }
+}
+
+/// Returns whether a newline is before a word, and one after it.
+fn is_whole_line(program: &[u8], at: Sought) -> bool
+    ensures { IsTrue result → specs.IsWholeLine program.now at.word at.after }
+{
+    0 < at.word
+        && at.word <= program.len()
+        && at.after < program.len()
+        && program[at.word - 1] == b'\n'
+        && program[at.after] == b'\n'
+}
+
+/// Returns whether a word is a line, or need not be one.
+fn is_alone(program: &[u8], pattern: &[u8], at: Sought) -> bool
+    ensures { IsTrue result
+        → specs.is_anchored pattern.now ≡ true
+        → specs.IsWholeLine program.now at.word at.after }
+{
+    !is_anchored(pattern) || is_whole_line(program, at)
+}
+
+/// Returns where a program has a test of the word of a pattern.
+fn pattern_in(alloc: Global, program: &[u8], pattern: &[u8]) -> Result<Option<Sought>, AllocError>
+    ensures { IfOk result (λ o.
+        IfSome o (λ s.
+        specs.IsTestOf program.now pattern.now s.condition s.word s.after)) }
+{
+    let Some(at) = test_in(alloc, program, word_of(pattern))? else {
+        return Ok(None);
+    };
+    if is_alone(program, pattern, at) {
+        Ok(Some(at))
+    } else {
+        Ok(None)
+    }
+}
+
 /// Returns the program with an error in place of a word, if the condition does not hold.
 fn with_error(alloc: Global, program: &[u8], at: usize, after: usize) -> Result<Vec<u8>, AllocError>
     requires { (at ≤ length program.now) × (after ≤ length program.now) }
@@ -274,16 +330,16 @@ fn test_of(
 ) -> Result<Option<Sought>, AllocError>
     ensures { IfOk result (λ o.
         IfSome o (λ s.
-        specs.IsTest (text_of (Some (arg_text text.now program))) (text_of (Some (arg_text text.now word)))
+        specs.IsTestOf (text_of (Some (arg_text text.now program))) (text_of (Some (arg_text text.now word)))
         s.condition s.word s.after)) }
 {
-    let Some(name) = text_of(part(text, word.start, word.end)) else {
+    let Some(pattern) = text_of(part(text, word.start, word.end)) else {
         return Ok(None);
     };
     let Some(inner) = text_of(part(text, program.start, program.end)) else {
         return Ok(None);
     };
-    test_in(alloc, inner, name)
+    pattern_in(alloc, inner, pattern)
 }
 
 /// Returns what the call searches for, if that is a word of a program that it has only if a

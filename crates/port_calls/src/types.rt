@@ -5,7 +5,7 @@ ghost use Rattle.std.specs.List.{list_all};
 ghost use Rattle.ac_calls.specs.Calls.{macro_call_of};
 ghost use Rattle.lint_macros.specs.Around.{around};
 ghost use Rattle.port_idioms.specs.Filled.{ending, text_of};
-ghost use Rattle.port_calls.specs.Put.{arg_text};
+ghost use Rattle.port_calls.specs.Put.{arg_text, is_c_name};
 ghost use Rattle.port_calls.specs.Rewritten as specs;
 
 use crate::making::argument;
@@ -120,16 +120,16 @@ fn has_default(text: &[u8], call: &CallAt) -> bool
     }
 }
 
-/// Returns whether a macro of C may have this name.
-fn is_c_name(word: &[u8]) -> bool
-    ensures { result ≡ specs.is_c_name word.now }
+/// Returns whether a macro of C, or a variable of a shell, may have this name.
+pub(crate) fn is_c_name(word: &[u8]) -> bool
+    ensures { result ≡ is_c_name word.now }
 {
     word.len() >= 1 && is_letter(word[0]) && are_name_bytes(word)
 }
 
 /// Returns whether an argument is such a name.
 fn is_named(text: &[u8], arg: Extent) -> bool
-    ensures { IsTrue result → specs.is_c_name (text_of (Some (arg_text text.now arg))) ≡ true }
+    ensures { IsTrue result → is_c_name (text_of (Some (arg_text text.now arg))) ≡ true }
 {
     match text_of(part(text, arg.start, arg.end)) {
         Some(inner) => is_c_name(inner),

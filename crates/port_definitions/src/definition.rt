@@ -141,7 +141,7 @@ fn ends_name(text: &[u8], at: usize) -> bool
 }
 
 /// Returns whether the bytes of a name are at an offset.
-fn has_name(text: &[u8], at: usize, name: &[u8]) -> bool
+pub(crate) fn has_name(text: &[u8], at: usize, name: &[u8]) -> bool
     requires { at ≤ length text.now }
     ensures yes { IsTrue result → slice_range text.now at (at + length name.now) ≡ name.now }
     ensures fits { IsTrue result → at + length name.now ≤ length text.now }
@@ -161,9 +161,10 @@ pub fn is_name_at(text: &[u8], at: usize, name: &[u8]) -> bool
 }
 
 /// Returns whether neither a letter nor `_` is right before an offset.
-fn begins_word(text: &[u8], at: usize) -> bool
+pub(crate) fn begins_word(text: &[u8], at: usize) -> bool
     requires { at ≤ length text.now }
-    ensures { result ≡ false → specs.BeginsWord text.now at → ⊥ }
+    ensures yes { IsTrue result → specs.BeginsWord text.now at }
+    ensures no { result ≡ false → specs.BeginsWord text.now at → ⊥ }
 {
     at == 0 || !is_letter(text[at - 1])
 }
@@ -176,9 +177,10 @@ pub fn is_letter(byte: u8) -> bool
 }
 
 /// Returns whether no name goes on at an offset.
-fn ends_word(text: &[u8], at: usize) -> bool
+pub(crate) fn ends_word(text: &[u8], at: usize) -> bool
     requires { at ≤ length text.now }
-    ensures { result ≡ false → specs.EndsWord text.now at → ⊥ }
+    ensures yes { IsTrue result → specs.EndsWord text.now at }
+    ensures no { result ≡ false → specs.EndsWord text.now at → ⊥ }
 {
     at == text.len() || !is_of_name(text[at])
 }

@@ -7,6 +7,8 @@
 //! ```text
 //! AC_DEFUN([MY_CHECK], [AC_MSG_NOTICE([checked])])
 //! MY_CHECK                     // becomes AC_MSG_NOTICE([checked])
+//! define(MY_VERSION, 1.2)
+//! VERSION=MY_VERSION           // becomes VERSION=1.2
 //! ```
 //!
 //! Read `specs/Defined`, and then `definition` (what a call defines, and where its name is). `lines`,
@@ -18,8 +20,13 @@
 mod definition;
 mod finding;
 mod lines;
+mod plain;
 mod reading;
+mod reserved;
+mod words;
 
 pub use definition::{argument, body_of, inner, is_letter, is_name_at, is_of_name, is_used};
 pub use finding::{UseSpot, Written, written_in};
 pub use lines::{is_dropped, last_line, space_len};
+pub use plain::{PlainWord, plain_word_in};
+pub use words::{WordSpot, is_plain_use, is_word_definition};

@@ -145,13 +145,22 @@ pub(crate) fn is_whole(body: &[u8]) -> bool {
     reading.is_at_top() && !reading.has_stray && !trim(body).ends_with(b"\\")
 }
 
-/// Returns whether a text has a word that changes the quotes or the comments of m4, or one that
-/// reads another file, which may call a macro.
+/// The macros that change the quotes or the comments of m4, or that read another file, which may call
+/// a macro.
+const CHANGING: [&[u8]; 5] = [
+    b"changecom",
+    b"changequote",
+    b"m4_include",
+    b"m4_sinclude",
+    b"sinclude",
+];
+
+/// Returns whether a text has a word that begins as such a macro.
 pub(crate) fn changes_reading(text: &[u8]) -> bool {
     for at in 0..text.len() {
         let rest = from(text, at);
-        let is_quote = rest.starts_with(b"changequote") || rest.starts_with(b"changecom");
-        if is_quote || rest.starts_with(b"m4_include") || rest.starts_with(b"sinclude") {
+        let is_word = !is_in_word(before(text, at));
+        if is_word && CHANGING.iter().any(|name| rest.starts_with(*name)) {
             return true;
         }
     }

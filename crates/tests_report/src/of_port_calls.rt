@@ -1,4 +1,5 @@
-//! Macros without parameters that a source defines, which are written out where they are called.
+//! What a source defines, which is written out where it is called, AC_PATH_PROGS, and what is put after
+//! AC_PROG_CC.
 
 use port_calls::replaced;
 use port_idioms::Idioms;
@@ -6,18 +7,32 @@ use std::test::Fail;
 use test_rows::{Page, RowCall, try_rows};
 
 /// Writes what becomes of a text.
+fn put_replaced(page: &mut Page, idioms: Idioms, given: &[u8]) {
+    let made = replaced(page.alloc(), idioms, given);
+    if let Some(text) = page.given(made) {
+        if text.as_slice() == given {
+            page.put(b"the same");
+        } else {
+            page.put(text.as_slice());
+        }
+    }
+}
+
+/// Writes what becomes of a text if idioms that are exact are wanted.
 struct Calls;
 
 impl RowCall for Calls {
     fn put(&self, page: &mut Page, given: &[u8]) {
-        let made = replaced(page.alloc(), Idioms::Exact, given);
-        if let Some(text) = page.given(made) {
-            if text.as_slice() == given {
-                page.put(b"the same");
-            } else {
-                page.put(text.as_slice());
-            }
-        }
+        put_replaced(page, Idioms::Exact, given);
+    }
+}
+
+/// Writes what becomes of a text if all idioms are wanted.
+struct AllCalls;
+
+impl RowCall for AllCalls {
+    fn put(&self, page: &mut Page, given: &[u8]) {
+        put_replaced(page, Idioms::All, given);
     }
 }
 
@@ -82,6 +97,9 @@ AC_DEFUN([M], [a=1])^JF(^JM^J) => the same
 AC_DEFUN([M], [a=1])^JM^JAC_DEFUN([N], [AC_REQUIRE([M])]) => the same
 // another file may call it
 m4_include([a.m4])^JAC_DEFUN([M], [a=1])^JM => the same
+m4_sinclude([a.m4])^JAC_DEFUN([M], [a=1])^JM => the same
+sinclude([a.m4])^JAC_DEFUN([M], [a=1])^JM => the same
+AC_DEFUN([M], [a=1])^Jb=sysincludes^JM => ^Jb=sysincludes^Ja=1
 // it is called before it is defined, or defined twice
 M^JAC_DEFUN([M], [a=1])^JM => the same
 AC_DEFUN([M], [a=1])^JM^JAC_DEFUN([M], [a=2])^JM => the same
@@ -92,4 +110,108 @@ changequote(<,>)^JAC_DEFUN([M], [a=1])^JM => the same
 #[test]
 fn definitions(rt: HostRuntime) -> Result<(), Fail> {
     try_rows(rt.alloc(), &Calls, DEFINITIONS)
+}
+
+/// A text that defines plain words, and what becomes of it.
+const WORDS: &[u8] = br##"
+define(my_word, 1.2)^Ja=my_word => ^Ja=1.2
+m4_define([my_word], [1.2])dnl^Ja="x-my_word.b" b=1my_word => dnl^Ja="x-1.2.b" b=11.2
+  define([MyWord],^J  a.b)^JAC_SUBST([X], [MyWord]) =>   ^JAC_SUBST([X], [a.b])
+define(my_word, 1-b)^Jif test "$a" = my_word; then^J  a=my_word^Jfi => ^Jif test "$a" = 1-b; then^J  a=1-b^Jfi
+define(my_word, 1)^JAC_INIT([a], [my_word])^JAC_DEFINE([X], "my_word")^JAC_MSG_NOTICE([it is my_word]) => ^JAC_INIT([a], [1])^JAC_DEFINE([X], "1")^JAC_MSG_NOTICE([it is 1])
+define(my_word, 1)^Jdefine(my_other, 2)^Ja=my_other b=my_word => ^J^Ja=2 b=1
+define(my_word, 1)^Ja=my_words b=xmy_word => ^Ja=my_words b=xmy_word
+// Autoconf may have the name in its own texts
+define(myword, 1)^Ja=myword => the same
+define(ac_word, 1)^Ja=ac_word => the same
+define(exec_prefix, 1)^Ja=exec_prefix => the same
+define(FreeBSD, 1)^Ja=FreeBSD => the same
+// m4 does not expand it there, or more than once
+define(my_word, 1)^J# my_word => the same
+define(my_word, 1)^Ja=[my_word] => the same
+define(my_word, 1)^JAC_SUBST([X], [[my_word]]) => the same
+define(my_word, 1)^JAC_CHECK_LIB([my_word], [f]) => the same
+define(my_word, 1)^JAS_IF([:], [a=my_word]) => the same
+define(my_word, 1)^Ja=my_word(b) => the same
+define(my_word, 1)^JF(my_word) => the same
+a=my_word^Jdefine(my_word, 1) => the same
+// it is no plain word, or defined otherwise
+define(my_word, 1 2)^Ja=my_word => the same
+define(my_word, A_B)^Ja=my_word => the same
+define(my_word, dnl)^Ja=my_word => the same
+define(my_word, )^Ja=my_word => the same
+define( my_word, 1)^Ja=my_word => the same
+define(my_word , 1)^Ja=my_word => the same
+define(my_word, 1)^Jdefine(my_word, 2)^Ja=my_word => the same
+a=1; define(my_word, 1)^Ja=my_word => the same
+[define(my_word, 1)]^Ja=my_word => the same
+changequote(<,>)^Jdefine(my_word, 1)^Ja=my_word => the same
+"##;
+
+#[test]
+fn plain_words(rt: HostRuntime) -> Result<(), Fail> {
+    try_rows(rt.alloc(), &Calls, WORDS)
+}
+
+/// A text with AC_PATH_PROGS, and what becomes of it.
+const PROGRAMS: &[u8] = br##"
+AC_PATH_PROGS(A, b) => AC_PATH_PROG([A], [b])
+  AC_PATH_PROGS([A], [b c], [:]) # d =>   AC_PATH_PROG([A], [b])^J  AS_IF([test -z "$A"], [AC_PATH_PROG([A], [c])])^J  AS_IF([test -z "$A"], [A=":"]) # d
+AC_PATH_PROGS([A],^J  [b-1 c.d^J   e+], /f/g) => AC_PATH_PROG([A], [b-1])^JAS_IF([test -z "$A"], [AC_PATH_PROG([A], [c.d])])^JAS_IF([test -z "$A"], [AC_PATH_PROG([A], [e+])])^JAS_IF([test -z "$A"], [A="/f/g"])
+AS_IF([:], [AC_PATH_PROGS([A], [b])]) => AS_IF([:], [AC_PATH_PROG([A], [b])])
+// it has a path, or words that are not plain
+AC_PATH_PROGS([A], [b c], [], [/d]) => the same
+AC_PATH_PROGS([A], [b $c]) => the same
+AC_PATH_PROGS([A], []) => the same
+AC_PATH_PROGS([A]) => the same
+AC_PATH_PROGS([A], [b], [$c]) => the same
+AC_PATH_PROGS([$A], [b]) => the same
+a=b && AC_PATH_PROGS([A], [b]) => the same
+"##;
+
+#[test]
+fn programs(rt: HostRuntime) -> Result<(), Fail> {
+    try_rows(rt.alloc(), &Calls, PROGRAMS)
+}
+
+/// A text with calls that are exchanged for others, and what becomes of it.
+const EXCHANGED: &[u8] = br##"
+AC_CHECK_HEADERS(a.h b/c.h, [break]) => AC_CHECK_HEADERS([a.h], [], [AC_CHECK_HEADERS([b/c.h])])
+  AC_CHECK_FUNCS([f g], break) # d =>   AC_CHECK_FUNCS([f], [], [AC_CHECK_FUNCS([g])]) # d
+AC_CHECK_HEADERS([a.h b.h c.h], [break]) => the same
+AC_CHECK_HEADERS([a.h], [break]) => the same
+AC_CHECK_HEADERS([a.h b.h], [x=1; break]) => the same
+AC_CHECK_HEADERS([a.h b.h], [break], [x=1]) => the same
+AC_CHECK_HEADERS([a.h $b], [break]) => the same
+AC_CHECK_LIB([a b], [break]) => the same
+// a check with its messages
+AC_MSG_CHECKING(for x)^JAC_CACHE_VAL(x_cv_x, [x_cv_x=1])^JAC_MSG_RESULT($x_cv_x) => AC_CACHE_CHECK(for x, x_cv_x,[x_cv_x=1])
+  AC_MSG_CHECKING([for x])^J  AC_CACHE_VAL([x_cv_x],^J[x_cv_x=1])^J^J  AC_MSG_RESULT([$x_cv_x]) # a =>   AC_CACHE_CHECK([for x], x_cv_x,[x_cv_x=1]) # a
+AC_MSG_CHECKING(for x)^JAC_CACHE_VAL(x_cv_x, [x_cv_x=1])^JAC_MSG_RESULT($y) => the same
+AC_MSG_CHECKING(for x)^JAC_CACHE_VAL(x_cv_x, [x_cv_x=1])^Ja=1^JAC_MSG_RESULT($x_cv_x) => the same
+AC_MSG_CHECKING(for x)^Ja=1^JAC_CACHE_VAL(x_cv_x, [x_cv_x=1])^JAC_MSG_RESULT($x_cv_x) => the same
+AC_MSG_CHECKING(for x, y)^JAC_CACHE_VAL(x_cv_x, [x_cv_x=1])^JAC_MSG_RESULT($x_cv_x) => the same
+AC_MSG_CHECKING(for x)^JAC_CACHE_VAL(x_cv_x, [x_cv_x=1])^JAC_MSG_RESULT([it is $x_cv_x]) => the same
+"##;
+
+#[test]
+fn exchanged(rt: HostRuntime) -> Result<(), Fail> {
+    try_rows(rt.alloc(), &Calls, EXCHANGED)
+}
+
+/// A text with AC_PROG_CC, and what becomes of it if all idioms are wanted.
+const COMPILERS: &[u8] = br##"
+AC_PROG_CC^Ja=1 => AC_PROG_CC^Jdnl acrun: in place of CFLAGS: AC_PROG_CC does not set it here, so an empty value becomes what Autoconf sets for a compiler of GNU^JAS_IF([test -z "$CFLAGS"], [CFLAGS="-g -O2"])^Ja=1
+CFLAGS=-O^J  AC_PROG_CC^JAC_CHECK_HEADERS([a.h]) => CFLAGS=-O^J  AC_PROG_CC^J  dnl acrun: in place of AC_INCLUDES_DEFAULT: no macro looks for the default headers here, so they are looked for after AC_PROG_CC^J  AC_CHECK_HEADERS([stdio.h stdlib.h string.h inttypes.h stdint.h strings.h sys/stat.h sys/types.h unistd.h])^J  dnl acrun: in place of STDC_HEADERS: it is defined without a check^J  AC_DEFINE([STDC_HEADERS], [1])^JAC_CHECK_HEADERS([a.h])
+// the source does so itself, or AC_PROG_CC is not on a line of its own
+AC_PROG_CC^Jtest -z "$CFLAGS" && CFLAGS=-O => the same
+test "$CFLAGS" = a && b=1^JAC_PROG_CC => the same
+AS_IF([:], [AC_PROG_CC]) => the same
+AC_PROG_CC # a => the same
+a=1 => the same
+"##;
+
+#[test]
+fn compilers(rt: HostRuntime) -> Result<(), Fail> {
+    try_rows(rt.alloc(), &AllCalls, COMPILERS)
 }
