@@ -140,6 +140,13 @@ const INCLUDING: [&[u8]; 16] = [
     b"AC_TYPE_SIZE_T",
 ];
 
+/// The macros that make a header.
+const HEADERS: [&[u8]; 3] = [
+    b"AC_CONFIG_HEADERS",
+    b"AC_CONFIG_HEADER",
+    b"AM_CONFIG_HEADER",
+];
+
 /// The default headers.
 const DEFAULT: [&[u8]; 9] = [
     b"stdio.h",
@@ -181,12 +188,18 @@ fn sets_flags(text: &[u8], end: usize) -> bool {
     has_word(front, b"CFLAGS=") || has_word(front, b"CFLAGS") || has_word(text, b"z \"$CFLAGS\"")
 }
 
-/// Returns whether the source may make checks of the default headers with Autoconf.
-fn includes_default(text: &[u8], calls: &[CallAt]) -> bool {
+/// Returns whether one of these macros is called.
+fn has_call(text: &[u8], calls: &[CallAt], names: &[&[u8]]) -> bool {
     calls.iter().any(|call| {
         let name = part(text, call.start, call.name_end);
-        INCLUDING.iter().any(|other| *other == name)
+        names.iter().any(|other| *other == name)
     })
+}
+
+/// Returns whether the source may make checks of the default headers with Autoconf, and has a
+/// header for what they define.
+fn includes_default(text: &[u8], calls: &[CallAt]) -> bool {
+    has_call(text, calls, &INCLUDING) && has_call(text, calls, &HEADERS)
 }
 
 /// Returns which lines are to come after a call of AC_PROG_CC that ends at an offset.
