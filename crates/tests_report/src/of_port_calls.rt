@@ -202,7 +202,7 @@ fn exchanged(rt: HostRuntime) -> Result<(), Fail> {
 /// A text with AC_PROG_CC, and what becomes of it if all idioms are wanted.
 const COMPILERS: &[u8] = br##"
 AC_PROG_CC^Ja=1 => AC_PROG_CC^Jdnl acrun: in place of CFLAGS: AC_PROG_CC does not set it here, so an empty value becomes what Autoconf sets for a compiler of GNU^JAS_IF([test -z "$CFLAGS"], [CFLAGS="-g -O2"])^Ja=1
-CFLAGS=-O^J  AC_PROG_CC^JAC_CHECK_HEADERS([a.h]) => CFLAGS=-O^J  AC_PROG_CC^J  dnl acrun: in place of AC_INCLUDES_DEFAULT: no macro looks for the default headers here, so they are looked for after AC_PROG_CC^J  AC_CHECK_HEADERS([stdio.h stdlib.h string.h inttypes.h stdint.h strings.h sys/stat.h sys/types.h unistd.h])^J  dnl acrun: in place of STDC_HEADERS: it is defined without a check^J  AC_DEFINE([STDC_HEADERS], [1])^JAC_CHECK_HEADERS([a.h])
+CFLAGS=-O^J  AC_PROG_CC^JAC_CHECK_HEADERS([a.h])^JAC_CONFIG_HEADERS([c.h]) => CFLAGS=-O^J  AC_PROG_CC^J  dnl acrun: in place of AC_INCLUDES_DEFAULT: no macro looks for the default headers here, so they are looked for after AC_PROG_CC^J  AC_CHECK_HEADERS([stdio.h stdlib.h string.h inttypes.h stdint.h strings.h sys/stat.h sys/types.h unistd.h])^J  dnl acrun: in place of STDC_HEADERS: it is defined without a check^J  AC_DEFINE([STDC_HEADERS], [1])^JAC_CHECK_HEADERS([a.h])^JAC_CONFIG_HEADERS([c.h])
 // the source does so itself, or AC_PROG_CC is not on a line of its own
 AC_PROG_CC^Jtest -z "$CFLAGS" && CFLAGS=-O => the same
 test "$CFLAGS" = a && b=1^JAC_PROG_CC => the same
