@@ -1,6 +1,6 @@
 //! The whole.
 
-ghost use Rattle.std.specs.Prelude.{◌≡◌, ◌↔◌, length, true, false, IfOk, IfSome, IsTrue, MatchOption};
+ghost use Rattle.std.specs.Prelude.{◌≡◌, ◌↔◌, [], length, true, false, IfOk, IfSome, IsTrue, MatchOption};
 ghost use Rattle.lint_errors.specs.Errors.{IsAccepted};
 ghost use Rattle.cmd_port.specs.Ported as specs;
 
@@ -48,13 +48,20 @@ fn with_errors(alloc: Global, text: &[u8], errors: &[Finding]) -> Result<Ported,
     })
 }
 
+/// Returns the errors of a source.
+fn errors_in(alloc: Global, text: &[u8]) -> Result<Vec<Finding>, AllocError>
+    ensures { IfOk result (λ v. (v.items ≡ []) ↔ IsAccepted text.now) }
+{
+    let reading = read(alloc, text)?;
+    all_errors(alloc, text, &reading)
+}
+
 /// Returns the source with a comment at each error.
 #[tactic(auto, using(crate::proofs::Steps::commented_printed))]
 fn printed(alloc: Global, text: Vec<u8>) -> Result<Ported, AllocError>
     ensures { IfOk result (λ p. specs.IsPrinted text.items p.has_comments p.text) }
 {
-    let reading = read(alloc, text.as_slice())?;
-    let mut errors = all_errors(alloc, text.as_slice(), &reading)?;
+    let mut errors = errors_in(alloc, text.as_slice())?;
     if errors.is_empty() {
         return Ok(whole(text));
     }
