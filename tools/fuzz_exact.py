@@ -310,6 +310,24 @@ def of_statements(found):
     return {name: it for name, it in found.items() if not OF_STATEMENTS.match(name) and name not in unset | told}
 
 
+# What docs/commands.md states of the lines that --idioms writes below AC_PROG_CC.
+OF_SETUP = ("commands", "they set CFLAGS to `-g -O2` if it is empty")
+OF_STANDARD = ("commands", "and define STDC_HEADERS, unless the source names that")
+
+
+def of_setup(found, ported):
+    """Returns the differences without those that are stated of the lines below AC_PROG_CC. `ported` is what port writes."""
+    for it in (OF_SETUP, OF_STANDARD):
+        said(*it)
+    if "in place of CFLAGS: " in ported:
+        is_flags = re.compile(r"(output|values|src/values|variable) CFLAGS$")
+        found = {name: (before, after) for name, (before, after) in found.items()
+                 if not (is_flags.match(name) and after == ("-g -O2" + before if before else "-g -O2"))}
+    if "in place of STDC_HEADERS: " in ported:
+        found = {name: it for name, it in found.items() if name != "#STDC_HEADERS" or it != (None, "1")}
+    return found
+
+
 def differences(before, after):
     """Returns the names in which two runs differ, each with both values."""
     found = {}
@@ -442,7 +460,7 @@ def said(document, sentence):
 
 def unsaid():
     """Yields a line for each sentence that is looked for here, and that its document doesn't have."""
-    stated_once = (OF_IDIOMS, OF_INIT, OF_JOINTS, OF_WORDS, OF_TESTS, OF_EXIT, OF_UNSET, OF_EQUALS, OF_COMPILER, OF_DNL, OF_GIVEN, OF_LINES, OF_STATUS, OF_CROSS)
+    stated_once = (OF_IDIOMS, OF_INIT, OF_JOINTS, OF_WORDS, OF_TESTS, OF_EXIT, OF_UNSET, OF_EQUALS, OF_COMPILER, OF_DNL, OF_GIVEN, OF_LINES, OF_STATUS, OF_CROSS, OF_SETUP, OF_STANDARD)
     for document, sentence in (*stated_once, *(("differences", sentence) for sentence, _ in OF_LANGUAGE)):
         if not is_said(document, sentence):
             yield f"docs/{document}.md does not say what tools/fuzz_exact.py looks for: {sentence}"
@@ -568,6 +586,7 @@ def compared(room, text, ported, settings, switches, program=""):
         runs = [runs[0], runs[-1]]
         differs = {} if has_other_idiom and stop_alike(*runs) else differences(*runs)
         differs = of_idioms(differs, bodies[1]) if has_other_idiom else of_statements(differs) if switches == IDIOMS else differs
+        differs = of_setup(differs, ported) if switches == IDIOMS else differs
         said(*OF_STATUS)
         read = {f"{kind} {name}" for name in READS_STATUS.findall(text) for kind in ("variable", "output", "values")}
         differs = {name: it for name, it in differs.items() if not is_stated(name, patterns, it[0]) and name not in read}
