@@ -1,5 +1,5 @@
 -- The programs that checks compile. Their texts are own. Autoconf's manual describes what each checks, in "Default
--- Includes", "Generating Sources" and the sections on generic headers, functions, declarations and types.
+-- Includes", "Generating Sources", "Generic Headers" and "Generic Functions".
 use Rattle.std.specs.Prelude.{ℕ, List, ◌++◌, nat_eq, codes, if◌then◌else◌}
 use Rattle.std.specs.List.{ends_with}
 
@@ -28,17 +28,3 @@ unfoldable pub function_source : List ℕ → List ℕ
 function_source name =
     program_source (codes "#undef " ++ name ++ codes "\nchar " ++ name ++ codes " (void);")
     (codes "return " ++ name ++ codes " ();")
-
--- The program that checks whether a name is declared or is a macro. (Autoconf's manual, "Generic Declarations")
-unfoldable pub declaration_source : List ℕ → List ℕ → List ℕ
-declaration_source includes name =
-    program_source includes (codes "#ifndef " ++ name ++ codes "\n  (void) " ++ name ++ codes ";\n#endif")
-
--- The program that checks whether a name has a size, as types and values do. (Autoconf's manual, "Generic Types")
-unfoldable pub type_source : List ℕ → List ℕ → List ℕ
-type_source includes name = program_source includes (codes "if (sizeof (" ++ name ++ codes ")) return 0;")
-
--- The same program with the name in parentheses, in which a value still has a size but a type has none. (Autoconf's
--- manual, "Generic Types")
-unfoldable pub second_type_source : List ℕ → List ℕ → List ℕ
-second_type_source includes name = type_source includes (codes "(" ++ name ++ codes ")")

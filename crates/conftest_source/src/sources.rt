@@ -73,39 +73,6 @@ pub fn function_source(alloc: Global, name: &[u8]) -> Result<Bytes, AllocError>
     program_source(alloc, prologue.as_slice(), body.as_slice())
 }
 
-/// Returns a program that uses the name unless it is a macro, to be compiled (Autoconf's manual,
-/// "Generic Declarations").
-#[tactic(auto, unfolding(crate::specs::Sources::declaration_source))]
-pub fn declaration_source(alloc: Global, includes: &[u8], name: &[u8]) -> Result<Bytes, AllocError>
-    ensures { IfOk result (λ text. text ≡ sources.declaration_source includes.now name.now) }
-{
-    let body = around_twice(alloc, b"#ifndef ", name, b"\n  (void) ", b";\n#endif")?;
-    program_source(alloc, includes, body.as_slice())
-}
-
-/// Returns a program that takes the size of the named type or value, to be compiled (Autoconf's
-/// manual, "Generic Types").
-#[tactic(auto, unfolding(crate::specs::Sources::type_source))]
-pub fn type_source(alloc: Global, includes: &[u8], name: &[u8]) -> Result<Bytes, AllocError>
-    ensures { IfOk result (λ text. text ≡ sources.type_source includes.now name.now) }
-{
-    let body = around(alloc, b"if (sizeof (", name, b")) return 0;")?;
-    program_source(alloc, includes, body.as_slice())
-}
-
-/// Returns the program of [`type_source`] with the name in parentheses, to be compiled (Autoconf's
-/// manual, "Generic Types").
-///
-/// In parentheses a value still has a size, but a type has none. If the program of [`type_source`]
-/// compiles and this one doesn't, the name is a type.
-#[tactic(auto, unfolding(crate::specs::Sources::second_type_source))]
-pub fn second_type_source(alloc: Global, includes: &[u8], name: &[u8]) -> Result<Bytes, AllocError>
-    ensures { IfOk result (λ text. text ≡ sources.second_type_source includes.now name.now) }
-{
-    let name = around(alloc, b"(", name, b")")?;
-    type_source(alloc, includes, name.as_slice())
-}
-
 fn around(alloc: Global, front: &[u8], text: &[u8], back: &[u8]) -> Result<Vec<u8>, AllocError>
     ensures { IfOk result (λ v. v.items ≡ front.now ++ text.now ++ back.now) }
 {

@@ -87,20 +87,6 @@ pub fn begin_check(alloc: Global, store: &mut Store, message: &[u8]) -> Result<(
     say(alloc, store, Message::Checking, message)
 }
 
-/// Prints that a declaration is looked for.
-pub fn begin_declaration(alloc: Global, store: &mut Store, name: &[u8]) -> Result<(), AllocError>
-    ensures { OnOk result (
-        store.new ≡ checking (codes "whether " ++ name.now ++ codes " is declared") store.old) }
-{
-    store.add_note(
-        alloc,
-        Stream::Out,
-        b"checking whether ",
-        name,
-        b" is declared... ",
-    )
-}
-
 /// Prints the value that a check ends with.
 pub fn end_check(alloc: Global, store: &mut Store, value: &[u8]) -> Result<(), AllocError>
     ensures { OnOk result (store.new ≡ with_result value.now store.old) }

@@ -7,15 +7,13 @@
 #![tactic(auto)]
 
 use conftest::{Job, JobFault, compile_job, link_job};
-use conftest_source::{
-    declaration_source, default_includes, function_source, header_source, program_source,
-    second_type_source, type_source,
-};
+use conftest_source::{default_includes, function_source, header_source, program_source};
 use deftable::{Bytes, Defs, Vars, is_shell_name};
 use std::alloc::{AllocError, Global};
 use std::env;
 use std::io::{self, Write};
 use std::process::ExitCode;
+use test_forms::{Snippet, TestForm, declaration_form, type_form};
 
 /// How many definitions the sample with many of them has.
 const DEFINITIONS: u32 = 2000;
@@ -68,6 +66,22 @@ const SAMPLES: &[Sample] = &[
 /// Includes that a macro gives.
 const GIVEN: &[u8] = b"#include <sys/types.h>\n#include <sys/stat.h>\n";
 
+/// The source of a try of this form that has a body: no text if it has none.
+fn tried(
+    alloc: Global,
+    form: TestForm,
+    place: usize,
+    includes: &[u8],
+) -> Result<Bytes, AllocError> {
+    let Some(found) = form.tries.get(alloc, place)? else {
+        return Ok(Bytes::new(alloc));
+    };
+    match &found.snippet {
+        Snippet::Body { text } => program_source(alloc, includes, text.as_slice()),
+        _ => Ok(Bytes::new(alloc)),
+    }
+}
+
 /// The source of a sample.
 fn source_of(alloc: Global, sample: &Sample) -> Result<Bytes, AllocError> {
     let (_, _, _, test, includes, tested) = *sample;
@@ -75,9 +89,9 @@ fn source_of(alloc: Global, sample: &Sample) -> Result<Bytes, AllocError> {
     match test {
         Test::Header => header_source(alloc, includes, tested),
         Test::Function => function_source(alloc, tested),
-        Test::Declaration => declaration_source(alloc, includes, tested),
-        Test::Type => type_source(alloc, includes, tested),
-        Test::SecondType => second_type_source(alloc, includes, tested),
+        Test::Declaration => tried(alloc, declaration_form(alloc, tested, false)?, 0, includes),
+        Test::Type => tried(alloc, type_form(alloc, tested, false)?, 0, includes),
+        Test::SecondType => tried(alloc, type_form(alloc, tested, false)?, 1, includes),
         Test::Program => program_source(alloc, b"", tested),
     }
 }

@@ -4,17 +4,17 @@ ghost use Rattle.std.specs.Prelude.{◌≡◌, []};
 
 use conftest::Job;
 use conftest_source::{
-    declaration_source, default_includes, function_source, header_source, program_source,
-    put_ended, second_type_source, type_source,
+    default_includes, function_source, header_source, program_source, put_ended,
 };
 use crew::{Crew, MemoryCrew};
 use crew_progress::{Heard, Showing, Watched};
 use deftable::Bytes;
-use std::alloc::AllocError;
+use std::alloc::{AllocError, Global};
 use std::test::Fail;
 use test_crews::children::{Work, job_of, put_work};
 use test_crews::replies::{order_in, replies_in};
 use test_crews::streams::Sheet;
+use test_forms::{Snippet, TestForm, declaration_form, type_form};
 use test_rows::{Page, RowCall, cut, number_of, try_rows};
 
 /// Returns what is shown: a row says `lines`, `off`, or else the line of a terminal.
@@ -59,6 +59,22 @@ fn put_in_sight(page: &mut Page, shown: &[u8], replies: &[u8], order: &[u8], wor
     }
 }
 
+/// Returns the source of a try of this form that has a body, or no text if it has none.
+fn tried(
+    alloc: Global,
+    form: TestForm,
+    place: usize,
+    includes: &[u8],
+) -> Result<Bytes, AllocError> {
+    let Some(found) = form.tries.get(alloc, place)? else {
+        return Ok(Bytes::new(alloc));
+    };
+    match &found.snippet {
+        Snippet::Body { text } => program_source(alloc, includes, text.as_slice()),
+        _ => Ok(Bytes::new(alloc)),
+    }
+}
+
 /// Returns the source of a test: its kind, a blank, and what is tested. `program` has the body of
 /// `main`.
 fn source_of(page: &Page, test: &[u8]) -> Result<Bytes, AllocError> {
@@ -67,9 +83,9 @@ fn source_of(page: &Page, test: &[u8]) -> Result<Bytes, AllocError> {
     match kind {
         b"header" => header_source(alloc, default_includes(), name),
         b"function" => function_source(alloc, name),
-        b"declaration" => declaration_source(alloc, b"", name),
-        b"type" => type_source(alloc, default_includes(), name),
-        b"second" => second_type_source(alloc, b"", name),
+        b"declaration" => tried(alloc, declaration_form(alloc, name, false)?, 0, b""),
+        b"type" => tried(alloc, type_form(alloc, name, false)?, 0, default_includes()),
+        b"second" => tried(alloc, type_form(alloc, name, false)?, 1, b""),
         _ => program_source(alloc, b"", name),
     }
 }

@@ -4,10 +4,7 @@ use crate::of_deftable::{Tables, text_of};
 use conftest::{
     Job, JobFault, Words, compile_job, link_job, link_job_with, path_job, preproc_job, run_job,
 };
-use conftest_source::{
-    declaration_source, default_includes, function_source, header_source, program_source,
-    second_type_source, type_source,
-};
+use conftest_source::{default_includes, function_source, header_source, program_source};
 use std::alloc::AllocError;
 use std::test::Fail;
 use test_rows::{Page, RowCall, cut, try_rows};
@@ -193,9 +190,6 @@ source program,, => ^Jint^Jmain (void)^J{^J^J  ;^J  return 0;^J}^J
 source program,x,y; => x^Jint^Jmain (void)^J{^Jy;^J  ;^J  return 0;^J}^J
 source header,x,a.h => x^J#include <a.h>
 source function,,f => #undef f^Jchar f (void);^Jint^Jmain (void)^J{^Jreturn f ();^J  ;^J  return 0;^J}^J
-source declaration,#include <a.h>,s => #include <a.h>^Jint^Jmain (void)^J{^J#ifndef s^J  (void) s;^J#endif^J  ;^J  return 0;^J}^J
-source type,x,char * => x^Jint^Jmain (void)^J{^Jif (sizeof (char *)) return 0;^J  ;^J  return 0;^J}^J
-source second,x,char * => x^Jint^Jmain (void)^J{^Jif (sizeof ((char *))) return 0;^J  ;^J  return 0;^J}^J
 ";
 
 fn put_header_test(page: &mut Page, definitions: &[u8]) {
@@ -212,10 +206,7 @@ fn put_source(page: &mut Page, given: &[u8]) {
     let source = match kind.first() {
         Some(b'p') => program_source(alloc, front, name),
         Some(b'h') => header_source(alloc, front, name),
-        Some(b'f') => function_source(alloc, name),
-        Some(b'd') => declaration_source(alloc, front, name),
-        Some(b't') => type_source(alloc, front, name),
-        _ => second_type_source(alloc, front, name),
+        _ => function_source(alloc, name),
     };
     if let Some(source) = page.given(source) {
         page.put(source.as_slice());
