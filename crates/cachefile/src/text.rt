@@ -1,6 +1,6 @@
 //! The cache text of variables.
 
-ghost use Rattle.std.specs.Prelude.{◌≡◌, ◌≤◌, ◌++◌, ◌∷◌, [], IfOk, OnOk, length, codes};
+ghost use Rattle.std.specs.Prelude.{◌≡◌, ◌≤◌, ◌++◌, ◌∷◌, [], IfOk, OnOk, length, map, codes};
 ghost use Rattle.deftable.specs.Table as table;
 ghost use Rattle.cachefile.specs.Cache as cache;
 ghost use Rattle.cachefile.specs.Text as words;
@@ -30,44 +30,47 @@ fn has_brace(value: &[u8]) -> bool
     value.iter().any(|byte| *byte == b'{' || *byte == b'}')
 }
 
-fn insert(
-    alloc: Global,
-    sorted: &mut BTreeMap<Bytes, Bytes>,
-    name: &[u8],
-    value: &[u8],
+fn insert<'a>(
+    sorted: &mut BTreeMap<&'a [u8], &'a [u8]>,
+    name: &'a [u8],
+    value: &'a [u8],
 ) -> Result<(), AllocError>
-    ensures entries { OnOk result (
-        sorted.new.entries ≡ words.with_placed sorted.old.entries (name.now, value.now)) }
-    ensures order { OnOk result (words.AreInOrder sorted.new.entries) }
+    ensures entries { OnOk result (map (λ e. (e.0.now, e.1.now)) sorted.new.entries
+        ≡ words.with_placed (map (λ e. (e.0.now, e.1.now)) sorted.old.entries) (name.now, value.now)) }
+    ensures order { OnOk result (
+        words.AreInOrder (map (λ e. (e.0.now, e.1.now)) sorted.new.entries)) }
 {
-    let name = Bytes::from_slice(alloc, name)?;
-    let value = Bytes::from_slice(alloc, value)?;
     sorted.insert(name, value)?;
     Ok(())
 }
 
 // Inserts the variable if it is saved.
-fn save(
-    alloc: Global,
-    sorted: &mut BTreeMap<Bytes, Bytes>,
-    name: &[u8],
-    value: &[u8],
+fn save<'a>(
+    sorted: &mut BTreeMap<&'a [u8], &'a [u8]>,
+    name: &'a [u8],
+    value: &'a [u8],
 ) -> Result<(), AllocError>
-    ensures entries { OnOk result (
-        sorted.new.entries ≡ words.with_saved sorted.old.entries (name.now, value.now)) }
+    ensures entries { OnOk result (map (λ e. (e.0.now, e.1.now)) sorted.new.entries
+        ≡ words.with_saved (map (λ e. (e.0.now, e.1.now)) sorted.old.entries) (name.now, value.now)) }
     ensures order { OnOk result (
-        words.AreInOrder sorted.old.entries → words.AreInOrder sorted.new.entries) }
+        words.AreInOrder (map (λ e. (e.0.now, e.1.now)) sorted.old.entries)
+        → words.AreInOrder (map (λ e. (e.0.now, e.1.now)) sorted.new.entries)) }
 {
     if is_saved(name, value) {
-        return insert(alloc, sorted, name, value);
+        return insert(sorted, name, value);
     }
     Ok(())
 }
 
 // Returns the variables that are saved, in the byte order of their names.
-fn saved_entries(alloc: Global, vars: &Vars) -> Result<BTreeMap<Bytes, Bytes>, AllocError>
-    ensures entries { IfOk result (λ m. m.entries ≡ words.saved_entries vars.now) }
-    ensures order { IfOk result (λ m. words.AreInOrder m.entries) }
+fn saved_entries<'a>(
+    alloc: Global,
+    vars: &'a Vars,
+) -> Result<BTreeMap<&'a [u8], &'a [u8]>, AllocError>
+    ensures entries { IfOk result (λ m.
+        map (λ e. (e.0.now, e.1.now)) m.entries ≡ words.saved_entries vars.now) }
+    ensures order { IfOk result (λ m.
+        words.AreInOrder (map (λ e. (e.0.now, e.1.now)) m.entries)) }
     ensures distinct { IfOk result (λ m. table.HasDistinctNames vars.now) }
 {
     let mut sorted = BTreeMap::new(alloc);
@@ -77,7 +80,7 @@ fn saved_entries(alloc: Global, vars: &Vars) -> Result<BTreeMap<Bytes, Bytes>, A
     'indices: while left > 0 {
         left -= 1;
         let (name, value) = vars.at(left);
-        save(alloc, &mut sorted, name, value)?;
+        save(&mut sorted, name, value)?;
     }
     Ok(sorted)
 }
@@ -139,13 +142,13 @@ fn push_line(alloc: Global, text: &mut Vec<u8>, name: &[u8], value: &[u8]) -> Re
     text.extend_from_slice(b"\n")
 }
 
-fn write(alloc: Global, entries: BTreeMap<Bytes, Bytes>) -> Result<Bytes, AllocError>
-    ensures { IfOk result (λ t.
-        t ≡ codes "# config.cache of configure\n" ++ words.lines_for entries.entries) }
+fn write(alloc: Global, entries: BTreeMap<&[u8], &[u8]>) -> Result<Bytes, AllocError>
+    ensures { IfOk result (λ t. t ≡ codes "# config.cache of configure\n"
+        ++ words.lines_for (map (λ e. (e.0.now, e.1.now)) entries.entry.entries)) }
 {
     let mut text = Vec::from_slice(alloc, b"# config.cache of configure\n")?;
     'entries: for (name, value) in entries {
-        push_line(alloc, &mut text, name.as_slice(), value.as_slice())?;
+        push_line(alloc, &mut text, name, value)?;
     }
     Ok(Bytes::from_vec(text))
 }
