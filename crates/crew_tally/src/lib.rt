@@ -2,12 +2,14 @@
 //! how many children it started, and how long it took.
 //!
 //! ```text
-//! let mut output = Counted::new(rt.stdout());
+//! let mut output = Counted::new(rt.stdout(), true);
 //! output.write_all(b"checking for stdio.h... (cached) yes\n")?;
-//! summary(alloc, &output.tally(), 0, 12)?;             // acrun: 1 check, 1 from the cache, no children, 12 ms
+//! if let Some(tally) = output.tally() {
+//!     summary(alloc, &tally, 0, 12)?; // acrun: 1 check, 1 from the cache, no children, 12 ms
+//! }
 //! ```
 //!
-//! The checks are counted in what is printed: each line that begins with `checking ` is one, and if
+//! If it is asked, the checks are counted in what is printed: each line that begins with `checking ` is one, and if
 //! it has `(cached) `, the cache had its answer.
 //!
 //! "own" marks a rule that no manual gives.

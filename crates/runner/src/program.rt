@@ -477,7 +477,7 @@ fn millis_since(rt: &HostRuntime, begun: &io::Result<Instant>) -> u64 {
     }
 }
 
-/// Sums a run up that began then, on its last line, if it is asked.
+/// Sums a run up that began then, on its last line, if its checks were counted.
 ///
 /// # Errors
 ///
@@ -485,21 +485,20 @@ fn millis_since(rt: &HostRuntime, begun: &io::Result<Instant>) -> u64 {
 fn sum_up<E: Hears>(
     rt: &HostRuntime,
     alloc: Global,
-    is_asked: bool,
     begun: &io::Result<Instant>,
-    tally: &Tally,
+    tally: &Option<Tally>,
     children: u64,
     errors: &mut E,
 ) -> Result<(), AllocError>
-    // If it is asked, a run that made a check has its line, unless standard error failed.
-    ensures summed { OnOk result (is_asked ≡ true
-        → (millis : ℕ)
-        × IsSummed E.contents E.has_failed errors.old errors.new (summary tally.now children millis)) }
-    ensures unasked { is_asked ≡ false → errors.new ≡ errors.old }
+    // If its checks were counted, a run that made one has its line, unless standard error failed.
+    ensures summed { OnOk result (IfSome tally.now (λ tally.
+        (millis : ℕ)
+        × IsSummed E.contents E.has_failed errors.old errors.new (summary tally children millis))) }
+    ensures unasked { tally.now ≡ None → errors.new ≡ errors.old }
 {
-    if !is_asked {
+    let Some(tally) = tally else {
         return Ok(());
-    }
+    };
     let line = summary(alloc, tally, children, millis_since(rt, begun))?;
     put_line(&line, errors);
     Ok(())
@@ -583,6 +582,7 @@ pub fn command<C: Crew + Causes + Children>(
     let is_seen = rt.stderr().is_terminal();
     let is_terminal = rt.stdout().is_terminal();
     let is_shown = is_terminal && shows_output(words);
+    let is_summed = is_seen && asks_run(words);
     let begun = Instant::now(&rt);
     let mut terminal = Terminal {
         alloc,
@@ -590,21 +590,12 @@ pub fn command<C: Crew + Causes + Children>(
         env,
         outputs: FileOutputs::new(alloc, Host::new(&rt)),
         input: rt.reader(),
-        output: Counted::new(Shown::new(io::writer(&rt), is_shown)),
+        output: Counted::new(Shown::new(io::writer(&rt), is_shown), is_summed),
         errors: Heard::new(Shown::new(rt.stderr(), is_seen)),
     };
     let status = run(&mut terminal, &rt, words, crew, is_terminal);
-    let is_summed = is_seen && asks_run(words);
     let tally = terminal.output.tally();
     let children = crew.children();
-    let _ = sum_up(
-        &rt,
-        alloc,
-        is_summed,
-        &begun,
-        &tally,
-        children,
-        &mut terminal.errors,
-    );
+    let _ = sum_up(&rt, alloc, &begun, &tally, children, &mut terminal.errors);
     status
 }

@@ -149,11 +149,12 @@ fn put_texts<W: Write>(page: &mut Page, stream: &mut W, is_once: bool, texts: &[
 /// Writes texts to a stream that counts checks, and puts how many there are, and how many the cache
 /// answered.
 fn put_counted(page: &mut Page, stream: Side<'_>, is_once: bool, texts: &[u8]) {
-    let mut counted = Counted::new(stream);
+    let mut counted = Counted::new(stream, true);
     put_texts(page, &mut counted, is_once, texts);
-    let tally = counted.tally();
-    page.put_shown(&tally.checks());
-    page.put_shown(&tally.cached());
+    if let Some(tally) = counted.tally() {
+        page.put_shown(&tally.checks());
+        page.put_shown(&tally.cached());
+    }
 }
 
 /// Does what a row asks of these two streams.

@@ -16,13 +16,16 @@ const TEXTS: [&[u8]; 5] = [
 
 /// Writes the texts, and compares the line.
 fn try_line(rt: &HostRuntime, texts: &[&[u8]], millis: u64, wanted: &[u8]) -> Result<(), Fail> {
-    let mut output = Counted::new(Vec::new(rt.alloc()));
+    let mut output = Counted::new(Vec::new(rt.alloc()), true);
     for text in texts {
         if output.write_all(text).is_err() {
             return Err(Fail::new("a write fails"));
         }
     }
-    let line = match &summary(rt.alloc(), &output.tally(), 1, millis) {
+    let Some(tally) = output.tally() else {
+        return Err(Fail::new("nothing is counted"));
+    };
+    let line = match &summary(rt.alloc(), &tally, 1, millis) {
         Ok(Some(line)) => line.as_slice() == wanted,
         Ok(None) => wanted.is_empty(),
         Err(_) => false,
@@ -41,4 +44,13 @@ fn checks_are_counted(rt: HostRuntime) -> Result<(), Fail> {
     let cached = b"acrun: 1 check, 1 from the cache, 1 child, 7 ms\n";
     try_line(&rt, &[b"checking for a.h... (cached) yes\n"], 7, cached)?;
     try_line(&rt, &[], 1, b"")
+}
+
+#[test]
+fn checks_that_are_not_asked_are_not_counted(rt: HostRuntime) -> Result<(), Fail> {
+    let mut output = Counted::new(Vec::new(rt.alloc()), false);
+    if output.write_all(b"checking for a.h... yes\n").is_err() || output.tally().is_some() {
+        return Err(Fail::new("checks are counted"));
+    }
+    Ok(())
 }
