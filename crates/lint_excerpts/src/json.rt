@@ -1,6 +1,8 @@
 //! A finding as JSON.
 
-ghost use Rattle.std.specs.Prelude.{◌≡◌};
+ghost use Rattle.std.specs.Prelude.{◌≡◌, true, IfOk};
+ghost use Rattle.std.specs.List.{list_all};
+ghost use Rattle.lint_excerpts.specs.Plain.{is_plain};
 
 use crate::draft::Draft;
 use crate::excerpt::word_of;
@@ -18,12 +20,18 @@ fn quoted(alloc: Global, text: &[u8]) -> Result<String, AllocError> {
     Value::String(text).to_string(alloc)
 }
 
-/// Writes a text that JSON has quoted, with characters that turn or hide text by their numbers.
+/// Returns whether a character is written by its number: one that turns or hides text, or a control
+/// character that JSON takes as it is.
+fn is_numbered(c: char) -> bool {
+    is_mark(c) || ('\u{7f}'..='\u{9f}').contains(&c)
+}
+
+/// Writes a text that JSON has quoted, with such characters by their numbers.
 fn put_quoted(draft: &mut Draft, quoted: &[u8])
     ensures { draft.new ≡ draft.old }
 {
     for (start, end, c) in quoted.char_indices() {
-        if is_mark(c) {
+        if is_numbered(c) {
             draft.put_code(c);
         } else {
             draft.put(from(before(quoted, end), start));
@@ -70,10 +78,13 @@ pub fn json_of(
     finding: &Finding,
     name: &[u8],
     text: &[u8],
-) -> Result<Bytes, AllocError> {
+) -> Result<Bytes, AllocError>
+    // No text of a file or its name can drive a terminal.
+    ensures safe { IfOk result (λ line. list_all is_plain line ≡ true) }
+{
     let start = position_of(text, finding.start);
     let end = position_of(text, finding.end);
-    let mut draft = Draft::new(alloc, true);
+    let mut draft = Draft::new(alloc, false);
     draft.put(b"{");
     put_text(alloc, &mut draft, b"file", name, b",");
     put_number(&mut draft, b"line", start.line);

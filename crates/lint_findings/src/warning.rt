@@ -1,6 +1,7 @@
-//! Adds warnings.
+//! Appends warnings.
 
-ghost use Rattle.std.specs.Prelude.{◌≡◌, ◌≤◌, length, OnOk};
+ghost use Rattle.std.specs.Prelude.{◌≡◌, ◌≤◌, ◌∷◌, ◌++◌, [], length, OnOk};
+ghost use Rattle.lint_findings.specs.Warned as specs;
 ghost use Rattle.lint_findings.specs.Within.{KeepsWithin};
 
 use crate::finding::{Finding, Severity, Span};
@@ -8,6 +9,7 @@ use std::alloc::{AllocError, Global};
 
 /// Returns the part of the span that is in the text, or its end if the span is after it.
 fn within(text: &[u8], span: Span) -> Span
+    ensures value { result ≡ specs.span_within text.now span }
     ensures file { result.file ≡ span.file }
     ensures order { result.start ≤ result.end }
     ensures end { result.end ≤ length text.now }
@@ -20,7 +22,7 @@ fn within(text: &[u8], span: Span) -> Span
     }
 }
 
-/// Adds a warning about a part of a file with this text. What is after the end of the text is no
+/// Appends a warning about a part of a file with this text. What is after the end of the text is no
 /// part of it. The code, the message and the help are those of [`Finding`].
 ///
 /// # Errors
@@ -35,6 +37,10 @@ pub fn warn(
     message: &[u8],
     help: &[u8],
 ) -> Result<(), AllocError>
+    // The findings stay as they were, and after them is the warning.
+    ensures added { OnOk result (
+        out.new.items ≡ out.old.items
+        ++ (specs.warning_of text.now span code.now message.now help.now ∷ [])) }
     // If the findings of this file were in its text, they still are.
     ensures within { OnOk result (KeepsWithin span.file text.now out.old.items out.new.items) }
 {

@@ -1,10 +1,11 @@
 //! What is wrong and what to do, put together from words and parts.
 
-ghost use Rattle.std.specs.Prelude.{◌≡◌, ◌++◌, [], true, IfOk, OnOk, IsTrue};
+ghost use Rattle.std.specs.Prelude.{◌≡◌, ◌++◌, ◌∷◌, [], true, IfOk, OnOk, IsTrue};
+ghost use Rattle.lint_findings.specs.Warned.{warning_of};
 ghost use Rattle.lint_findings.specs.Within.{KeepsWithin};
 ghost use Rattle.lint_findings.specs.declared.finding.Severity.TheVariants.{Error};
 ghost use Rattle.lint_table.specs.Filling as words;
-ghost use Rattle.lint_table.specs.Keys.{help_of, message_of};
+ghost use Rattle.lint_table.specs.Keys.{help_of, message_of, name_of};
 
 use crate::filling::fill;
 use crate::key::Key;
@@ -142,6 +143,7 @@ impl Page {
         ensures start { IfOk result (λ finding. finding.start ≡ start) }
         ensures end { IfOk result (λ finding. finding.end ≡ end) }
         ensures severity { IfOk result (λ finding. finding.severity ≡ Error) }
+        ensures code { IfOk result (λ finding. finding.code ≡ code) }
         ensures message { IfOk result (λ finding. finding.message ≡ self.message) }
         ensures help { IfOk result (λ finding. finding.help ≡ self.help) }
     {
@@ -170,6 +172,11 @@ impl Page {
         span: Span,
         code: &[u8],
     ) -> Result<(), AllocError>
+        ensures whole { OnOk result (IsTrue self.is_whole) }
+        // The findings stay as they were, and after them is the warning.
+        ensures added { OnOk result (
+            out.new.items ≡ out.old.items
+            ++ (warning_of text.now span code.now self.message self.help ∷ [])) }
         // If the findings of this file were in its text, they still are.
         ensures within { OnOk result (KeepsWithin span.file text.now out.old.items out.new.items) }
     {
@@ -187,6 +194,9 @@ fn warn_in(
     code: &[u8],
     words: &Words,
 ) -> Result<(), AllocError>
+    ensures added { OnOk result (
+        out.new.items ≡ out.old.items
+        ++ (warning_of text.now span code.now words.now.message words.now.help ∷ [])) }
     ensures within { OnOk result (KeepsWithin span.file text.now out.old.items out.new.items) }
 {
     let message = words.message.as_slice();
@@ -207,6 +217,12 @@ pub fn warn_by_key(
     key: Key,
     parts: &[WordPart<'_>],
 ) -> Result<(), AllocError>
+    // The findings stay as they were, and after them is the warning with the words of the key.
+    ensures added { OnOk result (
+        out.new.items ≡ out.old.items
+        ++ (warning_of text.now span (name_of key) (words.filled parts.now (message_of key))
+        (words.filled parts.now (help_of key))
+        ∷ [])) }
     // If the findings of this file were in its text, they still are.
     ensures within { OnOk result (KeepsWithin span.file text.now out.old.items out.new.items) }
 {

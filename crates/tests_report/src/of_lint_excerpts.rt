@@ -29,10 +29,10 @@ fn put_excerpt(page: &mut Page, text: &[u8], error: &Finding) {
 
 /// Puts an error as JSON, up to its code.
 fn put_object(page: &mut Page, text: &[u8], error: &Finding) {
-    let made = json_of(page.alloc(), error, b"a\"b", text);
+    let made = json_of(page.alloc(), error, b"a\"\x7fb", text);
     if let Some(shown) = page.given(made) {
         let shown = shown.as_slice();
-        page.put(&shown[..shown.len().min(103)]);
+        page.put(&shown[..shown.len().min(109)]);
     }
 }
 
@@ -88,7 +88,7 @@ AC_INIT([a], [1]) =>  a.ac:1:18: error: there is no AC_OUTPUT|     1 | AC_INIT([
 "##;
 
 const OBJECTS: &[u8] = br##"
-AC_INIT([a], [1])^JAX_Y^JAC_OUTPUT => {"file":"a\"b","line":2,"column":1,"end_line":2,"end_column":5,"severity":"error","code":"parse-2","mes
+AC_INIT([a], [1])^JAX_Y^JAC_OUTPUT => {"file":"a\"\u007fb","line":2,"column":1,"end_line":2,"end_column":5,"severity":"error","code":"parse-2","mes
 "##;
 
 #[test]
