@@ -48,6 +48,8 @@ KINDS = [
      [*MACRO, "docs/how-it-runs.md"], [BY_MACROS]),
     ("A cached test", "AC_CHECK_LIB", r"\w*[Ll]ibrary\w*", "AC_CHECK_LIB", (),
      [*MACRO, "docs/how-it-runs.md", "docs/formats.md"], [BY_MACROS]),
+    ("An entry", "AC_CHECK_DECLS", r"Declaration|declaration_form|NO_DECLARATIONS?|reads AC_CHECK_DECLS|JAC_CHECK_DECLS", "AC_CHECK_DECLS", (),
+     [*MACRO, *WORDS, "docs/how-it-runs.md"], [BY_MACROS, BY_WORDS]),
     ("An option", "`--no-create`", r"NoCreate|no_create", "--no-create", (),
      [*CASES, "docs/commands.md", "docs/packaging.md", "CHANGELOG.md", "share/acrun.1", "share/completions", "share/configure", "tools/fuzz.py"], []),
     ("An output kind", "the headers",
