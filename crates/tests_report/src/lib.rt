@@ -24,6 +24,8 @@ mod of_lint_errors;
 #[cfg(test)]
 mod of_lint_excerpts;
 #[cfg(test)]
+mod of_lint_marks;
+#[cfg(test)]
 mod of_lint_table;
 #[cfg(test)]
 mod of_lint_text;

@@ -1,0 +1,4 @@
+pub mod Quotes
+pub mod Heres
+pub mod Marks
+pub mod Fronts
