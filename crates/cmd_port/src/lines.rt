@@ -2,7 +2,7 @@
 
 use ac_calls::{CallAt, Extent};
 use bstr::ByteSlice;
-use lint_all::Scan;
+use lint_marks::Scan;
 use lint_text::{after_blanks, first_line, first_word, from, without_end_blanks};
 use std::alloc::{AllocError, Global};
 
@@ -56,7 +56,7 @@ impl Opened {
 
     /// Returns the offset of the bracket that is open, if one is.
     fn open_bracket(&self) -> Option<usize> {
-        if self.scan.depth() > 0 {
+        if self.scan.quotes.depth > 0 {
             Some(self.bracket)
         } else {
             None
@@ -65,7 +65,7 @@ impl Opened {
 
     /// Returns the offset of the quote of the shell that is open, if one is.
     fn open_quote(&self) -> Option<usize> {
-        if self.scan.is_in_quote() {
+        if self.scan.shell.is_quoted() {
             Some(self.quote)
         } else {
             None
@@ -74,15 +74,12 @@ impl Opened {
 
     /// Reads the byte at an offset.
     fn read(&mut self, text: &[u8], at: usize) {
-        let Some(byte) = text.get(at) else {
-            return;
-        };
         let before = self.scan;
-        self.scan.read(*byte, from(text, at));
-        if before.depth() == 0 {
+        self.scan.read(from(text, at));
+        if before.quotes.depth == 0 {
             self.bracket = at;
         }
-        if !before.is_in_quote() {
+        if !before.shell.is_quoted() {
             self.quote = at;
         }
     }

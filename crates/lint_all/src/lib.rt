@@ -13,8 +13,8 @@
 //! all_errors(alloc, text, &read(alloc, text)?)?   // `x y` at 17, and AC_SUBST at 21
 //! ```
 //!
-//! Read `scan` (what is open at a place), `calling` (what looks like a call), `pieces` (where a piece begins), `masking` (what becomes
-//! blanks), `rounds` (the errors of one piece, or of the whole), `joining` (each error once), and
+//! `lint_marks` says what is open at a place. Read `calling` (what looks like a call), `pieces`
+//! (where a piece begins), `masking` (what becomes blanks), `rounds` (the errors of one piece, or of the whole), `joining` (each error once), and
 //! then `runs` (all pieces) and `whole`. `specs/Found` has the definitions. A call fails only if
 //! memory runs out. "own" marks a rule that no manual gives.
 #![tactic(auto)]
@@ -25,8 +25,6 @@ mod masking;
 mod pieces;
 mod rounds;
 mod runs;
-mod scan;
 mod whole;
 
-pub use scan::Scan;
 pub use whole::all_errors;

@@ -1,8 +1,8 @@
 //! Blanks in place of a statement, so that the errors after it are found.
 
 use crate::calling::called_len;
-use crate::scan::Scan;
 use ac_calls::{CallAt, Extent};
+use lint_marks::{QuotePart, Scan};
 use lint_text::{after_blanks, from, part};
 
 /// Writes a space for each byte between two offsets, but for newlines. Returns whether that changed
@@ -124,10 +124,20 @@ fn bare_start(text: &[u8], calls: &[CallAt], place: usize) -> usize {
 fn scan_after(text: &[u8]) -> Scan {
     let mut scan = Scan::new();
     for i in 0..text.len() {
-        scan.read(text[i], &text[i..]);
+        scan.read(&text[i..]);
     }
     scan.begin_statement();
     scan
+}
+
+/// Returns whether the shell's statement ends before a byte, with which the text begins: before a
+/// newline, a comment or `dnl` that is in no quote of the shell.
+fn ends_before(scan: Scan, byte: u8, text: &[u8]) -> bool {
+    let is_dropped = matches!(scan.quotes.part, QuotePart::Dropped);
+    if is_dropped || scan.shell.is_escaped || scan.shell.is_quoted() {
+        return false;
+    }
+    byte == b'\n' || byte == b'#' && scan.shell.is_start() || scan.quotes.begins_dropped(text)
 }
 
 /// Returns the length of the shell statement that a text begins with, up to the newline after it, a
@@ -135,12 +145,12 @@ fn scan_after(text: &[u8]) -> Scan {
 fn statement_len(before: Scan, text: &[u8]) -> usize {
     let mut scan = before;
     for i in 0..text.len() {
-        if scan.ends_before(text[i], &text[i..]) {
+        if ends_before(scan, text[i], &text[i..]) {
             return i;
         }
-        scan.read(text[i], &text[i..]);
+        scan.read(&text[i..]);
     }
-    if scan.is_in_quote() {
+    if scan.shell.is_quoted() {
         line_len(text)
     } else {
         text.len()
@@ -159,6 +169,12 @@ fn put_blank(text: &mut [u8], at: usize) {
     }
 }
 
+/// Returns whether a byte, with which the text begins, has to stay where a statement becomes blanks:
+/// it is one of a dropped line, or a bracket that quotes.
+fn stays(scan: Scan, byte: u8, text: &[u8]) -> bool {
+    scan.is_unseen(byte, text) || scan.quotes.is_text() && matches!(byte, b'[' | b']')
+}
+
 /// Writes a space for each byte of a statement between two offsets, but for newlines, brackets that
 /// quote, and lines from `dnl` on. Returns whether that changed anything.
 fn blank_statement(before: Scan, text: &mut [u8], start: usize, end: usize) -> bool {
@@ -169,8 +185,9 @@ fn blank_statement(before: Scan, text: &mut [u8], start: usize, end: usize) -> b
         let Some(byte) = rest.first().copied() else {
             return has_changed;
         };
-        scan.read(byte, rest);
-        if byte != b'\n' && byte != b' ' && !scan.keeps(byte) {
+        let goes = byte != b'\n' && byte != b' ' && !stays(scan, byte, rest);
+        scan.read(rest);
+        if goes {
             put_blank(text, i);
             has_changed = true;
         }

@@ -1,8 +1,8 @@
 //! Where the pieces of a source begin, each of which can be read alone.
 
 use crate::calling::called_len;
-use crate::scan::Scan;
 use ac_calls::CallAt;
+use lint_marks::Scan;
 use lint_text::{after_blanks, from};
 use std::alloc::{AllocError, Global};
 
@@ -13,6 +13,11 @@ fn after_called(text: &[u8], at: usize) -> usize {
     let blanks = rest.len().saturating_sub(statement.len());
     at.saturating_add(blanks)
         .saturating_add(called_len(statement))
+}
+
+/// Returns whether a bracket or a quote is open, or a backslash quotes the next byte.
+fn is_open(scan: Scan) -> bool {
+    scan.quotes.depth > 0 || scan.shell.is_quoted() || scan.shell.is_escaped
 }
 
 /// Appends the offsets between two others at which a piece begins. None begins within what looks
@@ -28,7 +33,9 @@ fn push_starts(
     let end = end.min(text.len());
     for i in start..end {
         let next = i.saturating_add(1);
-        if scan.read(text[i], &text[i..]) && *called <= next {
+        let begins = text[i] == b'\n' && !is_open(*scan);
+        scan.read(&text[i..]);
+        if begins && *called <= next {
             out.push(next)?;
             *called = after_called(text, next);
         }

@@ -11,11 +11,11 @@ use crate::joining::joined;
 use crate::masking::{blank, inner_start};
 use crate::rounds::{Copy, Piece, Reader, add_rounds};
 use crate::runs::add_pieces;
-use crate::scan::Scan;
 use ac_calls::CallAt;
 use lint_errors::{Reading, errors_of};
 use lint_findings::{Finding, put_in_order};
 use lint_macros::Index;
+use lint_marks::Scan;
 use std::alloc::{AllocError, Global};
 
 /// How many bytes are read at least, to find errors one after the other, and how often the length
@@ -56,8 +56,8 @@ fn quotes_of(alloc: Global, text: &[u8], marks: &[bool]) -> Result<Vec<bool>, Al
         if marks.get(i) == Some(&true) {
             scan = Scan::new();
         }
-        out.push(scan.is_in_quote())?;
-        scan.read(text[i], &text[i..]);
+        out.push(scan.shell.is_quoted())?;
+        scan.read(&text[i..]);
     }
     Ok(out)
 }

@@ -3,24 +3,17 @@
 ghost use Rattle.std.specs.Prelude.{◌≡◌, ◌+◌, ◌≤◌, length, IfOk};
 ghost use Rattle.lint_errors.specs.Errors as specs;
 
+use lint_marks::{Scan, ShellState};
 use m4quote::{Item, QuoteFault, bare_value, read_items_at};
-use shell_bare::{
-    BareContext, BareFault, after_quoted, escapes, following, is_part_end, read_statements,
-};
+use shell_bare::{BareContext, BareFault, escapes, is_part_end, read_statements};
 use shellword::ShellFault;
 use std::alloc::{AllocError, Global};
 
 /// A walk over text between calls.
 #[derive(Clone, Copy)]
-struct Walk {
-    /// The context of the next byte.
-    place: BareContext,
-    /// The number of brackets that are open.
-    depth: usize,
-    /// Whether the next byte is in a comment of m4, in which brackets don't quote.
-    is_comment: bool,
-    /// Whether the last byte is a backslash that quotes the next one.
-    escaped: bool,
+struct PieceWalk {
+    /// What is open at the next byte.
+    scan: Scan,
     /// The number of bytes of the text's value so far, without its line continuations.
     kept: usize,
     /// The offset after the last end of a statement.
@@ -28,90 +21,40 @@ struct Walk {
 }
 
 /// Returns whether the byte ends a statement.
-fn ends_statement(place: BareContext, byte: u8) -> bool {
-    match place {
+fn ends_statement(shell: ShellState, byte: u8) -> bool {
+    if shell.is_escaped {
+        return false;
+    }
+    match shell.place {
         BareContext::Start | BareContext::Word => byte == b'\n' || byte == b';',
         BareContext::Comment => byte == b'\n',
         BareContext::Single | BareContext::Double => false,
     }
 }
 
-/// Returns the walk after the byte at index `i`, which no backslash quotes.
-fn kept_step(walk: Walk, i: usize, byte: u8) -> Walk {
-    let place = walk.place;
-    if byte == b'\\' && escapes(place) {
-        return Walk {
-            escaped: true,
-            ..walk
-        };
+/// Returns how many bytes the value has of a byte, with the backslash before it that quotes it. A
+/// backslash and a newline are no part of the value.
+fn kept_of(shell: ShellState, byte: u8) -> usize {
+    if shell.is_escaped {
+        return if byte == b'\n' { 0 } else { 2 };
     }
-    let start = if ends_statement(place, byte) {
+    usize::from(byte != b'\\' || !escapes(shell.place))
+}
+
+/// Returns the walk after the byte at index `i`, with which the text begins.
+fn step(walk: PieceWalk, i: usize, byte: u8, text: &[u8]) -> PieceWalk {
+    let Scan { shell, .. } = walk.scan;
+    let scan = walk.scan.after(text);
+    if walk.scan.is_unseen(byte, text) {
+        return PieceWalk { scan, ..walk };
+    }
+    let start = if ends_statement(shell, byte) {
         i.saturating_add(1)
     } else {
         walk.start
     };
-    Walk {
-        place: following(place, byte),
-        kept: walk.kept.saturating_add(1),
-        start,
-        ..walk
-    }
-}
-
-/// Returns the walk after a byte that a backslash quotes. A backslash and a newline are no part of
-/// the value.
-fn escaped_step(walk: Walk, byte: u8) -> Walk {
-    if byte == b'\n' {
-        return Walk {
-            escaped: false,
-            ..walk
-        };
-    }
-    Walk {
-        escaped: false,
-        place: after_quoted(walk.place),
-        kept: walk.kept.saturating_add(2),
-        ..walk
-    }
-}
-
-/// Returns whether a byte is a bracket of the outermost quotes, which are no part of the value.
-fn is_outer_bracket(walk: Walk, byte: u8) -> bool {
-    !walk.is_comment && (byte == b'[' && walk.depth == 0 || byte == b']' && walk.depth == 1)
-}
-
-/// Returns the walk after m4 has read a byte: brackets quote, and a `#` outside quotes begins a
-/// comment.
-fn quoted_step(walk: Walk, byte: u8) -> Walk {
-    if walk.is_comment {
-        return Walk {
-            is_comment: byte != b'\n',
-            ..walk
-        };
-    }
-    let depth = match byte {
-        b'[' => walk.depth.saturating_add(1),
-        b']' => walk.depth.saturating_sub(1),
-        _ => walk.depth,
-    };
-    Walk {
-        depth,
-        is_comment: byte == b'#' && walk.depth == 0,
-        ..walk
-    }
-}
-
-/// Returns the walk after the byte at index `i`.
-fn step(walk: Walk, i: usize, byte: u8) -> Walk {
-    let is_dropped = is_outer_bracket(walk, byte);
-    let walk = quoted_step(walk, byte);
-    if is_dropped {
-        walk
-    } else if walk.escaped {
-        escaped_step(walk, byte)
-    } else {
-        kept_step(walk, i, byte)
-    }
+    let kept = walk.kept.saturating_add(kept_of(shell, byte));
+    PieceWalk { scan, kept, start }
 }
 
 /// Returns the number of blanks at the front.
@@ -126,11 +69,8 @@ fn blank_len(text: &[u8]) -> usize
 fn statement_start(piece: &[u8], offset: usize) -> usize
     ensures { result ≤ length piece.now }
 {
-    let mut walk = Walk {
-        place: BareContext::Start,
-        depth: 0,
-        is_comment: false,
-        escaped: false,
+    let mut walk = PieceWalk {
+        scan: Scan::new(),
         kept: 0,
         start: 0,
     };
@@ -138,7 +78,7 @@ fn statement_start(piece: &[u8], offset: usize) -> usize
         if walk.kept > offset {
             break;
         }
-        walk = step(walk, i, *byte);
+        walk = step(walk, i, *byte, &piece[i..]);
     }
     let start = walk.start.min(piece.len());
     start + blank_len(&piece[start..])
