@@ -1,9 +1,9 @@
 //! Warnings about calls.
 
-use crate::extent::{Named, assigns, bare, is_given, kind_at, text_at, warn_of_part};
+use crate::extent::{NamedCall, assigns, bare, is_given, named_calls, text_at, warn_of_part};
 use crate::foreign::warn_of_texts;
 use crate::includes::warn_of_includes;
-use crate::rows::{FULL_NAME, HELD, LIBRARY_ACTION, SILENT};
+use crate::rows::{FULL_NAME, HELD, LIBRARY_ACTION, Row, SILENT};
 use crate::shellwords::warn_of_shell_words;
 use ac_calls::{CallAt, Extent};
 use ac_macros::ArgumentKind;
@@ -37,7 +37,7 @@ fn is_comment(action: &[u8]) -> bool {
 /// Warns of an action in place of which a library is added to LIBS, and which is a comment alone.
 fn warn_of_action(
     alloc: Global,
-    call: Named<'_>,
+    call: NamedCall<'_>,
     out: &mut Vec<Finding>,
 ) -> Result<(), AllocError> {
     let action = call.argument_at(&LIBRARY_ACTION);
@@ -50,13 +50,22 @@ fn holds(argument: &[u8], sought: &[u8]) -> bool {
     !sought.is_empty() && argument.contains_str(sought)
 }
 
+/// Returns whether an argument holds what a row says.
+fn is_held(row: &Row, written: &[u8]) -> bool {
+    let is_quoted = row.4 && written.starts_with(b"[[");
+    !is_quoted && (holds(written, row.2) || holds(written, row.3))
+}
+
 /// Warns if an argument of a call holds what one of the rows says.
-fn warn_of_rows(alloc: Global, call: Named<'_>, out: &mut Vec<Finding>) -> Result<(), AllocError> {
-    for row in &HELD {
+fn warn_of_rows(
+    alloc: Global,
+    call: NamedCall<'_>,
+    rows: &[Row],
+    out: &mut Vec<Finding>,
+) -> Result<(), AllocError> {
+    for row in rows {
         let argument = call.argument_at(&(row.0, row.1));
-        let written = text_at(call.text, argument);
-        let is_quoted = row.4 && written.starts_with(b"[[");
-        let is_wrong = !is_quoted && (holds(written, row.2) || holds(written, row.3));
+        let is_wrong = argument.is_some() && is_held(row, text_at(call.text, argument));
         warn_if(alloc, call.text, argument, is_wrong, row.5, out)?;
     }
     Ok(())
@@ -95,7 +104,7 @@ fn is_exact_name(kind: ArgumentKind) -> bool {
 /// ends, and of a library that is sought by `main`.
 fn warn_of_argument(
     alloc: Global,
-    call: Named<'_>,
+    call: NamedCall<'_>,
     kind: ArgumentKind,
     extent: Extent,
     out: &mut Vec<Finding>,
@@ -115,11 +124,11 @@ fn warn_of_argument(
 /// Warns of arguments by what they are.
 fn warn_of_arguments(
     alloc: Global,
-    call: Named<'_>,
+    call: NamedCall<'_>,
     out: &mut Vec<Finding>,
 ) -> Result<(), AllocError> {
     for (index, extent) in call.at.args.iter().enumerate() {
-        if let Some(kind) = kind_at(call.text, call.at, index) {
+        if let Some(kind) = call.kind(index) {
             warn_of_argument(alloc, call, kind, *extent, out)?;
         }
     }
@@ -131,10 +140,10 @@ fn warn_of_arguments(
 /// Warns of arguments of AC_CHECK_PROG and AS_CASE that are empty.
 fn warn_of_missing(
     alloc: Global,
-    call: Named<'_>,
+    call: NamedCall<'_>,
     out: &mut Vec<Finding>,
 ) -> Result<(), AllocError> {
-    let Named { text, name, .. } = call;
+    let NamedCall { text, name, .. } = call;
     let args = &call.at.args;
     let has_no_value = name == b"AC_CHECK_PROG".as_slice()
         && !is_given(text, args.get(2))
@@ -158,44 +167,58 @@ fn warn_of_missing(
     )
 }
 
-/// Warns of the variable SHELL, if it gets its value from the environment alone.
-fn warn_of_shell(alloc: Global, call: Named<'_>, out: &mut Vec<Finding>) -> Result<(), AllocError> {
-    let Named { text, name, .. } = call;
+/// Returns whether a call makes SHELL an output variable without a value.
+fn is_of_shell(call: NamedCall<'_>) -> bool {
     let args = &call.at.args;
-    let is_shell = name == b"AC_SUBST".as_slice()
-        && bare(text_at(text, args.first().copied())) == b"SHELL".as_slice();
-    let is_wrong = is_shell && !is_given(text, args.get(1)) && !assigns(text, b"SHELL");
-    warn_if(alloc, text, call.whole(), is_wrong, keys::LOGIN_SHELL, out)
+    call.name == b"AC_SUBST".as_slice()
+        && bare(text_at(call.text, args.first().copied())) == b"SHELL".as_slice()
+        && !is_given(call.text, args.get(1))
+}
+
+/// Returns whether the variable SHELL is an output variable whose value is that of the environment
+/// alone.
+fn is_shell_given(text: &[u8], calls: &[NamedCall<'_>]) -> bool {
+    calls.iter().any(|call| is_of_shell(*call)) && !assigns(text, b"SHELL")
 }
 
 /// Warns if a `;` is after a call of which Autoconf makes no shell text.
 fn warn_of_semicolon(
     alloc: Global,
-    call: Named<'_>,
+    call: NamedCall<'_>,
     out: &mut Vec<Finding>,
 ) -> Result<(), AllocError> {
     let text = call.text;
-    let is_followed = SILENT.iter().any(|other| *other == call.name)
-        && after_blanks(from(text, call.at.end)).starts_with(b";");
+    let is_followed = after_blanks(from(text, call.at.end)).starts_with(b";")
+        && SILENT.iter().any(|other| *other == call.name);
     let key = keys::SEMICOLON_AFTER_CALL;
     warn_if(alloc, text, call.whole(), is_followed, key, out)
 }
 
-/// Warns of a call.
+/// Warns of a call. If SHELL is that of the environment, says so.
 fn warn_of_call(
     alloc: Global,
     index: &Index,
-    call: Named<'_>,
+    call: NamedCall<'_>,
+    rows: &[Row],
+    is_login: bool,
     out: &mut Vec<Finding>,
 ) -> Result<(), AllocError> {
     if !call.at.is_of_profile {
         return Ok(());
     }
     warn_of_action(alloc, call, out)?;
-    warn_of_rows(alloc, call, out)?;
+    warn_of_rows(alloc, call, rows, out)?;
     warn_of_arguments(alloc, call, out)?;
     warn_of_missing(alloc, call, out)?;
-    warn_of_shell(alloc, call, out)?;
+    let is_login = is_login && is_of_shell(call);
+    warn_if(
+        alloc,
+        call.text,
+        call.whole(),
+        is_login,
+        keys::LOGIN_SHELL,
+        out,
+    )?;
     warn_of_semicolon(alloc, call, out)?;
     warn_of_texts(alloc, index, call, out)
 }
@@ -205,11 +228,14 @@ fn warn_of_each(
     alloc: Global,
     index: &Index,
     text: &[u8],
-    calls: &[CallAt],
+    calls: &[NamedCall<'_>],
     out: &mut Vec<Finding>,
 ) -> Result<(), AllocError> {
+    let is_login = is_shell_given(text, calls);
+    // The table is made once, and not for each call.
+    let rows = HELD;
     for call in calls {
-        warn_of_call(alloc, index, Named::new(text, call), out)?;
+        warn_of_call(alloc, index, *call, &rows, is_login, out)?;
     }
     Ok(())
 }
@@ -228,7 +254,8 @@ pub fn warn_of_calls(
     calls: &[CallAt],
     out: &mut Vec<Finding>,
 ) -> Result<(), AllocError> {
-    warn_of_each(alloc, index, text, calls, out)?;
-    warn_of_includes(alloc, text, calls, out)?;
-    warn_of_shell_words(alloc, text, calls, out)
+    let named = named_calls(alloc, text, calls)?;
+    warn_of_each(alloc, index, text, named.as_slice(), out)?;
+    warn_of_includes(alloc, text, named.as_slice(), out)?;
+    warn_of_shell_words(alloc, text, named.as_slice(), out)
 }

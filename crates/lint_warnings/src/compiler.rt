@@ -1,6 +1,6 @@
 //! Warnings if nothing looks for a compiler, or if nothing tries whether it works.
 
-use crate::extent::{assigns, bare, is_given, kind_at, name_of, text_at, warn_of_part};
+use crate::extent::{NamedCall, assigns, bare, is_given, name_of, text_at, warn_of_part};
 use ac_calls::{CallAt, Extent};
 use ac_macros::ArgumentKind;
 use lint_findings::Finding;
@@ -33,11 +33,14 @@ fn finds_compiler(text: &[u8], call: &CallAt) -> bool {
     if name == b"AC_PROG_CC".as_slice() {
         return true;
     }
+    let is_named = bare(text_at(text, call.args.first().copied())) == b"CC".as_slice();
     let has_value = name != b"AC_SUBST".as_slice() || is_given(text, call.args.get(1));
-    let is_of_variable = matches!(kind_at(text, call, 0), Some(ArgumentKind::Variable));
-    has_value
-        && is_of_variable
-        && bare(text_at(text, call.args.first().copied())) == b"CC".as_slice()
+    is_named
+        && has_value
+        && matches!(
+            NamedCall::new(text, call).kind(0),
+            Some(ArgumentKind::Variable)
+        )
 }
 
 /// Returns the first call that needs a compiler, if nothing before it looks for one or names one.

@@ -1,10 +1,9 @@
 //! The parts of a call.
 
-use crate::rows::Place;
+use crate::rows::ArgumentPlace;
 use ac_calls::{CallAt, Extent};
 use ac_macros::table::row_named;
-use ac_macros::{ArgumentKind, argument_kind};
-use bstr::ByteSlice;
+use ac_macros::{ArgumentKind, Row, argument_kind};
 use lint_findings::{Finding, Span};
 use lint_table::{Key, warn_by_key};
 use lint_text::{before, from, is_word_byte, part};
@@ -18,9 +17,21 @@ pub(crate) fn text_at(text: &[u8], argument: Option<Extent>) -> &[u8] {
     }
 }
 
+/// Returns whether a byte is a blank or a bracket.
+fn is_around(byte: u8) -> bool {
+    matches!(byte, b'[' | b']' | b' ' | b'\t' | b'\n')
+}
+
 /// Returns an argument without blanks and brackets around it.
 pub(crate) fn bare(argument: &[u8]) -> &[u8] {
-    argument.trim_with(|c| c == '[' || c == ']' || c == ' ' || c == '\t' || c == '\n')
+    let front = argument.iter().take_while(|byte| is_around(**byte)).count();
+    let rest = from(argument, front);
+    let end = rest
+        .iter()
+        .rev()
+        .take_while(|byte| is_around(**byte))
+        .count();
+    before(rest, rest.len().saturating_sub(end))
 }
 
 /// Returns whether an argument is there and isn't empty.
@@ -47,35 +58,39 @@ pub(crate) fn name_of<'a>(text: &'a [u8], call: &CallAt) -> &'a [u8] {
     part(text, call.start, call.name_end)
 }
 
-/// Returns what an argument of a call is, if the call has it and its macro is known. The arguments
-/// are counted from 0.
-pub(crate) fn kind_at(text: &[u8], call: &CallAt, index: usize) -> Option<ArgumentKind> {
-    let row = row_named(name_of(text, call))?;
-    let count = call.args.len();
-    if index < count {
-        Some(argument_kind(row.named, count, index))
-    } else {
-        None
-    }
-}
-
 /// A call of a source, with its name.
 #[derive(Clone, Copy)]
-pub(crate) struct Named<'a> {
+pub(crate) struct NamedCall<'a> {
     /// The text of the source.
     pub(crate) text: &'a [u8],
     pub(crate) name: &'a [u8],
+    /// The row of its macro, if the table of macros has it.
+    row: Option<Row>,
     /// Where it and its arguments are.
     pub(crate) at: &'a CallAt,
 }
 
-impl<'a> Named<'a> {
+impl<'a> NamedCall<'a> {
     /// Returns a call with its name.
-    pub(crate) fn new(text: &'a [u8], call: &'a CallAt) -> Named<'a> {
-        Named {
+    pub(crate) fn new(text: &'a [u8], call: &'a CallAt) -> NamedCall<'a> {
+        let name = name_of(text, call);
+        NamedCall {
             text,
-            name: name_of(text, call),
+            name,
+            row: row_named(name),
             at: call,
+        }
+    }
+
+    /// Returns what an argument is, if the call has it and its macro is known. The arguments are
+    /// counted from 0.
+    pub(crate) fn kind(self, index: usize) -> Option<ArgumentKind> {
+        let row = self.row?;
+        let count = self.at.args.len();
+        if index < count {
+            Some(argument_kind(row.named, count, index))
+        } else {
+            None
         }
     }
 
@@ -87,13 +102,31 @@ impl<'a> Named<'a> {
         })
     }
 
+    /// Returns whether it is a call of the macro with this name.
+    fn is_of(self, name: &[u8]) -> bool {
+        name.len() == self.name.len() && name == self.name
+    }
+
     /// Returns where the argument is that a place names, if it is one of this call.
-    pub(crate) fn argument_at(self, place: &Place) -> Option<Extent> {
-        if place.0 == self.name {
+    pub(crate) fn argument_at(self, place: &ArgumentPlace) -> Option<Extent> {
+        if self.is_of(place.0) {
             return self.at.args.get(place.1).copied();
         }
         None
     }
+}
+
+/// Returns the calls of a source with their names.
+pub(crate) fn named_calls<'a>(
+    alloc: Global,
+    text: &'a [u8],
+    calls: &'a [CallAt],
+) -> Result<Vec<NamedCall<'a>>, AllocError> {
+    let mut named = Vec::new(alloc);
+    for call in calls {
+        named.push(NamedCall::new(text, call))?;
+    }
+    Ok(named)
 }
 
 /// Returns a part of the source.

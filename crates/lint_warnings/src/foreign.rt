@@ -1,6 +1,6 @@
 //! Names of macros in arguments that are text.
 
-use crate::extent::{Named, bare, kind_at, span_of};
+use crate::extent::{NamedCall, bare, span_of};
 use ac_calls::Extent;
 use ac_macros::ArgumentKind;
 use lint_findings::Finding;
@@ -41,42 +41,41 @@ fn is_macro(alloc: Global, index: &Index, word: &[u8]) -> Result<bool, AllocErro
     is_in_table(alloc, index, word)
 }
 
-/// Returns how many brackets are open at the end of a text.
-fn depth_of(text: &[u8]) -> usize {
-    let mut depth: usize = 0;
-    for byte in text {
-        depth = depth.saturating_add(usize::from(*byte == b'['));
-        depth = depth.saturating_sub(usize::from(*byte == b']'));
-    }
-    depth
+/// What is open at a place of an argument.
+#[derive(Clone, Copy)]
+struct Opened {
+    /// The brackets.
+    depth: usize,
+    /// Whether a comment of m4 is open: a `#` that isn't in too many brackets is before the place on
+    /// its line.
+    is_comment: bool,
 }
 
-/// Returns whether a comment of m4 is open at the end of a text: its last line has a `#` that isn't
-/// in more brackets than these.
-fn is_in_comment(text: &[u8], most: usize) -> bool {
-    let mut depth: usize = 0;
-    let mut is_open = false;
-    for byte in text {
-        is_open = *byte != b'\n' && (is_open || *byte == b'#' && depth <= most);
-        depth = depth.saturating_add(usize::from(*byte == b'['));
-        depth = depth.saturating_sub(usize::from(*byte == b']'));
+impl Opened {
+    /// Returns what is open after a byte. A `#` in more brackets than these begins no comment.
+    fn after(self, byte: u8, most: usize) -> Opened {
+        let begins = byte == b'#' && self.depth <= most;
+        let opened = self.depth.saturating_add(usize::from(byte == b'['));
+        Opened {
+            depth: opened.saturating_sub(usize::from(byte == b']')),
+            is_comment: byte != b'\n' && (self.is_comment || begins),
+        }
     }
-    is_open
+
+    /// Returns whether a word here is read as text, and as a macro by Autoconf, if it isn't the name
+    /// of a variable: it isn't in more brackets than these, and in no comment.
+    fn expands(self, most: usize) -> bool {
+        self.depth <= most && !self.is_comment
+    }
 }
 
-/// Returns whether a word at this offset of an argument is read as text here, and as a macro by
-/// Autoconf: it isn't the name of a variable, isn't in more brackets than these, and isn't in a
-/// comment.
-fn is_expanded(argument: &[u8], at: usize, most: usize) -> bool {
-    let front = before(argument, at);
-    !front.ends_with(b"$")
-        && !front.ends_with(b"${")
-        && depth_of(front) <= most
-        && !is_in_comment(front, most)
+/// Returns whether the name of a variable is after a text.
+fn precedes_variable(front: &[u8]) -> bool {
+    front.ends_with(b"$") || front.ends_with(b"${")
 }
 
 /// Returns the first name of a macro in an argument that Autoconf expands, by its offset, but for
-/// one that is this.
+/// one that is this. A name in more brackets than these is none.
 fn first_macro(
     alloc: Global,
     index: &Index,
@@ -85,15 +84,24 @@ fn first_macro(
     but: &[u8],
 ) -> Result<Option<(usize, usize)>, AllocError> {
     let mut at: usize = 0;
+    let mut opened = Opened {
+        depth: 0,
+        is_comment: false,
+    };
     for word in argument.split(|byte| !is_word_byte(*byte)) {
         if !word.is_empty()
             && word != but
+            && opened.expands(most)
+            && !precedes_variable(before(argument, at))
             && is_macro(alloc, index, word)?
-            && is_expanded(argument, at, most)
         {
             return Ok(Some((at, word.len())));
         }
-        at = at.saturating_add(word.len()).saturating_add(1);
+        at = at.saturating_add(word.len());
+        if let Some(byte) = argument.get(at) {
+            opened = opened.after(*byte, most);
+        }
+        at = at.saturating_add(1);
     }
     Ok(None)
 }
@@ -135,7 +143,7 @@ fn put_help(page: &mut Page, call: &[u8], word: &[u8]) {
 fn warn_of_text(
     alloc: Global,
     index: &Index,
-    call: Named<'_>,
+    call: NamedCall<'_>,
     extent: Extent,
     out: &mut Vec<Finding>,
 ) -> Result<(), AllocError> {
@@ -174,11 +182,11 @@ fn is_text(kind: ArgumentKind) -> bool {
 pub(crate) fn warn_of_texts(
     alloc: Global,
     index: &Index,
-    call: Named<'_>,
+    call: NamedCall<'_>,
     out: &mut Vec<Finding>,
 ) -> Result<(), AllocError> {
     for (i, extent) in call.at.args.iter().enumerate() {
-        match kind_at(call.text, call.at, i) {
+        match call.kind(i) {
             Some(kind) if is_text(kind) => warn_of_text(alloc, index, call, *extent, out)?,
             _ => {}
         }

@@ -1,8 +1,8 @@
 //! Names that Autoconf's default includes declare, and those of acrun don't.
 
-use crate::extent::{bare, is_given, kind_at, span_of, text_at};
+use crate::extent::{NamedCall, bare, is_given, span_of, text_at};
 use crate::lines::put_lines;
-use ac_calls::{CallAt, Extent};
+use ac_calls::Extent;
 use ac_macros::ArgumentKind;
 use deftable::{SubstList, is_shell_name};
 use lint_findings::Finding;
@@ -129,7 +129,7 @@ fn row_of(lists: &[SubstList], name: &[u8]) -> Option<usize> {
 
 /// What is found of a header: the calls that name one of its names, and these names.
 #[derive(Drop)]
-struct Found {
+struct FoundNames {
     calls: Vec<Extent>,
     names: Vec<u8>,
     count: usize,
@@ -138,7 +138,7 @@ struct Found {
 /// How many names are named at most.
 const MOST: usize = 12;
 
-impl Found {
+impl FoundNames {
     /// Adds a name that a call has.
     fn add(&mut self, call: Extent, name: &[u8]) -> Result<(), AllocError> {
         if self.calls.last() != Some(&call) {
@@ -168,25 +168,25 @@ fn is_looked_for(kind: ArgumentKind) -> bool {
 }
 
 /// Returns whether a call looks for names with the default includes.
-fn uses_defaults(text: &[u8], call: &CallAt) -> bool {
-    match kind_at(text, call, 0) {
-        Some(kind) if is_looked_for(kind) => !is_given(text, call.args.get(3)),
+fn uses_defaults(call: NamedCall<'_>) -> bool {
+    match call.kind(0) {
+        Some(kind) if is_looked_for(kind) => !is_given(call.text, call.at.args.get(3)),
         _ => false,
     }
 }
 
 /// Adds the names of a call that one of the headers has.
 fn add_call(
-    text: &[u8],
-    call: &CallAt,
+    call: NamedCall<'_>,
     lists: &[SubstList],
-    found: &mut [Found],
+    found: &mut [FoundNames],
 ) -> Result<(), AllocError> {
     let place = Extent {
-        start: call.start,
-        end: call.name_end,
+        start: call.at.start,
+        end: call.at.name_end,
     };
-    for entry in bare(text_at(text, call.args.first().copied())).split(|byte| *byte == b',') {
+    let entries = bare(text_at(call.text, call.at.args.first().copied()));
+    for entry in entries.split(|byte| *byte == b',') {
         let name = bare(entry);
         if let Some(row) = row_of(lists, name) {
             add_to(found, row, place, name)?;
@@ -196,7 +196,12 @@ fn add_call(
 }
 
 /// Adds a name that a call has to what is found of a row.
-fn add_to(found: &mut [Found], row: usize, call: Extent, name: &[u8]) -> Result<(), AllocError> {
+fn add_to(
+    found: &mut [FoundNames],
+    row: usize,
+    call: Extent,
+    name: &[u8],
+) -> Result<(), AllocError> {
     match found.get_mut(row) {
         Some(found) => found.add(call, name),
         None => Ok(()),
@@ -206,21 +211,20 @@ fn add_to(found: &mut [Found], row: usize, call: Extent, name: &[u8]) -> Result<
 /// Returns what is found of each header.
 fn found_in(
     alloc: Global,
-    text: &[u8],
-    calls: &[CallAt],
+    calls: &[NamedCall<'_>],
     lists: &[SubstList],
-) -> Result<Vec<Found>, AllocError> {
+) -> Result<Vec<FoundNames>, AllocError> {
     let mut found = Vec::new(alloc);
     for _ in &ROWS {
-        found.push(Found {
+        found.push(FoundNames {
             calls: Vec::new(alloc),
             names: Vec::new(alloc),
             count: 0,
         })?;
     }
     for call in calls {
-        if uses_defaults(text, call) {
-            add_call(text, call, lists, found.as_mut_slice())?;
+        if uses_defaults(*call) {
+            add_call(*call, lists, found.as_mut_slice())?;
         }
     }
     Ok(found)
@@ -231,7 +235,7 @@ fn warn_of_header(
     alloc: Global,
     text: &[u8],
     header: &[u8],
-    found: &Found,
+    found: &FoundNames,
     out: &mut Vec<Finding>,
 ) -> Result<(), AllocError> {
     let Some(first) = found.calls.first() else {
@@ -256,14 +260,14 @@ fn warn_of_header(
 pub(crate) fn warn_of_includes(
     alloc: Global,
     text: &[u8],
-    calls: &[CallAt],
+    calls: &[NamedCall<'_>],
     out: &mut Vec<Finding>,
 ) -> Result<(), AllocError> {
-    if !calls.iter().any(|call| uses_defaults(text, call)) {
+    if !calls.iter().any(|call| uses_defaults(*call)) {
         return Ok(());
     }
     let lists = lists(alloc)?;
-    let found = found_in(alloc, text, calls, lists.as_slice())?;
+    let found = found_in(alloc, calls, lists.as_slice())?;
     for i in 0..ROWS.len().min(found.len()) {
         warn_of_header(alloc, text, ROWS[i].0, &found[i], out)?;
     }

@@ -51,13 +51,13 @@ pub(crate) const HELD: [Row; 30] = [
 ];
 
 /// A macro and the number of one of its arguments, from 0.
-pub(crate) type Place = (&'static [u8], usize);
+pub(crate) type ArgumentPlace = (&'static [u8], usize);
 
 /// The action in place of which a library is added to LIBS.
-pub(crate) const LIBRARY_ACTION: Place = (b"AC_CHECK_LIB", 2);
+pub(crate) const LIBRARY_ACTION: ArgumentPlace = (b"AC_CHECK_LIB", 2);
 
 /// A value for which `[[]]` is something else in Autoconf than no argument.
-pub(crate) const FULL_NAME: Place = (b"AC_PATH_PROG", 2);
+pub(crate) const FULL_NAME: ArgumentPlace = (b"AC_PATH_PROG", 2);
 
 /// The macros of which Autoconf makes no shell text.
 #[rattlefmt::skip]

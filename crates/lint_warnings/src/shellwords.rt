@@ -1,14 +1,15 @@
 //! Words that a shell reads otherwise, with no sign of it.
 
-use crate::extent::{kind_at, span_of};
+use crate::extent::{NamedCall, span_of};
 use crate::lines::put_lines;
-use ac_calls::{CallAt, Extent};
+use ac_calls::Extent;
 use ac_macros::ArgumentKind;
 use deftable::is_shell_name;
 use lint_findings::Finding;
+use lint_marks::ShellState;
 use lint_table::{Key, Page, WordPart, keys, warn_by_key};
 use lint_text::{first_name, from, part};
-use shell_bare::{BareContext, after_quoted, escapes, following, is_part_end};
+use shell_bare::{BareContext, is_part_end};
 use std::alloc::{AllocError, Global};
 
 /// What a byte of the source is a part of.
@@ -42,12 +43,12 @@ fn fill(roles: &mut [Role], start: usize, end: usize, role: Role) {
 }
 
 /// Returns what each byte of a source with these calls is a part of.
-fn roles_of(alloc: Global, text: &[u8], calls: &[CallAt]) -> Result<Vec<Role>, AllocError> {
+fn roles_of(alloc: Global, text: &[u8], calls: &[NamedCall<'_>]) -> Result<Vec<Role>, AllocError> {
     let mut roles = vec![in alloc; Role::Statements; text.len()]?;
     for call in calls {
-        fill(&mut roles, call.start, call.end, Role::Other);
-        for (index, arg) in call.args.iter().enumerate() {
-            let role = role_of(kind_at(text, call, index));
+        fill(&mut roles, call.at.start, call.at.end, Role::Other);
+        for (index, arg) in call.at.args.iter().enumerate() {
+            let role = role_of(call.kind(index));
             fill(&mut roles, arg.start, arg.end, role);
         }
     }
@@ -56,11 +57,10 @@ fn roles_of(alloc: Global, text: &[u8], calls: &[CallAt]) -> Result<Vec<Role>, A
 
 /// A walk over the bytes of a source.
 #[derive(Clone, Copy)]
-struct Walk {
+struct WordWalk {
     role: Role,
-    place: BareContext,
-    /// Whether a backslash that quotes is before the byte.
-    is_escaped: bool,
+    /// What the shell has open at the byte.
+    shell: ShellState,
     /// The offset at which the word begins.
     begin: usize,
     /// Whether the word is that of a test.
@@ -71,13 +71,12 @@ struct Walk {
     is_front: bool,
 }
 
-impl Walk {
+impl WordWalk {
     /// Returns the walk at the first byte of a text.
-    fn new(role: Role) -> Walk {
-        Walk {
+    fn new(role: Role) -> WordWalk {
+        WordWalk {
             role,
-            place: BareContext::Start,
-            is_escaped: false,
+            shell: ShellState::new(),
             begin: 0,
             is_test: role == Role::Test,
             is_value: role == Role::Value,
@@ -87,7 +86,7 @@ impl Walk {
 
     /// Returns whether the byte is outside quotes and comments.
     fn is_bare(&self) -> bool {
-        matches!(self.place, BareContext::Start | BareContext::Word)
+        matches!(self.shell.place, BareContext::Start | BareContext::Word)
     }
 
     /// Begins a word at an offset.
@@ -111,8 +110,8 @@ impl Walk {
 
     /// Goes on after a byte that is no blank and in no quotes.
     fn pass_bare(&mut self, text: &[u8], at: usize, byte: u8) {
-        let is_name = self.role == Role::Statements && is_shell_name(part(text, self.begin, at));
-        let begins = byte == b'=' && !self.is_value && is_name;
+        let may_begin = byte == b'=' && !self.is_value && self.role == Role::Statements;
+        let begins = may_begin && is_shell_name(part(text, self.begin, at));
         self.is_value |= begins;
         self.is_front = begins || byte == b':' && self.is_value;
     }
@@ -120,7 +119,7 @@ impl Walk {
 
 /// What is found in a source.
 #[derive(Drop)]
-struct Found {
+struct FoundWords {
     /// The first `~` that a shell replaces.
     tilde: Option<usize>,
     /// The first `$` before a quote.
@@ -180,10 +179,10 @@ fn read_bare(
     text: &[u8],
     at: usize,
     byte: u8,
-    walk: &mut Walk,
-    found: &mut Found,
+    walk: &mut WordWalk,
+    found: &mut FoundWords,
 ) -> Result<(), AllocError> {
-    if matches!(walk.place, BareContext::Start) {
+    if walk.shell.is_start() {
         walk.begin_word(at);
         if walk.is_test {
             push_word(text, at, &mut found.words)?;
@@ -206,36 +205,13 @@ fn read_bare(
 }
 
 /// Returns whether the line from an offset on is one that m4 drops.
-fn is_dropped(text: &[u8], at: usize, walk: &Walk) -> bool {
-    matches!(walk.place, BareContext::Start) && first_name(from(text, at)) == b"dnl".as_slice()
-}
-
-/// Reads a byte before which there is no backslash.
-fn read_plain(
-    text: &[u8],
-    at: usize,
-    byte: u8,
-    walk: &mut Walk,
-    found: &mut Found,
-) -> Result<(), AllocError> {
-    if is_dropped(text, at, walk) {
-        walk.place = BareContext::Comment;
-        return Ok(());
-    }
-    if walk.is_bare() {
-        read_bare(text, at, byte, walk, found)?;
-    }
-    if byte == b'\\' && escapes(walk.place) {
-        walk.is_escaped = true;
-        return Ok(());
-    }
-    walk.place = following(walk.place, byte);
-    Ok(())
+fn is_dropped(text: &[u8], at: usize, walk: &WordWalk) -> bool {
+    walk.shell.is_start() && first_name(from(text, at)) == b"dnl".as_slice()
 }
 
 /// Returns whether m4 drops a byte, which is a bracket.
-fn is_bracket(byte: u8, walk: &Walk) -> bool {
-    matches!(byte, b'[' | b']') && !matches!(walk.place, BareContext::Comment)
+fn is_bracket(byte: u8, walk: &WordWalk) -> bool {
+    matches!(byte, b'[' | b']') && !matches!(walk.shell.place, BareContext::Comment)
 }
 
 /// Reads the byte at an offset.
@@ -243,33 +219,35 @@ fn read_byte(
     text: &[u8],
     at: usize,
     byte: u8,
-    walk: &mut Walk,
-    found: &mut Found,
+    walk: &mut WordWalk,
+    found: &mut FoundWords,
 ) -> Result<(), AllocError> {
-    if walk.is_escaped {
-        walk.is_escaped = false;
+    if walk.shell.is_escaped {
         walk.is_front = false;
-        walk.place = after_quoted(walk.place);
+    } else if is_bracket(byte, walk) {
         return Ok(());
-    }
-    if is_bracket(byte, walk) {
+    } else if is_dropped(text, at, walk) {
+        walk.shell.place = BareContext::Comment;
         return Ok(());
+    } else if walk.is_bare() {
+        read_bare(text, at, byte, walk, found)?;
     }
-    read_plain(text, at, byte, walk, found)
+    walk.shell = walk.shell.after(byte);
+    Ok(())
 }
 
 /// Returns what is found in a source, of whose bytes it is known what they are parts of.
-fn found_in(alloc: Global, text: &[u8], roles: &[Role]) -> Result<Found, AllocError> {
-    let mut found = Found {
+fn found_in(alloc: Global, text: &[u8], roles: &[Role]) -> Result<FoundWords, AllocError> {
+    let mut found = FoundWords {
         tilde: None,
         dollar: None,
         words: Vec::new(alloc),
     };
-    let mut walk = Walk::new(Role::Other);
+    let mut walk = WordWalk::new(Role::Other);
     for (at, byte) in text.iter().enumerate() {
         let role = roles.get(at).copied().unwrap_or(Role::Other);
         if role != walk.role {
-            walk = Walk::new(role);
+            walk = WordWalk::new(role);
         }
         if role != Role::Other {
             read_byte(text, at, *byte, &mut walk, &mut found)?;
@@ -321,7 +299,7 @@ fn warn_of_test_words(
 pub(crate) fn warn_of_shell_words(
     alloc: Global,
     text: &[u8],
-    calls: &[CallAt],
+    calls: &[NamedCall<'_>],
     out: &mut Vec<Finding>,
 ) -> Result<(), AllocError> {
     let roles = roles_of(alloc, text, calls)?;
