@@ -8,13 +8,11 @@ ghost use Rattle.cmd_lint.specs.Colours as colours;
 ghost use Rattle.cmd_lint.specs.Refusals.{AreSaidOf, IsSaidOf};
 ghost use Rattle.cmd_lint.specs.Status as specs;
 
-use crate::findings::found_in;
-use crate::reading::{Linted, SOURCE, read_named};
-use crate::showing::{Form, page_of};
-use crate::words::{asks_json, has_input, has_name, has_unknown, is_name};
+use crate::words::{asks_json, has_name, has_unknown, is_name};
 use cmd_call::{Hears, tell_file, tell_memory, tell_usage};
 use deftable::Bytes;
 use file_disk::Disk;
+use lint_sources::{Form, SOURCE, has_input, linted_page, read_named};
 use std::alloc::{AllocError, Global};
 use std::io::{Read, Write};
 
@@ -27,21 +25,6 @@ fn status_of(has_error: bool) -> u8
     ensures bound { result ≤ 1 }
 {
     if has_error { 1 } else { 0 }
-}
-
-/// Returns the page of what is found in a source, and whether that has an error.
-fn lint_text<D: Disk>(
-    alloc: Global,
-    disk: &D,
-    form: Form,
-    linted: &Linted,
-) -> Result<(Vec<u8>, bool), AllocError>
-    ensures { IfOk result (λ r.
-        specs.HasError (D.known disk.now) linted.now.directory linted.now.text r.1) }
-{
-    let found = found_in(alloc, disk, linted)?;
-    let page = page_of(alloc, form, linted, &found)?;
-    Ok((page, found.has_error))
 }
 
 /// Writes a page, and returns the exit status: that which is given, unless the page can't be
@@ -78,7 +61,7 @@ fn page_for<D: Disk, R: Read>(
         specs.IsLinted (D.known disk.now) (reads && calls.is_input word.now) word.now r.1)) }
 {
     match read_named(alloc, disk, reads, input, word)? {
-        Some(linted) => Ok(Some(lint_text(alloc, disk, form, &linted)?)),
+        Some(linted) => Ok(Some(linted_page(alloc, disk, form, &linted)?)),
         None => Ok(None),
     }
 }

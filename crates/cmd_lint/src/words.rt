@@ -1,42 +1,14 @@
 //! What the words after `lint` are.
 
-ghost use Rattle.std.specs.Prelude.{◌≡◌, false};
+ghost use Rattle.std.specs.Prelude.{◌≡◌};
 ghost use Rattle.std.specs.List.{list_any};
-ghost use Rattle.cmd_call.specs.Calls as calls;
 ghost use Rattle.cmd_lint.specs.Status as specs;
 
 use deftable::Bytes;
+use lint_sources::is_option;
 
 /// The option for JSON.
 const JSON: &[u8] = b"--json";
-
-/// Returns whether the word names standard input.
-pub(crate) fn is_input(word: &[u8]) -> bool
-    ensures { result ≡ calls.is_input word.now }
-{
-    word == b"-".as_slice()
-}
-
-/// Returns whether a word of a list names standard input.
-fn is_input_word(word: &Bytes) -> bool
-    ensures { result ≡ calls.is_input word.now }
-{
-    is_input(word.as_slice())
-}
-
-/// Returns whether one of the words names standard input.
-pub fn has_input(words: &[Bytes]) -> bool
-    ensures { result ≡ list_any calls.is_input words.now }
-{
-    words.iter().any(is_input_word)
-}
-
-/// Returns whether the word is an option, and no name of a file.
-pub fn is_option(word: &[u8]) -> bool
-    ensures { result ≡ calls.is_option word.now }
-{
-    word.starts_with(b"-") && word != b"-".as_slice()
-}
 
 /// Returns whether the word is the option for JSON.
 fn is_json(word: &Bytes) -> bool

@@ -6,7 +6,7 @@ use Rattle.std.specs.Io.KnownBytes.{Appends}
 use Rattle.cmd_call.specs.Calls.{is_input}
 use Rattle.cmd_call.specs.Errors.{AreTold}
 use Rattle.cmd_call.specs.Lines.{IsTold, error_line}
-use Rattle.cmd_lint.specs.Status.{IsNamed}
+use Rattle.lint_sources.specs.Sources.{IsNamed}
 use Rattle.cmd_port.specs.Asked.{Request, request_of}
 use Rattle.cmd_port.specs.Refusals.{IsLost, IsSaid, IsSaidFor, IsSaidOf, Says, no_memory, unwritten, lost, wrong, unread, without, of_text}
 use Rattle.cmd_port.proofs.Written.{named_among, stream_is}

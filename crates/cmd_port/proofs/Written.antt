@@ -4,7 +4,7 @@ use Rattle.std.specs.Prelude.{if◌then◌else◌}
 use Rattle.std.specs.List.{list_any}
 use Rattle.file_disk.specs.Known.{Known}
 use Rattle.cmd_call.specs.Calls.{is_input, is_option}
-use Rattle.cmd_lint.specs.Status.{IsNamed}
+use Rattle.lint_sources.specs.Sources.{IsNamed}
 use Rattle.std.specs.Io.KnownBytes.{Appends}
 use Rattle.port_idioms.specs.declared.idioms.Idioms.{Idioms}
 use Rattle.cmd_port.specs.Ported.{IsPorted}

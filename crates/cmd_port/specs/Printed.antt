@@ -2,7 +2,7 @@
 use Rattle.std.specs.Prelude.{◌≡◌, ℕ, Bool, true, false, List, Option, Some, None}
 use Rattle.file_disk.specs.Known.{Known}
 use Rattle.cmd_call.specs.Calls.{is_input}
-use Rattle.cmd_lint.specs.Status.{IsNamed}
+use Rattle.lint_sources.specs.Sources.{IsNamed}
 use Rattle.port_idioms.specs.declared.idioms.Idioms.{Idioms}
 use Rattle.cmd_port.specs.Ported.{IsPorted}
 use Rattle.cmd_port.specs.Asked.{Request}

@@ -2,7 +2,7 @@
 use Rattle.std.specs.Prelude.{◌≡◌, ◌⊎◌, ℕ, Bool, true, List, [], Option, Some, None, codes}
 use Rattle.cmd_call.specs.Calls.{is_input}
 use Rattle.cmd_call.specs.Lines.{IsTold, error_line}
-use Rattle.cmd_lint.specs.Status.{IsNamed}
+use Rattle.lint_sources.specs.Sources.{IsNamed}
 use Rattle.cmd_port.specs.Asked.{Request}
 use Rattle.file_disk.specs.Known.{Known}
 use Rattle.lint_errors.specs.Errors.{IsAccepted}

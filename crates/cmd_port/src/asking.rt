@@ -3,8 +3,8 @@
 ghost use Rattle.std.specs.Prelude.{◌≡◌, ◌∷◌, codes, option_map};
 ghost use Rattle.cmd_port.specs.Asked as specs;
 
-use cmd_lint::{SOURCE, is_option};
 use deftable::Bytes;
+use lint_sources::{SOURCE, is_option};
 use port_idioms::Idioms;
 
 /// Which idioms are written, and the name of the source.

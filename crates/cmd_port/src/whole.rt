@@ -6,11 +6,11 @@ ghost use Rattle.cmd_port.specs.Ported as specs;
 
 use crate::comments::commented;
 use crate::moving::moved;
-use cmd_lint::add_reasons;
 use deftable::Bytes;
 use lint_all::all_errors;
 use lint_errors::{is_accepted, read};
 use lint_findings::Finding;
+use lint_sources::add_reasons;
 use m4quote::{QuoteFault, read_items};
 use port_idioms::Idioms;
 use std::alloc::{AllocError, Global};

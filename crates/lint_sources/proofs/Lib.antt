@@ -1,0 +1,6 @@
+pub mod Lost
+pub mod Numbered
+pub mod Pages
+pub mod Paths
+pub mod Printed
+pub mod Worded

@@ -1,0 +1,6 @@
+pub mod Differing
+pub mod Listed
+pub mod Missing
+pub mod Sheets
+pub mod Shown
+pub mod Sources

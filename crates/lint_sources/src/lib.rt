@@ -1,0 +1,36 @@
+//! Reads the source that a word names, and finds what is wrong with it and with its templates.
+//!
+//! [`read_named`] reads a source, and [`linted_page`] has what is found in it: its errors, as far
+//! as reading on after each finds them, the templates that are not there, and warnings, in order of
+//! place. [`differences_of`] has the warnings of what means another thing to Autoconf.
+//! [`add_reasons`] says of a statement of a shell why no call can be put in its place. `lint` and
+//! `port` show these. Nothing is started, and no file is written.
+//!
+//! ```text
+//! let linted = read_named(alloc, files, false, input, b"configure.ac")?;   // None if it can't be read
+//! linted_page(alloc, files, form, &linted)?                                // the page, and whether there is an error
+//! ```
+//!
+//! A call fails only if memory runs out. "own" marks a rule that no manual gives.
+//!
+//! In `specs`, read `Sources` (which source is read, and whether it has an error), `Missing` and
+//! `Differing`. Read `reading`, then `findings`, which finds, and `showing`. `templates` reads the
+//! templates of a source, `sheets` holds them for `warnings`, and `words` says which words name
+//! what.
+#![tactic(auto)]
+
+mod differing;
+mod findings;
+mod reading;
+mod reasons;
+mod sheets;
+mod showing;
+mod templates;
+mod warnings;
+mod words;
+
+pub use differing::differences_of;
+pub use reading::{Linted, SOURCE, read_named};
+pub use reasons::add_reasons;
+pub use showing::{Form, linted_page};
+pub use words::{has_input, is_option};
