@@ -21,10 +21,13 @@
 //! memory runs out, it writes less, and that a line can't be written is not reported. "own" marks a
 //! rule that no manual gives.
 //!
-//! Read `specs/Asking`, then `asking`, `lines`, `files`, `shortages`, `checks` and `children`, which
-//! say why. Then read `page`, which writes words, and `source`, which shows a fault of the source;
-//! then `runs`, `precious`, `remakes`, `puts`, `windows`, `usage` and `helps`. Of a run that ended
-//! read `failures`, `compilers`, `doubts` and `directories`.
+//! `lint_errors` is needed for a fault of the source alone: for its place, which may be after the
+//! offset that the fault has, and for what to write in place of a macro that isn't known.
+//!
+//! Read `specs/Asking` and `specs/Shortages`, then `asking`, `lines`, `files`, `shortages`, `checks`
+//! and `children`, which say why. Then read `page`, which writes words, and `source`, which shows a
+//! fault of the source; then `runs`, `precious`, `remakes`, `puts`, `windows`, `usage` and `helps`.
+//! Of a run that ended read `failures`, `compilers`, `doubts` and `directories`.
 #![tactic(auto)]
 
 mod asking;
