@@ -1,11 +1,11 @@
 -- The slots of a crew of real children, each with a child or without one.
 use Rattle.std.specs.Prelude.{◌≡◌, ◌⊎◌, ℕ, ◌==◌, true, List, Option, Some, None, IfSome, All, codes, fold, option_map, slice_index_or, slice_set, if◌then◌else◌}
 use Rattle.crew_refusals.specs.Known.{with_cause}
-use Rattle.crew_refusals.specs.Shown.{IsCauseOf}
 use Rattle.crew_jobs.specs.declared.job.Job.{Job}
 use Rattle.crew_launch.specs.Ending.{Answers, IsKept, IsOfEnd}
 use Rattle.crew_launch.specs.Launch.{IsOfJob}
 use Rattle.crew_launch.specs.Piped.{IsReadThrough, Running}
+use Rattle.crew_launch.specs.Reasons.{SaysNoMemory}
 use Rattle.crew_trait.specs.Events.{Account}
 use Rattle.crew_trait.specs.declared.reply.Reply.{Reply}
 use Rattle.crew_trait.specs.declared.reply.Reply.TheVariants.{Answer, StartRefused, EndRefused}
@@ -52,9 +52,9 @@ Starts old new slot number =
       children = slice_set old.children slot (Some (record { number = number; left = left }));
     })
 
--- The cause of a start that is refused: it is about the start, or about something of the job. (own)
+-- The cause of a start that is refused: memory ran out for its records, or it is about something of the job. (own)
 abbrev pub IsOfStart : Job → Option (List ℕ) → Type 0
-IsOfStart job cause = IfSome cause (IsCauseOf (codes "start")) ⊎ IsOfJob job cause
+IsOfStart job cause = IfSome cause (SaysNoMemory (codes "start")) ⊎ IsOfJob job cause
 
 -- The start of this number is refused, and its cause is added. (own)
 abbrev pub RefusesStart : Table → Table → ℕ → Job → Type 0
