@@ -3,7 +3,7 @@
 use crate::disks::Disk;
 use deftable::Bytes;
 use file_disk::Host;
-use file_texts::{FileOutputs, Keeps, path_in, read_limited, read_text, write_text};
+use file_texts::{FileOutputs, Keeps, path_in, read_limited, read_text, unread_cause, write_text};
 use output_put::{Artifact, Artifacts, Kind, put_all};
 use std::alloc::AllocError;
 use std::fs::{self, File, Metadata, OpenFile, Permissions};
@@ -46,6 +46,15 @@ a/b/|c/d => a/b//c/d
 /// Puts `yes`, or `no` for an error.
 fn put_done<E: Drop>(page: &mut Page, done: &Result<(), E>) {
     page.put_yes(done.is_ok());
+}
+
+/// Puts whether there is a cause why a text is not read.
+fn put_cause(page: &mut Page, disk: &Disk<'_>, name: &[u8]) {
+    let host = Host::new(disk);
+    page.put(match unread_cause(&host, name) {
+        Some(_) => b"some".as_slice(),
+        None => b"none".as_slice(),
+    });
 }
 
 /// Reads a text whole, or its front.
@@ -248,6 +257,7 @@ fn put_step<'a>(page: &mut Page, scene: &mut Scene<'a>, step: &'a [u8]) {
         b"fails" => scene.disk.fails = words,
         b"keep" => scene.kept = words,
         b"read" | b"front" => put_read(page, &scene.disk, verb, words),
+        b"cause" => put_cause(page, &scene.disk, words),
         b"write" => put_written(page, &scene.disk, words),
         b"hand" => put_handed(page, &scene.disk, scene.kept, words),
         _ => put_system(page, scene, verb, words),
@@ -297,6 +307,9 @@ read |write  x => noneno
 sized e less|read e => 67108863
 sized e|read e => 67108864
 sized e more|read e|front e => none67108865
+// Why it is not read: only if it has one more
+sized e|cause e => none
+sized e more|cause e => some
 remove e =>
 // A new file is another one, which keeps the permissions but for the special bits. Neither is
 // opened for writing if it may not be written.

@@ -1,6 +1,8 @@
-//! The line and the column of an offset, and its line.
+//! The line and the column of an offset, its line, and the word at the front of a text.
 
-use lint_text::{Position, line_at, position_of};
+use lint_text::{Position, first_word, line_at, position_of};
+use std::test::Fail;
+use test_rows::{Page, RowCall, try_rows};
 
 const TEXT: &[u8] = b"AC_INIT([a], [1])\n\n\tx=1\nend";
 
@@ -20,4 +22,25 @@ fn lines_of_offsets(rt: HostRuntime) {
     let whole = line_at(TEXT, 17) == b"AC_INIT([a], [1])".as_slice();
     let others = line_at(TEXT, 18).is_empty() && line_at(TEXT, 21) == b"\tx=1".as_slice();
     assert!(rt; whole && others && line_at(TEXT, 99) == b"end".as_slice());
+}
+
+struct Words;
+
+impl RowCall for Words {
+    fn put(&self, page: &mut Page, given: &[u8]) {
+        page.put(first_word(given));
+    }
+}
+
+const WORDS: &[u8] = b"
+fi => fi
+fi; x=1 => fi
+done^Jx => done
+case^Ix => case
+$a-b/c d => $a-b/c
+";
+
+#[test]
+fn words_at_the_front(rt: HostRuntime) -> Result<(), Fail> {
+    try_rows(rt.alloc(), &Words, WORDS)
 }

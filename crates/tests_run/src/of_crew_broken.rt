@@ -58,6 +58,9 @@ impl<'a> OpenProcess for Process<'a> {
     }
 }
 
+/// The name of a file that is there, and can't be removed.
+const KEPT: &str = "kept.o";
+
 /// The system, but each child that is started has this pipe and this status, and the next of these
 /// looks. If it has the number of a refusal, each start is refused with that error.
 #[derive(Drop)]
@@ -113,6 +116,9 @@ impl<'a> Files for System<'a> {
     }
 
     fn symlink_metadata(&self, path: &str) -> io::Result<Metadata> {
+        if path == KEPT {
+            return self.rt.symlink_metadata("/proc/version");
+        }
         self.rt.symlink_metadata(path)
     }
 
@@ -125,6 +131,9 @@ impl<'a> Files for System<'a> {
     }
 
     fn remove_file(&self, path: &str) -> io::Result<()> {
+        if path == KEPT {
+            return Err(io::Error::from(ErrorKind::PermissionDenied));
+        }
         self.rt.remove_file(path)
     }
 
@@ -229,7 +238,8 @@ fn children_that_fail(rt: HostRuntime) -> Result<(), Fail> {
     try_rows(rt.alloc(), &Ends { rt: &rt }, ENDS)
 }
 
-/// The number of an error, with which the system refuses to start a child.
+/// The number of an error, with which the system refuses to start a child, and the conftest of the
+/// child.
 #[derive(Drop)]
 struct Refusals<'a> {
     rt: &'a HostRuntime,
@@ -237,6 +247,7 @@ struct Refusals<'a> {
 
 impl RowCall for Refusals<'_> {
     fn put(&self, page: &mut Page, given: &[u8]) {
+        let (refusal, file) = cut(given, b"|");
         let waits = Cell::new(0);
         let system = System {
             rt: self.rt,
@@ -245,9 +256,9 @@ impl RowCall for Refusals<'_> {
             waits: &waits,
             looks: b"",
             started: Cell::new(0),
-            refusal: number_of(given),
+            refusal: number_of(refusal),
         };
-        let job = job_of(page, b"true", b"");
+        let job = job_of(page, b"true", file);
         match &mut ProcessCrew::new(system, page.alloc()) {
             Ok(crew) => put_start(page, crew, job, 1),
             Err(_) => page.cut(),
@@ -260,6 +271,8 @@ const REFUSALS: &[u8] = b"\
 11 => true: Resource temporarily unavailable
 12 => true: Cannot allocate memory
 7 => true: Argument list too long
+// What a compiler made of the conftest can't be removed.
+0|kept.c int x; => kept.c: its object file can't be removed
 ";
 
 #[test]
