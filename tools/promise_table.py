@@ -6,7 +6,8 @@
 
 A sentence of the page is the `//` lines above a clause, or the `///` text of a function. A function is public if its module is, or if the
 head of its crate passes it on. A method is public if its type or trait is. Tests and programs have no section. A function that nobody
-has explained is an error, and so is an edit of tested-bodies/ that names no test.
+has explained is an error, and so is an edit of tested-bodies/ that names no test, or a crate with functions without a clause that is not in
+WHY_NONE.
 """
 import pathlib
 import re
@@ -32,6 +33,16 @@ from the sources.
 - Every function is safe and ends. A function without a clause promises no more, and is only named.
 - A *law* is a function that returns nothing and changes nothing. Its clauses are theorems about definitions.
 """
+# Why functions of a crate have no clause, by crate.
+WHY_NONE = {
+    "lint_macros": "Each index is exact, whoever made it: it has a ghost field that says so, and its calls are stated by that.",
+    "lint_text": "They cut texts in which words and places are looked for. What is said of a place is stated by the functions of `places`.",
+    "lint_words": "They choose words for a reader. Which words are right is a judgement, and examples hold it.",
+    "lint_templates": "Which names a source gives, and a header lists, decides only what is warned of. Examples hold it.",
+    "lint_warnings": "What means something else than it seems to is a judgement, row by row. Examples hold each row.",
+    "port_definitions": "They look for places at which something may be written. What is written there is stated by `port_calls`.",
+    "port_shell": "It names statements that stay, for the words of an error.",
+}
 FN = re.compile(r"( *)(pub |pub\([^)]*\) )?(?:const )?(?:unsafe )?fn (\w+)")
 CLAUSE = re.compile(r"(\s*)(requires|ensures)(?: (\w+))? \{")
 
@@ -91,7 +102,7 @@ def functions(file):
         at += 1
         if line.startswith("}"):
             owner, trait, is_trait = "", "", False
-        context = re.match(r"(?:pub )?(trait|impl)(?:<[^{]*?>)? (?:(\w+)(?:<[^{]*?>)? for )?(\w+)", line)
+        context = re.match(r"(?:pub(?:\([a-z]+\))? )?(trait|impl)(?:<[^{]*?>)? (?:(\w+)(?:<[^{]*?>)? for )?(\w+)", line)
         if context:
             owner, trait, is_trait = context[3], context[2] or "", context[1] == "trait"
         found = FN.match(line)
@@ -207,7 +218,8 @@ def section(crate):
                 if said:
                     yield wrapped(f"premise{f' `{label}`' if label else ''}: {ended(said)}", "  - ", "    ")
     if silent:
-        yield from ["", wrapped(f"Without a clause: {', '.join(f'`{it}`' for it in dict.fromkeys(silent))}.", "", "")]
+        names = ", ".join(f"`{it}`" for it in dict.fromkeys(silent))
+        yield from ["", wrapped(f"Without a clause: {names}. {WHY_NONE.get(crate, '')}".rstrip(), "", "")]
     for other, names in others.items():
         yield from ["", wrapped(f"Passes on from `{other}`: {', '.join(f'`{it}`' for it in sorted(names))}.", "", "")]
 
@@ -250,6 +262,9 @@ def unexplained():
             read = sum(len(one.clauses) + len(one.premises) for one in functions(file))
             if written != read:
                 yield f"{file.relative_to(ROOT)} has {written} clauses, and {read} were read"
+    silent = {crate for crate in crates() for _, found in public_functions(crate) for one in found if not one.clauses}
+    for crate in sorted(silent ^ {*WHY_NONE}):
+        yield f"tools/promise_table.py: WHY_NONE and the functions without a clause do not agree on {crate}"
     for crate, test, name in tested_bodies():
         if not test:
             yield f"crates/{crate}/tested-bodies: {name} names no test"
