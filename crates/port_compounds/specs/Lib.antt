@@ -3,3 +3,7 @@ pub mod Parts
 pub mod Ifs
 pub mod Cases
 pub mod Guards
+pub mod Words
+pub mod Loops
+pub mod Assigned
+pub mod Defaults

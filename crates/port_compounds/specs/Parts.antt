@@ -1,32 +1,13 @@
 -- What ends a part of a compound statement of a shell. The offsets are those of the text.
-use Rattle.std.specs.Prelude.{◌≡◌, ◌⊎◌, ℕ, ◌-◌, ◌+◌, ◌<◌, ◌≤◌, ◌==◌, Bool, false, List, [], ◌∷◌, length, slice_range, slice_index, codes}
+use Rattle.std.specs.Prelude.{◌≡◌, ◌⊎◌, ℕ, ◌-◌, ◌+◌, ◌<◌, ◌≤◌, ◌==◌, Bool, false, List, [], ◌∷◌, length, slice_range, slice_index}
 use Rattle.std.specs.List.{list_any}
 use Rattle.m4quote.specs.ItemValue.{bare}
 use Rattle.m4quote.specs.Spelling.{IsSpelling}
-use Rattle.port_compounds.specs.Places.{AreBlank, AreSpaces, IsWord, BeginsStatement, EndsStatement}
-
--- A `#`, which may begin a comment. (own)
-abbrev pub is_hash : ℕ → Bool
-is_hash b = b == 35
-
--- The text has no `#`. (own)
-abbrev pub HasNoHash : List ℕ → Type 0
-HasNoHash text = list_any is_hash text ≡ false
+use Rattle.port_compounds.specs.Places.{AreBlank, AreSpaces, BeginsStatement, EndsStatement, HasDnl, HasNoHash, IsWord, KeepsNewline}
 
 -- The byte is a newline. (own)
 abbrev pub is_newline : ℕ → Bool
 is_newline b = b == 10
-
--- The text has `dnl` at some place. (own)
-abbrev pub HasDnl : List ℕ → Type 0
-HasDnl text = (at : ℕ) × (slice_range text at (at + 3) ≡ codes "dnl")
-
--- The line that ends at this newline has no `dnl` from `start` on, so m4 keeps the newline. (own)
-pub record KeepsNewline (text : List ℕ) (start newline : ℕ) : Type 0 where
-  pub line : ℕ
-  pub order : (line ≤ newline) × (newline ≤ length text)
-  pub begins : (line ≡ start) ⊎ (slice_index text (line - 1) ≡ 10)
-  pub no_dnl : HasDnl (slice_range text line newline) → ⊥
 
 -- The newline at this offset ends a comment of a shell, if there is one. m4 drops a newline after `dnl`, and a comment would go on in the next
 -- line: so m4 keeps it, or no `#` is before it from `start` on. (own)

@@ -58,3 +58,26 @@ pub struct GuardCut {
     /// The offset after the statement.
     pub end: usize,
 }
+
+/// A `for` by the offsets of its words.
+#[derive(Clone, Copy)]
+pub struct ForCut {
+    /// The offset of `for`.
+    pub start: usize,
+    /// The offset of `in`.
+    pub at_in: usize,
+    /// The offset of `do`.
+    pub at_do: usize,
+    /// The offset of `done`.
+    pub at_done: usize,
+    /// The offset after `done`.
+    pub end: usize,
+}
+
+/// An assignment to a variable of its own value, or of a word if that is empty.
+#[derive(Clone, Copy)]
+pub struct DefaultOf<'a> {
+    /// The name of the variable.
+    pub name: &'a [u8],
+    pub word: &'a [u8],
+}

@@ -244,7 +244,7 @@ fn push_parts<'a>(
 }
 
 /// Returns whether a statement of its own may be between two offsets.
-fn is_own(text: &[u8], start: usize, end: usize) -> bool
+pub(crate) fn is_own(text: &[u8], start: usize, end: usize) -> bool
     ensures { IsTrue result → BeginsStatement text.now start × EndsStatement text.now end }
 {
     begins_statement(text, start) && ends_statement(text, end)

@@ -1,6 +1,6 @@
 //! The parts of a statement: conditions and bodies.
 
-ghost use Rattle.std.specs.Prelude.{◌≡◌, ◌⊎◌, ◌≤◌, ◌<◌, ◌+◌, ◌-◌, [], ◌∷◌, length, IfOk, IfSome, IsTrue, false, slice_index, slice_range, codes};
+ghost use Rattle.std.specs.Prelude.{◌≡◌, ◌⊎◌, ◌≤◌, ◌<◌, ◌+◌, ◌-◌, [], ◌∷◌, length, IfOk, IfSome, IsTrue, false, slice_index, slice_range};
 ghost use Rattle.std.specs.List.{list_any};
 ghost use Rattle.m4quote.specs.ItemValue.{bare, view, views};
 ghost use Rattle.m4quote.specs.Spelling.{IsSpelling};
@@ -8,16 +8,10 @@ ghost use Rattle.port_compounds.specs.Ifs as ifs;
 ghost use Rattle.port_compounds.specs.Parts as specs;
 ghost use Rattle.port_compounds.specs.Places.{AreSpaces};
 
+use crate::lines::{has_dnl, has_hash, has_no_hash, keeps_newline, line_start};
 use crate::places::{after_spaces, are_blank, are_spaces, before_spaces, is_blank};
 use m4quote::{Item, QuoteFault, read_items};
 use std::alloc::{AllocError, Global};
-
-/// Returns whether the text has a `#`.
-pub(crate) fn has_hash(text: &[u8]) -> bool
-    ensures { result ≡ list_any specs.is_hash text.now }
-{
-    text.iter().any(|byte| *byte == b'#')
-}
 
 /// Returns whether the text has a newline.
 fn has_newline(text: &[u8]) -> bool
@@ -151,7 +145,7 @@ pub(crate) fn before_blanks(text: &[u8], start: usize, at: usize) -> usize {
 
 /// Returns the offset after a condition that ends before `end`, but not before `start`: that of the
 /// blanks and the `;` before `end`.
-fn condition_end(text: &[u8], start: usize, end: usize) -> usize {
+pub(crate) fn condition_end(text: &[u8], start: usize, end: usize) -> usize {
     let to = before_blanks(text, start, end);
     if to > start && text.get(to.saturating_sub(1)) == Some(&b';') {
         before_blanks(text, start, to.saturating_sub(1))
@@ -181,65 +175,6 @@ pub(crate) fn condition<'a>(
     } else {
         Ok(None)
     }
-}
-
-/// Returns whether an offset is that of `dnl`.
-fn is_dnl_at(text: &[u8], at: usize) -> bool
-    requires { at ≤ length text.now }
-    ensures { result ≡ false → slice_range text.now at (at + 3) ≡ codes "dnl" → ⊥ }
-{
-    let rest = &text[at..];
-    rest.len() >= 3 && &rest[..3] == b"dnl".as_slice()
-}
-
-/// Returns whether the text has `dnl` at some place.
-pub fn has_dnl(text: &[u8]) -> bool
-    ensures { result ≡ false → specs.HasDnl text.now → ⊥ }
-{
-    for i in 0..text.len() {
-        if is_dnl_at(text, i) {
-            return true;
-        }
-    }
-    false
-}
-
-/// Returns the offset after the last newline between two offsets, or the first offset.
-fn line_start(text: &[u8], start: usize, at: usize) -> usize {
-    for i in (start..at.min(text.len())).rev() {
-        if text[i] == b'\n' {
-            return i.saturating_add(1);
-        }
-    }
-    start
-}
-
-/// Returns whether an offset is another one, or after a newline.
-fn is_start_of_line(text: &[u8], start: usize, at: usize) -> bool
-    ensures { IsTrue result → (at ≡ start) ⊎ (slice_index text.now (at - 1) ≡ 10) }
-{
-    if at == start {
-        return true;
-    }
-    0 < at && at <= text.len() && text[at - 1] == b'\n'
-}
-
-/// Returns whether a line begins between an offset and that of a newline, and has no `dnl` from
-/// there on.
-fn keeps_newline(text: &[u8], start: usize, line: usize, newline: usize) -> bool
-    ensures { IsTrue result → specs.KeepsNewline text.now start newline }
-{
-    line <= newline
-        && newline <= text.len()
-        && is_start_of_line(text, start, line)
-        && !has_dnl(&text[line..newline])
-}
-
-/// Returns whether there is no `#` between two offsets.
-fn has_no_hash(text: &[u8], start: usize, end: usize) -> bool
-    ensures { IsTrue result → specs.HasNoHash (slice_range text.now start end) }
-{
-    start <= end && end <= text.len() && !has_hash(&text[start..end])
 }
 
 /// Returns whether the newline at an offset ends a comment of a shell: m4 keeps it, or no `#` is

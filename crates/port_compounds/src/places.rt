@@ -1,9 +1,11 @@
 //! Blanks, words, and where a statement may begin and end.
 
-ghost use Rattle.std.specs.Prelude.{◌≡◌, ◌⊎◌, ◌-◌, ◌<◌, true, false, length, slice_index, codes, IsTrue};
+ghost use Rattle.std.specs.Prelude.{◌≡◌, ◌⊎◌, ◌-◌, ◌<◌, ◌≤◌, true, false, length, slice_index, codes, IsTrue};
 ghost use Rattle.std.specs.List.{list_all};
 ghost use Rattle.port_compounds.specs.Parts.{IsStatement};
 ghost use Rattle.port_compounds.specs.Places as specs;
+
+use crate::lines::ends_comment;
 
 /// Returns whether the byte is a space, a tab or a carriage return.
 pub(crate) fn is_space(byte: u8) -> bool
@@ -67,16 +69,29 @@ fn begins_list(byte: u8) -> bool
     byte == b'\n' || byte == b';' || byte == b'[' || byte == b')'
 }
 
+/// Returns whether the byte before an offset is a newline after which a comment would go on.
+fn is_in_comment(text: &[u8], at: usize) -> bool
+    requires { (0 < at) × (at ≤ length text.now) }
+    ensures { result ≡ false
+        → slice_index text.now (at - 1) ≡ 10
+        → specs.EndsComment text.now (at - 1) }
+{
+    text[at - 1] == b'\n' && !ends_comment(text, at - 1)
+}
+
+/// Returns whether an offset is after a byte after which a statement may begin.
+fn is_after(text: &[u8], at: usize) -> bool
+    ensures { IsTrue result → specs.IsAfterByte text.now at }
+{
+    0 < at && at <= text.len() && begins_list(text[at - 1]) && !is_in_comment(text, at)
+}
+
 /// Returns whether an offset is the first of a text, or after a byte after which a statement may
 /// begin.
 fn is_after_byte(text: &[u8], at: usize) -> bool
-    ensures { IsTrue result
-        → (at ≡ 0) ⊎ ((0 < at) × (specs.begins_list (slice_index text.now (at - 1)) ≡ true)) }
+    ensures { IsTrue result → (at ≡ 0) ⊎ specs.IsAfterByte text.now at }
 {
-    if at == 0 {
-        return true;
-    }
-    at <= text.len() && begins_list(text[at - 1])
+    at == 0 || is_after(text, at)
 }
 
 /// Returns whether `then` or `else` is before an offset.

@@ -1,12 +1,16 @@
 -- What one step of a pass makes.
-use Rattle.std.proofs.Common.{◌≡◌, ℕ, ◌≤◌, List, ◌++◌, length, Result, Ok, Err, is_ok, OnOk, if◌then◌else◌, slice_range, sym, subst, ◌∙◌, append_assoc, Option, Some, None, arith}
+use Rattle.std.proofs.Common.{◌≡◌, ℕ, ◌≤◌, List, [], ◌∷◌, ◌++◌, length, Result, Ok, Err, is_ok, OnOk, if◌then◌else◌, slice_range, sym, subst, ◌∙◌, append_assoc, Option, Some, None, arith}
 use Rattle.std.specs.Prelude.{IfOk, IfSome, codes}
+use Rattle.lint_errors.specs.Errors.{IsAccepted}
+use Rattle.port_compounds.specs.Assigned.{IsOnTwoLines}
 use Rattle.port_compounds.specs.Cases.{IsCase}
+use Rattle.port_compounds.specs.Defaults.{IsDefaulting, assignment, empty_test}
 use Rattle.port_compounds.specs.Guards.{IsGuarded, ReadsStatus}
 use Rattle.port_compounds.specs.Ifs.{IsIf}
+use Rattle.port_compounds.specs.Loops.{IsWrittenOut}
 use Rattle.port_joints.specs.Joints.{AllBecome}
 use Rattle.port_compounds.specs.Places.{EndsStatement}
-use Rattle.port_shell.specs.Calls.{IsPut}
+use Rattle.port_shell.specs.Calls.{IsPut, source_with}
 use Rattle.port_idioms.specs.declared.idioms.Idioms.{Idioms}
 use Rattle.port_shell.specs.Formed.{IsPass, IsFormed, IsNote, MayPut}
 use Rattle.port_shell.specs.Formed as specs
@@ -20,6 +24,9 @@ pass_bound idioms text at out (specs.IsPass.copied next before from to) = to
 pass_bound idioms text at out (specs.IsPass.chosen end parts texts note put before is become notes puts) = is.statement.word.0
 pass_bound idioms text at out (specs.IsPass.cased end parts note put before is notes puts) = is.statement.word.0
 pass_bound idioms text at out (specs.IsPass.guarded end parts texts note put before is unread become notes puts) = guard_bound text end is.ends
+pass_bound idioms text at out (specs.IsPass.spread end note put before is notes) = guard_bound text end is.is.ends
+pass_bound idioms text at out (specs.IsPass.defaulted end name word note put before is notes puts) = guard_bound text end is.ends
+pass_bound idioms text at out (specs.IsPass.repeated end note put before is accepted notes) = is.is.statement.word.0
 pass_bound idioms text at out (specs.IsPass.tested start to put before is order become) = order.2
 pass_bound idioms text at out (specs.IsPass.respelled from to put indent all before is order spelled blank) = order.2
 pass_bound idioms text at out (specs.IsPass.asked from to put call indent all before is order may asks blank) = order.2
@@ -62,6 +69,23 @@ pub guard_put : {E V : Type 0} (items : V → List ℕ) (text : List ℕ) (start
 unfolding MayPut
 guard_put items text start end parts texts r is unread become =
     on_put (λ v. IsPut (codes "AS_IF") texts (items v)) (λ v. MayPut text start end (items v)) (λ v puts idioms out note before notes. specs.IsPass.guarded end parts texts note (items v) before is unread become notes puts) r
+
+pub default_put : {E V : Type 0} (items : V → List ℕ) (text : List ℕ) (start end : ℕ) (name word : List ℕ) (r : Result (Option V) E)
+    → IsDefaulting text start end name word → IfOk r (λ o. IfSome o (λ v. IsPut (codes "AS_IF") (empty_test name ∷ assignment name word ∷ []) (items v)))
+    → IfOk r (λ o. IfSome o (λ v. MayPut text start end (items v)))
+unfolding MayPut
+default_put items text start end name word r is =
+    on_put (λ v. IsPut (codes "AS_IF") (empty_test name ∷ assignment name word ∷ []) (items v)) (λ v. MayPut text start end (items v)) (λ v puts idioms out note before notes. specs.IsPass.defaulted end name word note (items v) before is notes puts) r
+
+-- An assignment and a command on two lines may be put for them.
+pub two_lines_put : (text : List ℕ) (start end : ℕ) (put : List ℕ) → IsOnTwoLines text start end put → MayPut text start end put
+unfolding MayPut
+two_lines_put text start end put is idioms out note before notes = specs.IsPass.spread end note put before is notes
+
+-- The turns of a `for` may be put for it, if acrun accepts them.
+pub turns_put : (text : List ℕ) (start end : ℕ) (put : List ℕ) → IsWrittenOut text start end put → IsAccepted (source_with put) → MayPut text start end put
+unfolding MayPut
+turns_put text start end put is accepted idioms out note before notes = specs.IsPass.repeated end note put before is accepted notes
 
 pub pass_end : {T E : Type 0} (r : Result T E) (idioms : Idioms) (text : List ℕ) (at : ℕ) (out new : List ℕ) → IsPass idioms text at out
     → new ≡ (if is_ok r then out ++ slice_range text at (length text) else out) → OnOk r (IsPass idioms text (length text) new)

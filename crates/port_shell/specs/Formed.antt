@@ -3,9 +3,13 @@ use Rattle.std.specs.Prelude.{◌≡◌, ◌⊎◌, ℕ, ◌+◌, ◌<◌, ◌�
 use Rattle.std.specs.List.{list_all}
 use Rattle.ac_calls.specs.Calls.{MacroCall, calls_in}
 use Rattle.ac_calls.specs.declared.call.Extent.{Extent}
+use Rattle.lint_errors.specs.Errors.{IsAccepted}
+use Rattle.port_compounds.specs.Assigned.{IsOnTwoLines}
 use Rattle.port_compounds.specs.Cases.{IsCase}
+use Rattle.port_compounds.specs.Defaults.{IsDefaulting, assignment, empty_test}
 use Rattle.port_compounds.specs.Guards.{IsGuarded, ReadsStatus}
 use Rattle.port_compounds.specs.Ifs.{IsIf}
+use Rattle.port_compounds.specs.Loops.{IsWrittenOut}
 use Rattle.port_compounds.specs.Parts.{IsListEnd}
 use Rattle.port_compounds.specs.Places.{is_space, AreBlank, IsWord, BeginsStatement}
 use Rattle.port_idioms.specs.declared.idioms.Idioms.{Idioms}
@@ -13,7 +17,7 @@ use Rattle.port_idioms.specs.declared.idioms.Idioms.TheVariants.{All}
 use Rattle.port_joints.specs.Files.{HasPart, IsFileTest, IsTestOfFiles, program_of, with_answer}
 use Rattle.port_joints.specs.Joints.{AllBecome, Becomes}
 use Rattle.port_joints.specs.Spelled.{IsRespelled}
-use Rattle.port_shell.specs.Calls.{IsPut}
+use Rattle.port_shell.specs.Calls.{IsPut, source_with}
 
 -- The comment above a statement that has the first call of its kind: what the macro requires is then checked before AS_IF or AS_CASE, and
 -- no more within the statement. After it come a newline and the indent of the statement.
@@ -106,6 +110,8 @@ asked_so indent call = (codes "dnl acrun: in place of a test of a file: a progra
 
 -- One pass over a text has read so much of it, and written this. Everything is copied, but an `if` may become the call of AS_IF with the
 -- same conditions and bodies in the same order, and a `case` that of AS_CASE with the same word, patterns and bodies.
+-- `NAME=${NAME:-WORD}` may become the call of AS_IF that assigns the word if the variable is empty.
+-- An assignment with `&&` and a command after it may become the same on two lines. A `for` may become its turns, if acrun accepts them.
 -- If the text reads no status of a command, a statement after `&&` or `||` may become the call of AS_IF with its condition and itself. In a
 -- condition, `-a` and `-o` of `test` may become `&&` and `||`. If all idioms are wanted, a comment may be right before the call, and in a
 -- condition of an `if`, of AS_IF or of a guarded statement `==`, `-eq` and `-ne` may be spelled otherwise, with a comment right before the
@@ -120,6 +126,12 @@ pub data IsPass (idioms : Idioms) (text : List ℕ) : ℕ → List ℕ → Type 
       → IsNote idioms note → IsPut (codes "AS_CASE") parts put → IsPass idioms text end (out ++ (note ++ put))
   guarded : {at : ℕ} {out : List ℕ} (end : ℕ) (parts texts : List (List ℕ)) (note put : List ℕ) → IsPass idioms text at out → IsGuarded text at end parts
       → (ReadsStatus text → ⊥) → AllBecome parts texts → IsNote idioms note → IsPut (codes "AS_IF") texts put → IsPass idioms text end (out ++ (note ++ put))
+  spread : {at : ℕ} {out : List ℕ} (end : ℕ) (note put : List ℕ) → IsPass idioms text at out → IsOnTwoLines text at end put
+      → IsNote idioms note → IsPass idioms text end (out ++ (note ++ put))
+  defaulted : {at : ℕ} {out : List ℕ} (end : ℕ) (name word note put : List ℕ) → IsPass idioms text at out → IsDefaulting text at end name word
+      → IsNote idioms note → IsPut (codes "AS_IF") (empty_test name ∷ assignment name word ∷ []) put → IsPass idioms text end (out ++ (note ++ put))
+  repeated : {at : ℕ} {out : List ℕ} (end : ℕ) (note put : List ℕ) → IsPass idioms text at out → IsWrittenOut text at end put
+      → IsAccepted (source_with put) → IsNote idioms note → IsPass idioms text end (out ++ (note ++ put))
   tested : {from : ℕ} {out : List ℕ} (start to : ℕ) (put : List ℕ) → IsPass idioms text from out → IsTestAt text start from to → AreOrdered text start from to
       → Becomes (slice_range text from to) put → IsPass idioms text to (out ++ put)
   respelled : {start : ℕ} {out : List ℕ} (from to : ℕ) (put indent : List ℕ) → idioms ≡ All → IsPass idioms text start out → IsTestAt text start from to → AreOrdered text start from to

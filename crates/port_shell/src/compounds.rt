@@ -3,7 +3,7 @@
 use crate::cut::{Around, Cut, Kept};
 use crate::shell::{Sign, Word};
 use lint_text::from;
-use port_compounds::{CaseBranch, CaseCut, GuardCut, IfBranch, IfCut};
+use port_compounds::{CaseBranch, CaseCut, ForCut, GuardCut, IfBranch, IfCut};
 use std::alloc::{AllocError, Global};
 
 /// What a compound statement is.
@@ -13,7 +13,9 @@ enum Kind {
     If,
     /// `case`.
     Case,
-    /// `for`, `while`, `until` or `select`.
+    /// `for`.
+    For,
+    /// `while`, `until` or `select`.
     Loop,
     /// Braces.
     Group,
@@ -60,6 +62,15 @@ struct Compound {
     /// Whether the parenthesis is right after a word, as that of a function or of a macro.
     is_after_word: bool,
     at_in: usize,
+    /// How many words of a `for` were read before its `do`, and the offset of that.
+    words: usize,
+    at_do: usize,
+    /// Whether each word of a `for` is one that is written there.
+    is_written: bool,
+    /// Whether `break` or `continue` is in it, but in no loop in it.
+    has_jump: bool,
+    /// How many statements that may be rewritten were found before it.
+    found_before: usize,
     /// The branches of a `case` so far, and the parenthesis after the patterns of the one that was
     /// begun.
     cases: Vec<CaseBranch>,
@@ -70,7 +81,9 @@ impl Compound {
     /// Returns whether the statements of the list that is read are ones that calls may be put in.
     fn is_list(&self) -> bool {
         let is_done = self.stage == Stage::Body || self.stage == Stage::Default;
-        self.is_in_list && is_done && matches!(self.kind, Kind::If | Kind::Case)
+        self.is_in_list
+            && is_done
+            && (matches!(self.kind, Kind::If | Kind::Case) || self.is_written)
     }
 
     /// Returns what a statement has around it that is in this one, if that keeps it from being
@@ -79,14 +92,22 @@ impl Compound {
         match self.kind {
             Kind::If | Kind::Case if self.stage == Stage::Head => Some(Around::Condition),
             Kind::If | Kind::Case => self.outer,
-            Kind::Loop | Kind::Group | Kind::Paren => Some(Around::Other(self.start)),
+            Kind::For if self.is_written && self.stage == Stage::Body => self.outer,
+            Kind::For | Kind::Loop | Kind::Group | Kind::Paren => Some(Around::Other(self.start)),
         }
     }
 
-    /// Notes that a statement of this kind begins in it.
+    /// Notes that a statement of this kind begins in it. Of a `for` it is known at its end what it is.
     fn take_in(&mut self, kind: Kind, start: usize) {
         self.is_allowed = false;
-        if !matches!(kind, Kind::If | Kind::Case) && self.at_other.is_none() {
+        if matches!(kind, Kind::Loop | Kind::Group | Kind::Paren) {
+            self.note_other(start);
+        }
+    }
+
+    /// Notes that something is in it that stays, whatever is in that.
+    fn note_other(&mut self, start: usize) {
+        if self.at_other.is_none() {
             self.at_other = Some(start);
         }
     }
@@ -124,20 +145,43 @@ pub(crate) struct Compounds {
     is_function: bool,
     /// Whether the sign before was a `;`, and its offset.
     semicolon: Option<usize>,
-    /// The statement that begins with a test, up to the last word that was read.
+    /// The statement that begins with a test or an assignment, up to the last word that was read.
     guard: Option<GuardCut>,
+    /// Whether it begins with an assignment, and with one that has a value of its own in it.
+    is_assigned: bool,
+    is_default: bool,
     found: Vec<Cut>,
     /// The statements that aren't rewritten, whatever their parts are.
     kept: Vec<Kept>,
 }
 
-/// Returns whether a word is a name and `+=` with something after it.
-fn is_appending(word: &[u8]) -> bool {
+/// Returns what is after the name that a word begins with, or nothing if it begins with none.
+fn after_name(word: &[u8]) -> &[u8] {
     let length = word
         .iter()
         .take_while(|byte| byte.is_ascii_alphanumeric() || **byte == b'_')
         .count();
-    length > 0 && from(word, length).starts_with(b"+=")
+    if length > 0 { from(word, length) } else { b"" }
+}
+
+/// Returns whether a word is a name and `+=` with something after it.
+fn is_appending(word: &[u8]) -> bool {
+    after_name(word).starts_with(b"+=")
+}
+
+/// Returns whether a word is a name and `=` with something after it.
+fn is_assigning(word: &[u8]) -> bool {
+    after_name(word).starts_with(b"=")
+}
+
+/// Returns whether a word may have a value that is taken if a variable is empty.
+fn is_defaulting(word: &[u8]) -> bool {
+    word.contains(&b'{') && word.contains(&b':')
+}
+
+/// Returns whether a word is no more and no less than what is written there.
+fn is_written(word: &[u8]) -> bool {
+    !word.iter().any(|byte| b"$`*?\\".contains(byte))
 }
 
 /// Returns a branch of an `if` that begins at an offset.
@@ -159,6 +203,8 @@ impl Compounds {
             is_function: false,
             semicolon: None,
             guard: None,
+            is_assigned: false,
+            is_default: false,
             found: Vec::new(alloc),
             kept: Vec::new(alloc),
         }
@@ -200,8 +246,15 @@ impl Compounds {
     /// test, the statement may be rewritten.
     fn end_guard(&mut self) -> Result<(), AllocError> {
         if let Some(guard) = self.guard {
+            if guard.at_joint == 0 && self.is_default {
+                self.found.push(Cut::Default(guard))?;
+            }
             if guard.at_joint > 0 && guard.at_joint < guard.end {
-                self.found.push(Cut::Guard(guard))?;
+                self.found.push(if self.is_assigned {
+                    Cut::Assigned(guard)
+                } else {
+                    Cut::Guard(guard)
+                })?;
             }
         }
         self.guard = None;
@@ -215,12 +268,14 @@ impl Compounds {
                 end: word.end,
                 ..guard
             });
-        } else if text == b"test".as_slice()
+        } else if (text == b"test".as_slice() || is_assigning(text))
             && self.is_list()
             && self.front == Front::Statement
             && !self.is_function
             && !is_quoted
         {
+            self.is_assigned = text != b"test".as_slice();
+            self.is_default = self.is_assigned && is_defaulting(text);
             self.guard = Some(GuardCut {
                 start: word.start,
                 at_joint: 0,
@@ -306,6 +361,11 @@ impl Compounds {
             has_subject: false,
             is_after_word: false,
             at_in: 0,
+            words: 0,
+            at_do: 0,
+            is_written: false,
+            has_jump: false,
+            found_before: self.found.len(),
             cases: Vec::new(alloc),
             at_close: 0,
         })?;
@@ -462,7 +522,37 @@ impl Compounds {
             return None;
         }
         self.front = Front::Further;
-        self.open.pop()
+        let taken = self.open.pop();
+        let is_loop = matches!(kind, Kind::For | Kind::Loop);
+        if !is_loop && taken.as_ref().is_some_and(|compound| compound.has_jump) {
+            self.note_jump();
+        }
+        taken
+    }
+
+    /// Notes that `break` or `continue` is in what is open.
+    fn note_jump(&mut self) {
+        if let Some(last) = self.open.last_mut() {
+            last.has_jump = true;
+        }
+    }
+
+    /// Takes the statements after the first ones out of those that may be rewritten: they are in a
+    /// loop at an offset, which stays.
+    fn keep_found(&mut self, first: usize, at: usize) -> Result<(), AllocError> {
+        for _ in first..self.found.len() {
+            let Some(cut) = self.found.pop() else {
+                break;
+            };
+            if matches!(cut, Cut::If(_) | Cut::Case(_)) {
+                self.kept.push(Kept {
+                    cut,
+                    around: Some(Around::Other(at)),
+                    at_other: None,
+                })?;
+            }
+        }
+        Ok(())
     }
 
     /// Reads `fi`.
@@ -487,15 +577,65 @@ impl Compounds {
         }
     }
 
+    /// Reads a word of a `for` before its `do`.
+    fn read_of_for(&mut self, text: &[u8], word: Word, is_quoted: bool) {
+        let Some(last) = self.open.last_mut() else {
+            return;
+        };
+        if last.kind != Kind::For || last.stage != Stage::Head || self.front != Front::Further {
+            return;
+        }
+        last.words = last.words.saturating_add(1);
+        if last.words == 2 {
+            last.at_in = word.start;
+            last.is_written = text == b"in".as_slice();
+        }
+        last.is_written &= is_written(text);
+        last.read_quotes(is_quoted);
+    }
+
     /// Reads `do`.
-    fn read_do(&mut self) {
+    fn read_do(&mut self, word: Word, is_quoted: bool) {
         match self.open.last_mut() {
-            Some(last) if last.kind == Kind::Loop && last.stage == Stage::Head => {
+            Some(last)
+                if matches!(last.kind, Kind::For | Kind::Loop) && last.stage == Stage::Head => {
                 last.stage = Stage::Body;
+                last.at_do = word.start;
+                last.read_quotes(is_quoted);
                 self.front = Front::Statement;
             }
             _ => self.lose(),
         }
+    }
+
+    /// Reads `done`.
+    fn read_done(&mut self, word: Word, is_quoted: bool) -> Result<(), AllocError> {
+        let is_for = self.open.last().is_some_and(|last| last.kind == Kind::For);
+        if !is_for {
+            self.close(Kind::Loop);
+            return Ok(());
+        }
+        let Some(last) = self.take(Kind::For) else {
+            return Ok(());
+        };
+        if let Some(outer) = self.open.last_mut() {
+            if !last.is_written || last.has_jump {
+                outer.note_other(last.start);
+            }
+        }
+        if last.has_jump {
+            return self.keep_found(last.found_before, last.start);
+        }
+        if last.is_allowed && last.is_written && last.stage == Stage::Body && !is_quoted {
+            self.found.push(Cut::For(ForCut {
+                start: last.start,
+                at_in: last.at_in,
+                at_do: last.at_do,
+                at_done: word.start,
+                end: word.end,
+            }))?;
+        }
+        Ok(())
     }
 
     /// Closes a compound statement that isn't rewritten.
@@ -514,7 +654,8 @@ impl Compounds {
         let kind = match text {
             b"if" => Kind::If,
             b"case" => Kind::Case,
-            b"for" | b"while" | b"until" | b"select" => Kind::Loop,
+            b"for" => Kind::For,
+            b"while" | b"until" | b"select" => Kind::Loop,
             b"{" => Kind::Group,
             _ => return Ok(false),
         };
@@ -540,11 +681,15 @@ impl Compounds {
             b"elif" => self.read_elif(word, is_quoted)?,
             b"else" => self.read_else(word, is_quoted)?,
             b"fi" => self.read_fi(word, is_quoted)?,
-            b"do" => self.read_do(),
-            b"done" => self.close(Kind::Loop),
+            b"do" => self.read_do(word, is_quoted),
+            b"done" => self.read_done(word, is_quoted)?,
             b"esac" => self.read_esac(word, is_quoted)?,
             b"}" => self.close(Kind::Group),
             b"!" => self.front = Front::Joined,
+            b"break" | b"continue" => {
+                self.note_jump();
+                self.front = Front::Further;
+            }
             _ => return Ok(false),
         }
         Ok(true)
@@ -603,6 +748,7 @@ impl Compounds {
             return Ok(false);
         }
         self.fill_paren();
+        self.read_of_for(text, word, is_quoted);
         self.read_guard(text, word, is_quoted);
         self.read_line(text, word, is_quoted)?;
         if self.front == Front::Further {

@@ -298,7 +298,7 @@ fn push_of_cut(text: &[u8], cut: &Cut, places: &mut Vec<Place>) -> Result<(), Al
             places.push(place_of_guard(text, *cut))?;
             Ok(())
         }
-        Cut::Case(_) | Cut::Line(_) => Ok(()),
+        Cut::Case(_) | Cut::Assigned(_) | Cut::Default(_) | Cut::For(_) | Cut::Line(_) => Ok(()),
     }
 }
 

@@ -1,6 +1,6 @@
 //! Where the words of a statement are.
 
-use port_compounds::{CaseCut, GuardCut, IfCut};
+use port_compounds::{CaseCut, ForCut, GuardCut, IfCut};
 
 /// A statement by the offsets of its words.
 #[derive(Drop)]
@@ -8,6 +8,11 @@ pub(crate) enum Cut {
     If(IfCut),
     Case(CaseCut),
     Guard(GuardCut),
+    /// An assignment with `&&` and a command after it.
+    Assigned(GuardCut),
+    /// An assignment to a variable of its own value, or of a word if that is empty.
+    Default(GuardCut),
+    For(ForCut),
     /// The offset of an `echo`, an `exit`, an `unset` or an assignment by `+=`.
     Line(usize),
 }
@@ -19,6 +24,9 @@ impl Cut {
             Cut::If(cut) => cut.start,
             Cut::Case(cut) => cut.start,
             Cut::Guard(cut) => cut.start,
+            Cut::Assigned(cut) => cut.start,
+            Cut::Default(cut) => cut.start,
+            Cut::For(cut) => cut.start,
             Cut::Line(at) => *at,
         }
     }
@@ -29,6 +37,9 @@ impl Cut {
             Cut::If(cut) => cut.end,
             Cut::Case(cut) => cut.end,
             Cut::Guard(cut) => cut.end,
+            Cut::Assigned(cut) => cut.end,
+            Cut::Default(cut) => cut.end,
+            Cut::For(cut) => cut.end,
             Cut::Line(at) => *at,
         }
     }

@@ -102,11 +102,11 @@ impl Reader {
         calls: &[CallAt],
         lists: &mut Vec<Extent>,
     ) -> Result<(), AllocError> {
+        let is_quoted = self.is_quoted;
+        self.is_quoted = false;
         let Some(word) = self.shell.take_word() else {
             return Ok(());
         };
-        let is_quoted = self.is_quoted;
-        self.is_quoted = false;
         let written = part(text, word.start, word.end);
         if self.shell.take_delimiter(alloc, written)? {
             return Ok(());
@@ -197,6 +197,10 @@ impl Reader {
             self.skips = at
                 .saturating_add(first_line(from(text, at)).len())
                 .saturating_add(1);
+            // The newline goes with the line, so a comment of the shell goes on after it.
+            if self.shell.is_in_comment() {
+                return Ok(());
+            }
             return self.read_seen(alloc, text, calls, b'\n', at, lists);
         }
         if self.depth == 0 {

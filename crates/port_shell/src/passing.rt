@@ -8,9 +8,11 @@ use crate::cut::Cut;
 use crate::lists::cuts_in;
 use crate::needs::drawing_in;
 use crate::noting::note_for;
-use crate::puts::{call_for_case, call_for_guard, call_for_if};
+use crate::puts::{
+    call_for_case, call_for_default, call_for_guard, call_for_if, lines_for, turns_for,
+};
 use ac_calls::calls_of;
-use port_compounds::{CaseCut, GuardCut, IfCut, reads_status};
+use port_compounds::{CaseCut, ForCut, GuardCut, IfCut, reads_status};
 use port_idioms::Idioms;
 use std::alloc::{AllocError, Global};
 
@@ -223,7 +225,100 @@ fn pass_guard(
     pass_unread(alloc, idioms, drawing, text, cut, pass)
 }
 
-/// Writes the call for a statement, if there is one, unless it was in what was rewritten.
+/// Writes an assignment and the command after it on two lines, unless they were in what was
+/// rewritten.
+fn pass_assigned(
+    alloc: Global,
+    idioms: Idioms,
+    drawing: &[usize],
+    text: &[u8],
+    cut: GuardCut,
+    pass: &mut Pass,
+) -> Result<(), AllocError>
+    requires begun { specs.IsPass idioms text.now pass.old.at pass.old.out.items }
+    ensures { OnOk result (specs.IsPass idioms text.now pass.new.at pass.new.out.items) }
+{
+    if cut.start < pass.at {
+        return Ok(());
+    }
+    match lines_for(alloc, text, cut)? {
+        Some(put) => put_found(
+            alloc,
+            idioms,
+            drawing,
+            text,
+            cut.start,
+            cut.end,
+            put.as_slice(),
+            pass,
+        ),
+        None => Ok(()),
+    }
+}
+
+/// Writes the call for an assignment of a value or of a word, if there is one, unless it was in what
+/// was rewritten.
+fn pass_default(
+    alloc: Global,
+    idioms: Idioms,
+    drawing: &[usize],
+    text: &[u8],
+    cut: GuardCut,
+    pass: &mut Pass,
+) -> Result<(), AllocError>
+    requires begun { specs.IsPass idioms text.now pass.old.at pass.old.out.items }
+    ensures { OnOk result (specs.IsPass idioms text.now pass.new.at pass.new.out.items) }
+{
+    if cut.start < pass.at {
+        return Ok(());
+    }
+    match call_for_default(alloc, text, cut)? {
+        Some(put) => put_found(
+            alloc,
+            idioms,
+            drawing,
+            text,
+            cut.start,
+            cut.end,
+            put.as_slice(),
+            pass,
+        ),
+        None => Ok(()),
+    }
+}
+
+/// Writes the turns of a `for`, if they can be written out, unless it was in what was rewritten.
+fn pass_for(
+    alloc: Global,
+    idioms: Idioms,
+    drawing: &[usize],
+    text: &[u8],
+    cut: ForCut,
+    pass: &mut Pass,
+) -> Result<(), AllocError>
+    requires begun { specs.IsPass idioms text.now pass.old.at pass.old.out.items }
+    ensures { OnOk result (specs.IsPass idioms text.now pass.new.at pass.new.out.items) }
+{
+    if cut.start < pass.at {
+        return Ok(());
+    }
+    match turns_for(alloc, text, cut)? {
+        Some(put) => put_found(
+            alloc,
+            idioms,
+            drawing,
+            text,
+            cut.start,
+            cut.end,
+            put.as_slice(),
+            pass,
+        ),
+        None => Ok(()),
+    }
+}
+
+/// Writes what takes the place of a statement, if there is something, unless it was in what was
+/// rewritten.
 fn pass_cut(
     alloc: Global,
     idioms: Idioms,
@@ -241,6 +336,9 @@ fn pass_cut(
         Cut::If(cut) => pass_if(alloc, idioms, drawing, text, cut, pass),
         Cut::Case(cut) => pass_case(alloc, idioms, drawing, text, cut, pass),
         Cut::Guard(cut) => pass_guard(alloc, idioms, drawing, text, *cut, reads, pass),
+        Cut::Assigned(cut) => pass_assigned(alloc, idioms, drawing, text, *cut, pass),
+        Cut::Default(cut) => pass_default(alloc, idioms, drawing, text, *cut, pass),
+        Cut::For(cut) => pass_for(alloc, idioms, drawing, text, *cut, pass),
         Cut::Line(_) => Ok(()),
     }
 }

@@ -207,7 +207,7 @@ fn refusal_of(
         Cut::If(cut) => refusal_of_if(alloc, text, cut, has_bodies),
         Cut::Case(cut) => refusal_of_case(alloc, text, cut, has_bodies),
         Cut::Guard(cut) => refusal_of_guard(alloc, text, *cut),
-        Cut::Line(_) => Ok(None),
+        Cut::Assigned(_) | Cut::Default(_) | Cut::For(_) | Cut::Line(_) => Ok(None),
     }
 }
 
@@ -218,6 +218,9 @@ fn reason_of(
     text: &[u8],
     cut: &Cut,
 ) -> Result<Option<Reason>, AllocError> {
+    if matches!(cut, Cut::Assigned(_) | Cut::Default(_) | Cut::For(_)) {
+        return Ok(None);
+    }
     let refused = refusal_of(alloc, text, cut, true)?;
     if refused.is_none() && draws(drawing, cut.start(), cut.end()) {
         return Ok(Some(Reason::Draws));

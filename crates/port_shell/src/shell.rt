@@ -111,6 +111,11 @@ impl Shell {
         self.open.is_empty() && !self.is_comment && !self.is_here && !self.is_escaped
     }
 
+    /// Returns whether this is a comment.
+    pub(crate) fn is_in_comment(&self) -> bool {
+        self.is_comment
+    }
+
     /// Returns whether the word before a byte ends there.
     pub(crate) fn ends_before(&self, byte: u8) -> bool {
         self.is_at_command() && ends_word(byte) && (byte != b'(' || self.before != b'$')

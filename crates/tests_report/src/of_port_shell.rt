@@ -198,15 +198,88 @@ a=$(^Jif :; then x=1; fi^J) => the same
 {^Jif :; then x=1; fi^J} => the same
 f() {^Jif :; then x=1; fi^J} => the same
 f ()^Jif :; then x=1; fi => the same
-for i in a b; do^Jif :; then x=1; fi^Jdone => the same
+for i in $a; do^Jif :; then x=1; fi^Jdone => the same
 for i^Jdo^Jif :; then x=1; fi^Jdone => the same
 while a; do^Jif :; then x=1; fi^Jdone => the same
 until a^Jdo if :; then x=1; fi^Jdone => the same
-for i in a b; do^JAS_IF([:], [if :; then x=1; fi])^Jdone => the same
+for i in $a; do^JAS_IF([:], [if :; then x=1; fi])^Jdone => the same
 cat <<A^Jif :; then x=1; fi^JA => the same
 cat <<-'A B'^Jif :; then x=1; fi^J^IA B^Jif :; then x=2; fi => cat <<-'A B'^Jif :; then x=1; fi^J^IA B^JAS_IF([:], [x=2])
 cat << \A <<B^JA^Jif :; then x=1; fi^JB^Jif :; then x=2; fi => cat << \A <<B^JA^Jif :; then x=1; fi^JB^JAS_IF([:], [x=2])
 cat <<A^JAS_IF([:], [if :; then x=1; fi])^JA => the same
+// for over words that are written there
+for i in a; do :; done => i=a^J :
+for i in a; do x=1; done => i=a^J x=1
+  for i in a b.c^J  do^J    x=$i^J  done =>   i=a^J    x=$i^J  i=b.c^J    x=$i
+for i in "" "a b" -lc; do x="$i $x"; done # c => i=""^J x="$i $x"^Ji="a b"^J x="$i $x"^Ji=-lc^J x="$i $x" # c
+for i in a b; do^Jif test $i; then x=1; fi^Jdone => i=a^JAS_IF([test $i], [x=1])^Ji=b^JAS_IF([test $i], [x=1])
+for i in a; do^Jfor j in b c; do x=1; done^Jdone => i=a^Jj=b^J x=1^Jj=c^J x=1
+if :; then^Jfor i in a; do x=1; done^Jfi => AS_IF([:], [^Ji=a^J x=1^J])
+AS_IF([:], [for i in a; do x=1; done]) => AS_IF([:], [i=a^J x=1])
+for i in a; do x=1 # b^Jy=2; done => i=a^J x=1 # b^Jy=2
+// which stays
+for i in $a; do x=1; done => the same
+for i in `a`; do x=1; done => the same
+for i in a*; do x=1; done => the same
+for i in ~a; do x=1; done => the same
+for i in {a,b}; do x=1; done => the same
+for i in 'a'; do x=1; done => the same
+for i in "a"b; do x=1; done => the same
+for i in a\ b; do x=1; done => the same
+for i in a\^Jb; do x=1; done => the same
+for i in; do x=1; done => the same
+for i do x=1; done => the same
+for i in a; do for j in b; do x=1; done; done => the same
+if :; then for i in a; do x=1; done; fi => the same
+for i in AC_A; do x=1; done => the same
+for 1 in a; do x=1; done => the same
+for i in a; do x=1; done | b => the same
+for i in a; do x=1; done && y=1 => the same
+for i in a; do x=1; done; y=1 => the same
+a && for i in b; do x=1; done => the same
+[for] i in a; do x=1; done => the same
+for i in a; do x=1 # b^Jdone => the same
+for i in a; do if :; then x=1; fi; done => the same
+for i in a; do^Jif :; then break; fi^Jdone => the same
+for i in a; do x=$?; done => the same
+for i in a; do x_cv_y=$i; done => the same
+for i in a; do AC_ARG_VAR([X], [x]); done => the same
+for i in a; do AC_CHECK_HEADERS([a.h]); done => the same
+for i in 1 2 3 4 5 6 7 8 9 a b c d e f g h; do x=1; done => the same
+// an assignment that something is joined to
+a=1 && x=2 => a=1^Jx=2
+  a="$b c" && AC_MSG_NOTICE([d]) # e =>   a="$b c"^J  AC_MSG_NOTICE([d]) # e
+AS_IF([:], [a=1 && AC_DEFINE([X])]) => AS_IF([:], [a=1^JAC_DEFINE([X])])
+a= &&^J  x=2 => a=^Jx=2
+a=`b` && x=2 => the same
+a=$(b) && x=2 => the same
+a='b' && x=2 => the same
+a=b c=d && x=2 => the same
+a=1 && x=2 || y=3 => the same
+a=1 || x=2 => the same
+a=1 && AC_CHECK_FUNC([b]) => the same
+a=1 && x=2 & => the same
+b && a=1 && x=2 => the same
+// a value or a word
+a=${a:-b} => AS_IF([test -z "$a"], [a=b])
+  A_1="${A_1:-b.c}"; x=1 =>   AS_IF([test -z "$A_1"], [A_1=b.c]); x=1
+a=${a:-"b c"} # d => AS_IF([test -z "$a"], [a="b c"]) # d
+if :; then a=${a:-}; fi => AS_IF([:], [AS_IF([test -z "$a"], [a=])])
+a=${a-b} => the same
+a=${b:-c} => the same
+a=${a:-$b} => the same
+a=${a:-b}c => the same
+a="${a:-"b"}" => the same
+a=${a:-b c} => the same
+a=${a:-AC_B} => the same
+a=${a:-b} c=d => the same
+a=${a:-b} | c => the same
+// a comment that goes on after a line of m4
+[#] dnl^Jif :; then x=1; fi => the same
+[#] a dnl b^Jdnl c^Ja=1 && x=2 => the same
+[#] dnl^Jfor i in a; do x=1; done => the same
+# a^Jdnl # b^Jif :; then x=1; fi => # a^Jdnl # b^JAS_IF([:], [x=1])
+x=1 dnl a^Jif :; then x=1; fi => x=1 dnl a^JAS_IF([:], [x=1])
 // after what is none of these
 for i in a b; do c; done^Jif :; then x=1; fi => for i in a b; do c; done^JAS_IF([:], [x=1])
 f() { a; }^Jif :; then x=1; fi => f() { a; }^JAS_IF([:], [x=1])

@@ -79,7 +79,7 @@ echo "^Jcase $a in b) x=1;; esac^J" => the same
 a=$(^Jcase $a in b) x=1;; esac^J) => the same
 (^Jcase $a in b) x=1;; esac^J) => the same
 f() {^Jcase $a in b) x=1;; esac^J} => the same
-for i in a; do^Jcase $a in b) x=1;; esac^Jdone => the same
+for i in $a; do^Jcase $a in b) x=1;; esac^Jdone => the same
 AC_NOPE([case $a in b) x=1;; esac]) => the same
 # case $a in b) x=1;; esac => the same
 dnl case $a in b) x=1;; esac => the same
