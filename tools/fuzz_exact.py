@@ -18,7 +18,8 @@ of LATER_NAMES; with --idioms also `==`, `-eq`, `-ne`, `exit` and `echo` without
 `-a` and `-o` join; with --idioms also `+=`, `echo` with `exit`, and such an operator in double quotes, as far as docs/commands.md names them.
 From number 3000000 on it may also have blanks after the arguments of macros that have an exact idiom, more texts of NEWEST_ARGUMENTS, and
 the macros of NEWEST_NAMES. From number 4000000 on it also defines macros without parameters, and calls them. From number 5000000 on it also
-has AC_PATH_PROGS, checks with `break`, and AC_CACHE_VAL between its messages, and defines plain words.
+has AC_PATH_PROGS, checks with `break`, and AC_CACHE_VAL between its messages, and defines plain words. From number 6000000 on it also has
+`for` over words, assignments with `&&` after them, and lines that m4 joins to a comment.
 A difference is allowed if a line `~ ` of macros.txt states it for a macro of the source, or one of the sentences below of docs/differences.md.
 
 With --idioms a source has also calls of the macros that have a line `& `, if Autoconf itself has them, and port is given that switch. If
@@ -757,6 +758,24 @@ NEWEST_NAMES = ("AC_TRY_LINK_FUNC(main)",)
 DEFINING = 4_000_000
 # From this number on also AC_PATH_PROGS without a path, and macros that are plain words.
 WRITING = 5_000_000
+# From this number on also `for` over words, assignments with `&&` after them or with a word if they are empty, and lines that m4 joins to a comment.
+LOOPING = 6_000_000
+LOOP_WORDS = ("a", "b.c", "-lz", "x/y", '""', '"two words"', '"d"', "e=f", "+g", "yes")
+LOOP_BODIES = (
+    'v1="$v1 ${0}"', 'if test "${0}" = yes; then\n  v2=yes\nfi', "AC_MSG_NOTICE([now ${0}])", 'LIBS="$LIBS ${0}"', 'test -n "${0}" && v2=${0}',
+    "case ${0} in\n  a) v1=1 ;;\n  *) v2=${0} ;;\nesac", "AC_TRY_COMPILE([#include <time.h>], [struct tm t;], [v1=${0}], [v2=${0}])", "v2=a v1=${0}",
+    'AC_DEFINE_UNQUOTED([{1}], ["${0}"], [a text])', "AC_CACHE_CHECK([for {1}], [fz_cv_{1}], [fz_cv_{1}=${0}])", "{0}=$v1", "AC_CHECK_FUNCS([getcwd])",
+    'if test "${0}" = a; then\n  break\nfi', "v2=${{{0}}}x # a note", "dnl a note", "# a note: it's (here",
+)
+AND_VALUES = ("1", '"1"', '"$v2 b"', "$v1", "${v1-x}", '""', "", "a/b-c", "`echo c`", "$enable_foo")
+DEFAULTS = ("v1=${v1:-a}", 'v1="${v1:-b/c}"', 'level=${level:-"two words"}', "v2=${v2:-}", "v2=${v2:-$v1}", "v1=${v1-x}", "CFLAGS=${CFLAGS:--g}", "fz_d=${fz_d:-1.0}; v1=$fz_d", 'v1="${v1:-"q"}"')
+AND_COMMANDS = ("AC_MSG_NOTICE([v1 is $v1])", "v2=x", "AC_DEFINE([{0}], [1], [a text])", "AC_DEFINE({0})", 'test -n "$v1"', "v2=b v1=a", "AC_CHECK_FUNCS([getcwd])",
+                "v2=x || v1=z", "v2=x && v1=z")
+JOINED_LINES = (
+    '[#] dnl a note\nif test -n "$v1"; then v2=joined; fi', '[#] a note dnl\ntest -n "$v1" && v2=joined', "[#] a note dnl\nv1=x && v2=joined",
+    "[#] dnl\nfor fz_it in a b; do v2=$fz_it; done", "[#] dnl\ncase $v1 in a) v2=1;; *) v2=2;; esac", '# a note\ndnl # another\nif test -n "$v1"; then v2=after; fi',
+    '[#] dnl a note\ndnl one more\nif test -n "$v1"; then v2=joined; fi', "dnl # a note\nv1=y && v2=after",
+)
 WORD_USES = ("v1={0}", "v2=\"a-{0}.b\"", "v1='{0}' v2=1{0}", "AC_SUBST([{1}], [{0}])", "AC_SUBST([{1}], [\"$v1 {0}\"])", "AC_DEFINE([{1}], [{0}], [a text])",
             "AC_DEFINE_UNQUOTED([{1}], [\"$v1-{0}\"], [a text])", "AC_MSG_NOTICE([it is {0}])", "if test \"$v1\" = {0}; then\n  v2={0}\nfi", "v1={0}x",
             "AC_MSG_NOTICE([[{0}]])", "v1={0} # a note", "# {0}", "AS_IF([test \"$v1\" = {0}], [v2={0}])", "AC_MSG_CHECKING(for {0})\nAC_MSG_RESULT([{0}, yes])")
@@ -816,7 +835,7 @@ class Maker:
     def __init__(self, number, names=None, switches=()):
         self.at = random.Random(number)
         self.is_later, self.is_newer, self.is_newest, self.is_defining = (number >= it for it in (LATER, NEWER, NEWEST, DEFINING))
-        self.is_writing = number >= WRITING
+        self.is_writing, self.is_looping = number >= WRITING, number >= LOOPING
         self.all_idioms = switches == IDIOMS
         rows = [*(others() * 3 if self.all_idioms else []), *exact()]
         left_out = (*NO_CALLS, *(() if self.is_later else LATER_NAMES), *(() if self.is_newest else NEWEST_NAMES))
@@ -1016,7 +1035,8 @@ class Maker:
         """Adds calls of AC_PATH_PROGS, most of which are a statement at the top."""
         for _ in range(self.at.randint(0, 2)):
             name, tools = self.one(["FZ_TOOL", "FZ_PROG"]), self.at.sample(TOOLS, self.at.randint(1, 4))
-            listed = self.one([" ".join(tools), f"[{' '.join(tools)}]", "[" + "\n  ".join(tools) + "]"])
+            # A shell reads no newline in the list of the loop that Autoconf makes of it.
+            listed = self.one([" ".join(tools), f"[{' '.join(tools)}]", *(["[" + "\n  ".join(tools) + "]"] if not self.is_looping else [])])
             if self.has(0.3):
                 macro, two = self.one([("AC_CHECK_HEADERS", ["zlib.h", "sys/time.h", "no/such.h"]), ("AC_CHECK_FUNCS", ["getcwd", "strtok", "no_such"])])
                 blocks.insert(self.at.randint(0, len(blocks)), f"{macro}([{' '.join(self.at.sample(two, 2))}], [break])")
@@ -1044,6 +1064,35 @@ class Maker:
                 blocks.insert(place, defined)
             for _ in range(self.at.choice((0, 1, 1, 2, 3))):
                 blocks.insert(self.at.randint(place + 1, len(blocks)), self.one(WORD_USES).format(name, self.fresh("D")))
+
+    def loop(self):
+        """Returns a `for` over words."""
+        name, words = self.one(["fz_it", "i", "Name_1"]), " ".join(self.one(LOOP_WORDS) for _ in range(self.at.randint(1, 4)))
+        if self.has(0.05):
+            words = self.one([f"{words} $v1", f"`echo a` {words}", f"{words} *.none"])
+        body = [self.one(LOOP_BODIES).format(name, self.fresh("D")) for _ in range(self.at.randint(1, 3))]
+        if all("a note" in it and "=" not in it for it in body):
+            body.append(f"v1=${name}")
+        if len(body) == 1 and "\n" not in body[0] and not re.search("note|AC_[A-LN-Z]", body[0]) and self.has(0.4):
+            return f"for {name} in {words}; do {body[0]}; done"
+        text = "".join(f"  {it}\n" for it in body) if self.has(0.6) else "".join(f"{it}\n" for it in body)
+        return f"for {name} in {words}{self.one(['; do', chr(10) + 'do', ' ; do'])}\n{text}done{self.one(['', '', ' # a note', f'; v1=${name}'])}"
+
+    def with_loops(self, blocks):
+        """Adds `for` over words, assignments with `&&` after them, and lines that m4 joins to a comment."""
+        for _ in range(self.at.randint(1, 3)):
+            kind = self.at.randrange(6)
+            if kind == 5:
+                text = self.one(DEFAULTS)
+            elif kind < 3:
+                text = self.loop()
+            elif kind == 3:
+                text = f"{self.one(['v1', 'level'])}={self.one(AND_VALUES)}{self.one([' && ', '&&', ' &&' + chr(10) + '  '])}{self.one(AND_COMMANDS).format(self.fresh('D'))}"
+            else:
+                text = self.one(JOINED_LINES)
+            if kind != 4 and self.has(0.3):
+                text = self.one(["if test -n \"$v1\"; then\n{0}\nfi", "AS_IF([test \"$v2\" = x], [{0}])", "AS_IF([test \"$v2\" = x], [], [\n  {0}\n])"]).format(text)
+            blocks.insert(self.at.randint(0, len(blocks)), text)
 
     def assignment(self):
         return f"{self.one(['v1', 'v2', 'level'])}={self.one(SET)}"
@@ -1148,6 +1197,8 @@ class Maker:
         if self.is_writing:
             self.with_programs(blocks)
             self.with_words(first, blocks)
+        if self.is_looping:
+            self.with_loops(blocks)
         if self.all_idioms:
             # The stand-in for a compiler looks at no file, so such a test has an operator that stays.
             blocks = [it.replace("test -f configure", "test -L configure") for it in blocks]
