@@ -1,5 +1,5 @@
-//! What the program is asked to do, what it reads for that, and how it prints. Nothing here runs a
-//! source.
+//! What the program is asked to do, what it reads for that, and how it prints. This is no command,
+//! but what the commands share, and nothing here runs a source.
 //!
 //! [`words`] and [`environment`] are what the process is given, and [`call_of`] says which command
 //! the words name. [`read_supplies`] and [`record_templates`] read what a command needs besides its

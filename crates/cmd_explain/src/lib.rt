@@ -1,4 +1,5 @@
-//! What is wrong, in words, after the line of a fault on standard error.
+//! What is wrong, in words, after the line of a fault on standard error. This is no command: the
+//! commands call it.
 //!
 //! The line of a fault has numbers. It is the same at all times, and fixed. Where somebody looks at
 //! it, further lines follow it: if standard error is a terminal, or if the environment has an

@@ -85,7 +85,7 @@ fn followed<D: Disk>(alloc: Global, disk: &D, name: &str) -> io::Result<String>
         meant.is_link (kind_under k name.now) ≡ true → LeadsTo k name.now (string_bytes end))) }
 {
     let mut end = next_of(alloc, disk, name)?;
-    for _ in 1..MOST_LINKS {
+    for _ in 0..MOST_LINKS {
         if !is_link(disk, end.as_str())? {
             return Ok(end);
         }

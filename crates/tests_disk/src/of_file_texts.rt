@@ -163,6 +163,17 @@ fn crowd(rt: &HostRuntime, directory: &str) -> io::Result<()> {
     Ok(())
 }
 
+/// Makes 41 links in a directory: `1` leads to `0`, and each other one to the one before.
+fn chain(rt: &HostRuntime, directory: &str) -> io::Result<()> {
+    for before in 0..41u32 {
+        let number = before + 1;
+        let name = format!(in rt.alloc(); "{directory}/{number}")?;
+        let target = format!(in rt.alloc(); "{before}")?;
+        symlink(rt, target.as_str(), name.as_str())?;
+    }
+    Ok(())
+}
+
 fn permissions_of(word: &[u8]) -> Permissions {
     Permissions::from_mode(match word {
         b"private" => 0o600,
@@ -181,6 +192,7 @@ fn done_by(rt: &HostRuntime, verb: &[u8], name: &str, word: &[u8]) -> io::Result
         b"permit" => fs::set_permissions(rt, name, permissions_of(word)),
         b"sized" => sized(rt, name, word),
         b"crowd" => crowd(rt, name),
+        b"chain" => chain(rt, name),
         _ => fs::remove_file(rt, name),
     }
 }
@@ -384,6 +396,8 @@ hand header link.h new|look link.h|read link.h|read config.h => all[config.statu
 write real c|link cache.1 real|hand cache cache.1 d|look cache.1|look real|read real => yesall[]linkfile[d]
 link cache.2 later|hand cache cache.2 d|look cache.2|read later => all[]link[d]
 directory cd|link cd/3 ../cache.1|hand cache cd/3 e|look cd/3|look cache.1|read real => all[]linklink[e]
+directory ln|chain ln|hand cache ln/40 x|look ln/40|read ln/0 => all[]link[x]
+hand cache ln/41 y|look ln/41|read ln/0 => not 1[]link[x]
 link loop.1 loop.2|link loop.2 loop.1|hand cache loop.1 x|look loop.1 => not 1[]link
 link cache.4 /dev/null|hand cache cache.4 x|look cache.4 => not 1[]link
 // A put to a file of an earlier put is refused, under any of its names, and what it has stays.
