@@ -68,7 +68,8 @@ a+= => the same
 a+=b # c => the same
 a+b=c => the same
 echo a+=b c+=d => dnl acrun: in place of echo: -q drops the line^JAC_MSG_RESULT([a+=b c+=d])
-for a in b; do^Ja+=c^Jdone => the same
+while b; do^Ja+=c^Jdone => the same
+for a in b; do^Ja+=c^Jdone => for a in b; do^Jdnl acrun: in place of +=: some shells take it for a command^Ja="$a"c^Jdone
 a && b+=c => the same
 // which stay
 exit 0 => the same
@@ -80,7 +81,8 @@ unset a b => the same
 unset -v a => the same
 unset $a => the same
 unset => the same
-for a in b; do^Jexit 1^Jdone => the same
+while b; do^Jexit 1^Jdone => the same
+for a in b; do^Jexit 1^Jdone => for a in b; do^Jdnl acrun: in place of exit: an error is printed^JAC_MSG_ERROR([exit 1], [1])^Jdone
 a || exit 1 => the same
 // what a shell reads otherwise
 echo a  b => the same
@@ -100,7 +102,8 @@ echo  a => the same
 echo a dnl b => the same
 echo [a] => the same
 // where no call can be put
-for a in b; do^Jecho a^Jdone => the same
+while b; do^Jecho a^Jdone => the same
+for a in b; do^Jecho a^Jdone => for a in b; do^Jdnl acrun: in place of echo: -q drops the line^JAC_MSG_RESULT([a])^Jdone
 a() {^Jecho a^J} => the same
 a <<b^Jecho a^Jb => the same
 a="^Jecho b^J" => the same
