@@ -316,14 +316,20 @@ OF_SETUP = ("commands", "they set CFLAGS to `-g -O2` if it is empty")
 OF_STANDARD = ("commands", "and define STDC_HEADERS, unless the source names that")
 
 
+def has_flags(before, after):
+    """Returns whether a value is the one before with `-g -O2` at one place."""
+    before, flags = before or "", "-g -O2"
+    return after is not None and any(after == before[:at] + flags + before[at:] for at in range(len(before) + 1))
+
+
 def of_setup(found, ported):
     """Returns the differences without those that are stated of the lines below AC_PROG_CC. `ported` is what port writes."""
     for it in (OF_SETUP, OF_STANDARD):
         said(*it)
-    if "in place of CFLAGS: " in ported:
-        is_flags = re.compile(r"(output|values|src/values|variable) CFLAGS$")
-        found = {name: (before, after) for name, (before, after) in found.items()
-                 if not (is_flags.match(name) and after == ("-g -O2" + before if before else "-g -O2"))}
+    if "in place of CFLAGS: " in ported and any(re.search(r" CFLAGS$", name) and has_flags(*it) for name, it in found.items()):
+        # A variable that is made of CFLAGS has the flags too.
+        is_value = re.compile(r"(output|values|src/values|variable) \w+$")
+        found = {name: it for name, it in found.items() if not (is_value.match(name) and has_flags(*it))}
     if "in place of STDC_HEADERS: " in ported:
         found = {name: it for name, it in found.items() if name != "#STDC_HEADERS" or it != (None, "1")}
     return found
