@@ -2,13 +2,10 @@
 -- comment from the text after it. (own; a shell separates commands in the same way)
 use Rattle.std.specs.Prelude.{ℕ, ◌+◌, ◌-◌, Bool, true, not, ◌&&◌, ◌||◌, ◌==◌, List, [], ◌∷◌, length, reverse, slice_index, if◌then◌else◌}
 use Rattle.std.specs.List.{prefix_len}
+pub use Rattle.text_cut.specs.Cuts.{is_space}
 use Rattle.m4quote.specs.ItemValue.{Span, ItemValue, call, bare}
 use Rattle.ac_statement.specs.declared.placement.LineStart.{LineStart}
 use Rattle.ac_statement.specs.Texts.{arg_at, is_all_blank}
-
--- A space or a tab. (own)
-abbrev pub is_space : ℕ → Bool
-is_space b = b == 32 || b == 9
 
 -- Its leading spaces and tabs aside, the text begins with a newline, `;` or `#`, or is empty. (own)
 abbrev pub begins_line : List ℕ → Bool

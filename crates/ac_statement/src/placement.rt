@@ -7,12 +7,7 @@ ghost use Rattle.ac_statement.specs.Stand as words;
 
 use crate::texts::is_all_blank;
 use m4quote::{Arg, Item};
-
-fn is_space(byte: u8) -> bool
-    ensures { result ≡ words.is_space byte }
-{
-    byte == b' ' || byte == b'\t'
-}
+use text_cut::is_space;
 
 /// Returns the number of spaces and tabs at the front.
 fn space_len(text: &[u8]) -> usize

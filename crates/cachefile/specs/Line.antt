@@ -1,6 +1,7 @@
 -- The setting of a line of a cache file, as a function of the line. `Form` has the forms of lines.
 use Rattle.std.specs.Prelude.{ℕ, ◌==◌, ◌||◌, Bool, true, false, List, [], ◌∷◌, take, drop, Option, Some, None, option_map, option_and_then, codes, if◌then◌else◌}
 use Rattle.std.specs.List.{prefix_len}
+pub use Rattle.text_cut.specs.Cuts.{is_space}
 use Rattle.cachefile.specs.Name.{is_word_byte}
 use Rattle.cachefile.specs.Word.{value_in}
 
@@ -14,10 +15,6 @@ pub data Setting : Type 0 where
 abbrev pub name_of : Setting → List ℕ
 name_of (Sets name value) = name
 name_of (Defaults name value) = name
-
--- A space or a tab. (own)
-abbrev pub is_space : ℕ → Bool
-is_space b = b == 32 || b == 9
 
 -- The text after this front, or none if it doesn't begin with it. (own)
 unfoldable pub rest_after : List ℕ → List ℕ → Option (List ℕ)

@@ -10,6 +10,7 @@ use crate::entry::Entry;
 use crate::word::value_in;
 use deftable::Bytes;
 use std::alloc::{AllocError, Global};
+use text_cut::is_space;
 
 fn is_word_byte(byte: u8) -> bool
     ensures { result ≡ names.is_word_byte byte }
@@ -56,12 +57,6 @@ fn rest_after_name<'a>(name: &[u8], text: &'a [u8]) -> Option<&'a [u8]>
     ensures { option_map (λ t. t.now) result ≡ words.rest_after_name name.now text.now }
 {
     rest_after(b"=", rest_after(name, text)?)
-}
-
-fn is_space(byte: u8) -> bool
-    ensures { result ≡ words.is_space byte }
-{
-    byte == b' ' || byte == b'\t'
 }
 
 // Returns whether the line is empty except for spaces, tabs and a comment.

@@ -4,6 +4,7 @@ use Rattle.std.specs.List.{prefix_len}
 use Rattle.std.specs.Str.{bytes_eq}
 use Rattle.m4quote.specs.Text.{open_bracket, line_len, whole_line_len}
 use Rattle.shellword.specs.Text.{backslash, single_quote, double_quote, newline, begins_with}
+pub use Rattle.text_cut.specs.Cuts.{is_space}
 use Rattle.shell_bare.specs.Text.{is_part_end}
 use Rattle.lint_marks.specs.declared.heres.HereTexts.{HereTexts}
 
@@ -27,17 +28,13 @@ is_in_word b = not (is_part_end b) && not (is_operator b)
 abbrev pub is_tab : ℕ → Bool
 is_tab b = b == 9
 
--- A space or a tab. (POSIX shell, 2.3)
-abbrev pub is_blank : ℕ → Bool
-is_blank b = b == 32 || b == 9
-
 -- The text after `<<` without the `-`. (POSIX shell, 2.7.4)
 abbrev pub after_dash : List ℕ → List ℕ
 after_dash text = if begins_with dash text then drop 1 text else text
 
 -- The text without blanks at its front. (own)
 abbrev pub after_blanks : List ℕ → List ℕ
-after_blanks text = drop (prefix_len is_blank text) text
+after_blanks text = drop (prefix_len is_space text) text
 
 -- The bytes before the first that ends a word. (own)
 abbrev pub front_word : List ℕ → List ℕ

@@ -7,6 +7,7 @@ ghost use Rattle.shellword.specs.Text.{begins_with};
 ghost use Rattle.lint_marks.specs.Heres as specs;
 
 use shell_bare::is_part_end;
+use text_cut::is_space;
 
 /// The here-documents that are to come on the lines after a place.
 #[derive(Clone, Copy)]
@@ -48,12 +49,10 @@ fn is_in_word(byte: u8) -> bool
 
 /// Returns the number of blanks at the front.
 fn blank_len(text: &[u8]) -> usize
-    ensures value { result ≡ prefix_len specs.is_blank text.now }
+    ensures value { result ≡ prefix_len specs.is_space text.now }
     ensures within { result ≤ length text.now }
 {
-    text.iter()
-        .take_while(|byte| matches!(byte, b' ' | b'\t'))
-        .count()
+    text.iter().take_while(|byte| is_space(**byte)).count()
 }
 
 /// Returns the number of tabs at the front.

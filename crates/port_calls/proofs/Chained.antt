@@ -6,12 +6,12 @@ use Rattle.text_cut.specs.Cuts.{fields}
 use Rattle.ac_calls.specs.Calls.{MacroCall}
 use Rattle.ac_calls.specs.declared.call.Extent.{Extent}
 use Rattle.port_idioms.specs.Filled.{text_of}
-use Rattle.port_calls.specs.Put.{arg_text, is_c_name, is_space}
+use Rattle.port_calls.specs.Put.{arg_text, is_c_name, is_space_or_return}
 use Rattle.port_calls.specs.Chains.{IsChain, IsChainOf, is_value_byte, value_of}
 
 one : (text : List ℕ) (c : MacroCall) (variable programs : Extent) (indent name list value put : List ℕ) → slice_range text c.start c.name_end ≡ codes "AC_PATH_PROGS" → length c.args ≤ 3
     → slice_get c.args 0 ≡ Some variable → slice_get c.args 1 ≡ Some programs → text_of (Some (arg_text text variable)) ≡ name → text_of (Some (arg_text text programs)) ≡ list
-    → value_of text c ≡ value → is_c_name name ≡ true → list_all is_value_byte value ≡ true → list_all is_space indent ≡ true → IsChainOf indent name (fields list) value put → IsChain text c put
+    → value_of text c ≡ value → is_c_name name ≡ true → list_all is_value_byte value ≡ true → list_all is_space_or_return indent ≡ true → IsChainOf indent name (fields list) value put → IsChain text c put
 one text c variable programs indent name list value put macro three first second name_is list_is value_is is_name plain blank is =
     record {
       macro = macro;
@@ -34,7 +34,7 @@ one text c variable programs indent name list value put macro three first second
 pub chains : {V E : Type 0} (items : V → List ℕ) (r : Result (Option V) E) (text : List ℕ) (c : MacroCall) (variable programs : Extent) (indent name list value : List ℕ)
     → slice_range text c.start c.name_end ≡ codes "AC_PATH_PROGS" → length c.args ≤ 3
     → slice_get c.args 0 ≡ Some variable → slice_get c.args 1 ≡ Some programs → text_of (Some (arg_text text variable)) ≡ name → text_of (Some (arg_text text programs)) ≡ list
-    → value_of text c ≡ value → is_c_name name ≡ true → list_all is_value_byte value ≡ true → list_all is_space indent ≡ true
+    → value_of text c ≡ value → is_c_name name ≡ true → list_all is_value_byte value ≡ true → list_all is_space_or_return indent ≡ true
     → IfOk r (λ o. IfSome o (λ v. IsChainOf indent name (fields list) value (items v))) → IfOk r (λ o. IfSome o (λ v. IsChain text c (items v)))
 chains items (Ok (Some v)) text c variable programs indent name list value macro three first second name_is list_is value_is is_name plain blank is =
     one text c variable programs indent name list value (items v) macro three first second name_is list_is value_is is_name plain blank is

@@ -6,12 +6,12 @@ use Rattle.text_cut.specs.Cuts.{fields, parts, trimmed}
 use Rattle.lint_macros.specs.Values.{unquoted}
 use Rattle.port_idioms.specs.Rows.{Differs}
 use Rattle.ac_calls.specs.Calls.{MacroCall}
-use Rattle.port_calls.specs.Put.{IsNoted, arg_text, below, count_of, difference, each_of, each_word, is_space, noted, put_for, row_name, writes_each_word, written_as, written_with}
+use Rattle.port_calls.specs.Put.{IsNoted, arg_text, below, count_of, difference, each_of, each_word, is_space_or_return, noted, put_for, row_name, writes_each_word, written_as, written_with}
 use Rattle.port_calls.specs.Put as specs
 use Rattle.lint_macros.specs.Members.{takes_list}
 
 pub noted_is : (text : List ℕ) (c : MacroCall) (it indent said name front out : List ℕ) (has_words is_list : Bool) (args : List (List ℕ))
-    → put_for text c ≡ Some it → list_all is_space indent ≡ true → Differs (row_name text c) (count_of text c.args) said
+    → put_for text c ≡ Some it → list_all is_space_or_return indent ≡ true → Differs (row_name text c) (count_of text c.args) said
     → name ≡ row_name text c → has_words ≡ writes_each_word name → is_list ≡ takes_list name → args ≡ map (arg_text text) c.args → front ≡ difference name said
     → out ≡ front ++ flat_map (below indent it) (written_as has_words is_list args) → IsNoted text c out
 unfolding noted

@@ -4,13 +4,13 @@ use Rattle.std.specs.Prelude.{IfOk, IfSome}
 use Rattle.std.specs.List.{list_all}
 use Rattle.port_idioms.specs.Filled.{filled}
 use Rattle.ac_calls.specs.Calls.{MacroCall}
-use Rattle.port_calls.specs.Put.{IsPut, IsExactFor, IsNoted, MayPut, arg_text, is_space, put_for}
+use Rattle.port_calls.specs.Put.{IsPut, IsExactFor, IsNoted, MayPut, arg_text, is_space_or_return, put_for}
 use Rattle.port_idioms.specs.declared.idioms.Idioms.{Idioms}
 use Rattle.port_idioms.specs.declared.idioms.Idioms.TheVariants.{Exact, All}
 use Rattle.port_calls.specs.Put as specs
 
 pub idiom_puts : {V E : Type 0} (items : V → List ℕ) (r : Result (Option V) E) (text : List ℕ) (c : MacroCall) (args : List (List ℕ)) (indent it : List ℕ)
-    → put_for text c ≡ Some it → args ≡ map (arg_text text) c.args → list_all is_space indent ≡ true
+    → put_for text c ≡ Some it → args ≡ map (arg_text text) c.args → list_all is_space_or_return indent ≡ true
     → IfOk r (λ o. IfSome o (λ v. items v ≡ filled args indent it)) → IfOk r (λ o. IfSome o (λ v. IsPut text c (items v)))
 idiom_puts items (Ok (Some v)) text c args indent it puts are spaces is =
     subst (IsPut text c) (sym (is ∙ ap (λ a. filled a indent it) are)) (specs.IsPut.idiom it indent puts spaces)

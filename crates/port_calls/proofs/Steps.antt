@@ -13,7 +13,7 @@ use Rattle.port_calls.specs.Exchanged.{IsExchanged}
 use Rattle.port_calls.specs.Making.{IsMade}
 use Rattle.port_definitions.specs.Defined.{Defines, DefinesWord, IsNameAt, IsPlainUse, IsUnused}
 use Rattle.port_idioms.specs.Filled.{text_of}
-use Rattle.port_calls.specs.Put.{MayPut, arg_text, is_space, difference, below}
+use Rattle.port_calls.specs.Put.{MayPut, arg_text, is_space_or_return, difference, below}
 use Rattle.lint_macros.specs.Entries.{entry_of}
 use Rattle.lint_macros.specs.declared.text.TheConstants.{TABLE}
 use Rattle.port_idioms.specs.Rows.{put_by, Differs}
@@ -65,7 +65,7 @@ part_step idioms text at out c start new_at new before is joins from (at_is, new
     (subst (IsPass idioms text (start + 1)) (sym (new_is ∙ append-nil (out ++ slice_range text at start))) (specs.IsPass.parted c copied is joins))
 
 pub line_step : (idioms : Idioms) (text : List ℕ) (at : ℕ) (out : List ℕ) (c : MacroCall) (end : ℕ) (indent put : List ℕ) (new_at : ℕ) (new : List ℕ)
-    → IsPass idioms text at out → Contains (calls_in text) c → EndsItsLine text c → at ≤ c.end → AreSpaces text c end → list_all is_space indent ≡ true → put ≡ 10 ∷ indent
+    → IsPass idioms text at out → Contains (calls_in text) c → EndsItsLine text c → at ≤ c.end → AreSpaces text c end → list_all is_space_or_return indent ≡ true → put ≡ 10 ∷ indent
     → (new_at ≡ end) × (new ≡ (out ++ slice_range text at c.end) ++ put) → IsPass idioms text new_at new
 line_step idioms text at out c end indent put new_at new before is ends from (after, to, spaces) blank put_is (at_is, new_is) =
     let copied = specs.IsPass.copied c.end before from (omega (arith, after, to)) in
@@ -141,7 +141,7 @@ undefine_step idioms text at out start end name word new_at new before defines u
     (subst (IsPass idioms text end) (sym (new_is ∙ append-nil (out ++ slice_range text at start))) (specs.IsPass.undefined end name word copied defines unused to))
 
 -- What is put after AC_PROG_CC sets GCC.
-pub sets_gnu : (put it said indent : List ℕ) → put_by (entry_of (codes "GCC") TABLE.now) ≡ Some it → Differs (codes "GCC") 0 said → list_all is_space indent ≡ true
+pub sets_gnu : (put it said indent : List ℕ) → put_by (entry_of (codes "GCC") TABLE.now) ≡ Some it → Differs (codes "GCC") 0 said → list_all is_space_or_return indent ≡ true
     → put ≡ ((10 ∷ indent) ++ difference (codes "GCC") said) ++ below indent it [] → SetsGnu put
 sets_gnu put it said indent has differs blank is = record { it = it; said = said; indent = indent; has = has; differs = differs; blank = blank; is = is }
 

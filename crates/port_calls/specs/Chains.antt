@@ -6,7 +6,7 @@ use Rattle.text_cut.specs.Cuts.{fields}
 use Rattle.ac_calls.specs.Calls.{MacroCall}
 use Rattle.ac_calls.specs.declared.call.Extent.{Extent}
 use Rattle.port_idioms.specs.Filled.{text_of}
-use Rattle.port_calls.specs.Put.{arg_text, is_c_name, is_space}
+use Rattle.port_calls.specs.Put.{arg_text, is_c_name, is_space_or_return}
 
 -- A byte of the name of a program: a letter, a digit, or one of `_ - . +`. (own)
 abbrev pub is_program_byte : ℕ → Bool
@@ -72,5 +72,5 @@ pub record IsChain (text : List ℕ) (c : MacroCall) (put : List ℕ) : Type 0 w
   pub indent : List ℕ
   pub name : is_c_name (text_of (Some (arg_text text variable))) ≡ true
   pub value : list_all is_value_byte (value_of text c) ≡ true
-  pub blank : list_all is_space indent ≡ true
+  pub blank : list_all is_space_or_return indent ≡ true
   pub is : IsChainOf indent (text_of (Some (arg_text text variable))) (fields (text_of (Some (arg_text text programs)))) (value_of text c) put

@@ -2,7 +2,7 @@
 -- that it is written is own)
 use Rattle.std.specs.Prelude.{◌≡◌, ℕ, true, List, ◌∷◌, ◌++◌, codes}
 use Rattle.std.specs.List.{list_all}
-use Rattle.port_calls.specs.Put.{difference, is_space}
+use Rattle.port_calls.specs.Put.{difference, is_space_or_return}
 
 -- ---- the flags
 
@@ -34,6 +34,6 @@ lines_below indent name said text = ((10 ∷ indent) ++ difference name said) ++
 
 -- One of these.
 pub data IsBelowCompiler (put : List ℕ) : Type 0 where
-  flags : (indent : List ℕ) → list_all is_space indent ≡ true → put ≡ lines_below indent (codes "CFLAGS") flags_said flags_text → IsBelowCompiler put
-  headers : (indent : List ℕ) → list_all is_space indent ≡ true → put ≡ lines_below indent (codes "AC_INCLUDES_DEFAULT") headers_said headers_text → IsBelowCompiler put
-  standard : (indent : List ℕ) → list_all is_space indent ≡ true → put ≡ lines_below indent (codes "STDC_HEADERS") standard_said standard_text → IsBelowCompiler put
+  flags : (indent : List ℕ) → list_all is_space_or_return indent ≡ true → put ≡ lines_below indent (codes "CFLAGS") flags_said flags_text → IsBelowCompiler put
+  headers : (indent : List ℕ) → list_all is_space_or_return indent ≡ true → put ≡ lines_below indent (codes "AC_INCLUDES_DEFAULT") headers_said headers_text → IsBelowCompiler put
+  standard : (indent : List ℕ) → list_all is_space_or_return indent ≡ true → put ≡ lines_below indent (codes "STDC_HEADERS") standard_said standard_text → IsBelowCompiler put

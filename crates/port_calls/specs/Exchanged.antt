@@ -7,7 +7,7 @@ use Rattle.ac_calls.specs.Calls.{MacroCall, calls_in}
 use Rattle.ac_calls.specs.declared.call.Extent.{Extent}
 use Rattle.port_idioms.specs.Filled.{text_of}
 use Rattle.port_calls.specs.Chains.{IsChain}
-use Rattle.port_calls.specs.Put.{arg_text, is_blank, is_c_name}
+use Rattle.port_calls.specs.Put.{arg_text, is_blank_or_return, is_c_name}
 
 -- ---- the first of a list that is there
 
@@ -60,7 +60,7 @@ pub record IsOfOne (text : List ℕ) (c : MacroCall) (name : List ℕ) (arg : Ex
 
 -- Blanks alone are between the two offsets.
 abbrev pub AreBlank : List ℕ → ℕ → ℕ → Type 0
-AreBlank text start end = list_all is_blank (slice_range text start end) ≡ true
+AreBlank text start end = list_all is_blank_or_return (slice_range text start end) ≡ true
 
 -- The call is AC_CACHE_VAL with these arguments.
 pub record IsValue (text : List ℕ) (c : MacroCall) (variable commands : Extent) : Type 0 where

@@ -11,7 +11,7 @@ use Rattle.lint_macros.specs.declared.text.TheConstants.{TABLE}
 use Rattle.port_idioms.specs.Filled.{text_of}
 use Rattle.port_idioms.specs.Rows.{put_by, Differs}
 use Rattle.port_definitions.specs.Defined.{is_of_name}
-use Rattle.port_calls.specs.Put.{arg_text, count_of, difference, below, is_space}
+use Rattle.port_calls.specs.Put.{arg_text, count_of, difference, below, is_space_or_return}
 
 -- The call is AC_INIT with at most one argument, so that it names no version.
 abbrev pub LacksVersion : List ℕ → MacroCall → Type 0
@@ -52,7 +52,7 @@ pub record IsTitled (text : List ℕ) (c : MacroCall) (put : List ℕ) : Type 0 
   pub indent : List ℕ
   pub has : put_by (entry_of (titled_row (count_of text c.args)) TABLE.now) ≡ Some it
   pub differs : Differs (titled_row (count_of text c.args)) 0 said
-  pub blank : list_all is_space indent ≡ true
+  pub blank : list_all is_space_or_return indent ≡ true
   pub is : put ≡ difference (codes "AC_INIT") said ++ below indent it (arg_text text name ∷ arg_text text version ∷ map (arg_text text) c.args)
 
 -- ---- a word that is searched for in what the preprocessor leaves
@@ -78,7 +78,7 @@ are_plain (line ∷ more) = is_plain_line line && are_plain more
 
 -- A line that begins with `#if`, without a backslash, and spaces after it.
 abbrev pub opens : Option (List ℕ × List ℕ) → Bool
-opens (Some (line, rest)) = starts_with nat_eq line (codes "#if") && list_all is_unjoined line && list_all is_space rest
+opens (Some (line, rest)) = starts_with nat_eq line (codes "#if") && list_all is_unjoined line && list_all is_space_or_return rest
 opens None = false
 
 abbrev pub is_condition : List ℕ → Bool
@@ -90,7 +90,7 @@ is_endif text = bytes_eq text (codes "#endif")
 
 -- The rest of a line, which is blank, and `#endif` with nothing but blanks around it.
 abbrev pub closes : Option (List ℕ × List ℕ) → Bool
-closes (Some (rest, more)) = list_all is_space rest && is_endif (trimmed more)
+closes (Some (rest, more)) = list_all is_space_or_return rest && is_endif (trimmed more)
 closes None = false
 
 abbrev pub is_end : List ℕ → Bool
@@ -151,7 +151,7 @@ pub record IsSought (text : List ℕ) (c : MacroCall) (put : List ℕ) : Type 0 
   pub indent : List ℕ
   pub has : put_by (entry_of (codes "AC_EGREP_CPP(symbol)") TABLE.now) ≡ Some it
   pub differs : Differs (codes "AC_EGREP_CPP(symbol)") (count_of text c.args) said
-  pub blank : list_all is_space indent ≡ true
+  pub blank : list_all is_space_or_return indent ≡ true
   pub is : put ≡ difference (codes "AC_EGREP_CPP") said
       ++ below indent it (with_error (text_of (Some (arg_text text program))) at after ∷ map (arg_text text) (slice_range c.args 2 (length c.args)))
 

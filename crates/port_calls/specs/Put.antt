@@ -2,6 +2,7 @@
 use Rattle.std.specs.Prelude.{◌≡◌, ◌⊎◌, ℕ, suc, ◌==◌, nat_eq, ◌||◌, ◌&&◌, nat_le, Bool, true, false, List, [], ◌∷◌, ◌++◌, length, map, slice_get, slice_index, Option, Some, bytes_eq, codes, if◌then◌else◌}
 use Rattle.std.specs.List.{flat_map, list_all, starts_with}
 use Rattle.text_cut.specs.Cuts.{fields, parts, trimmed}
+pub use Rattle.text_cut.specs.Cuts.{is_space_or_return, is_blank_or_return}
 use Rattle.lint_macros.specs.Entries.{entry_of}
 use Rattle.lint_macros.specs.Members.{entry_name, takes_list}
 use Rattle.lint_macros.specs.declared.text.TheConstants.{TABLE}
@@ -77,17 +78,9 @@ row_name text c =
 unfoldable pub put_for : List ℕ → MacroCall → Option (List ℕ)
 put_for text c = put_by (entry_of (row_name text c) TABLE.now)
 
--- A space, a tab or a carriage return. (own)
-abbrev pub is_space : ℕ → Bool
-is_space b = b == 32 || b == 9 || b == 13
-
 -- A macro of C, or a variable of a shell, may have this name.
 abbrev pub is_c_name : List ℕ → Bool
 is_c_name word = nat_le 1 (length word) && is_letter (slice_index word 0) && list_all is_of_name word
-
--- A space, a tab, a carriage return or a newline. (own)
-abbrev pub is_blank : ℕ → Bool
-is_blank b = b == 32 || b == 9 || b == 13 || b == 10
 
 -- Nothing, or the command `:`, which does nothing. (own)
 abbrev pub DoesNothing : List ℕ → Type 0
@@ -113,11 +106,11 @@ pub record Says (text : List ℕ) (c : MacroCall) (said : List ℕ) : Type 0 whe
 -- indent; or, if the table puts nothing there, nothing, or `:`, or what the call says to readers, as a comment, perhaps with a `:` after
 -- it. A newline and blanks may follow. (own)
 pub data IsPut (text : List ℕ) (c : MacroCall) : List ℕ → Type 0 where
-  idiom : (it indent : List ℕ) → put_for text c ≡ Some it → list_all is_space indent ≡ true → IsPut text c (filled (map (arg_text text) c.args) indent it)
+  idiom : (it indent : List ℕ) → put_for text c ≡ Some it → list_all is_space_or_return indent ≡ true → IsPut text c (filled (map (arg_text text) c.args) indent it)
   dropped : (put : List ℕ) → put_for text c ≡ Some [] → DoesNothing put → IsPut text c put
-  kept : (said indent : List ℕ) → put_for text c ≡ Some [] → Says text c said → list_all is_space indent ≡ true → IsPut text c (comment_of indent said)
-  idle : (said indent : List ℕ) → put_for text c ≡ Some [] → Says text c said → list_all is_space indent ≡ true → IsPut text c (comment_of indent said ++ 58 ∷ [])
-  lined : (put indent : List ℕ) → IsPut text c put → list_all is_space indent ≡ true → IsPut text c (put ++ 10 ∷ indent)
+  kept : (said indent : List ℕ) → put_for text c ≡ Some [] → Says text c said → list_all is_space_or_return indent ≡ true → IsPut text c (comment_of indent said)
+  idle : (said indent : List ℕ) → put_for text c ≡ Some [] → Says text c said → list_all is_space_or_return indent ≡ true → IsPut text c (comment_of indent said ++ 58 ∷ [])
+  lined : (put indent : List ℕ) → IsPut text c put → list_all is_space_or_return indent ≡ true → IsPut text c (put ++ 10 ∷ indent)
 
 -- The idiom of the call, or that it has no meaning, is exact for so many arguments as it has. (own)
 abbrev pub IsExactFor : List ℕ → MacroCall → Type 0
@@ -166,10 +159,10 @@ noted comment indent it calls = comment ++ flat_map (below indent it) calls
 -- differs. What the call says to readers may follow, as a comment, and so may a newline and blanks. If the table puts nothing there, the
 -- command `:` may follow. (own)
 pub data IsNoted (text : List ℕ) (c : MacroCall) : List ℕ → Type 0 where
-  idiom : (it indent said : List ℕ) → put_for text c ≡ Some it → list_all is_space indent ≡ true → Differs (row_name text c) (count_of text c.args) said
+  idiom : (it indent said : List ℕ) → put_for text c ≡ Some it → list_all is_space_or_return indent ≡ true → Differs (row_name text c) (count_of text c.args) said
       → IsNoted text c (noted (difference (row_name text c) said) indent it (written_as (writes_each_word (row_name text c)) (takes_list (row_name text c)) (map (arg_text text) c.args)))
-  kept : (put said indent : List ℕ) → IsNoted text c put → put_for text c ≡ Some [] → Says text c said → list_all is_space indent ≡ true → IsNoted text c (put ++ comment_of indent said)
-  lined : (put indent : List ℕ) → IsNoted text c put → list_all is_space indent ≡ true → IsNoted text c (put ++ 10 ∷ indent)
+  kept : (put said indent : List ℕ) → IsNoted text c put → put_for text c ≡ Some [] → Says text c said → list_all is_space_or_return indent ≡ true → IsNoted text c (put ++ comment_of indent said)
+  lined : (put indent : List ℕ) → IsNoted text c put → list_all is_space_or_return indent ≡ true → IsNoted text c (put ++ 10 ∷ indent)
   idle : (put : List ℕ) → IsNoted text c put → put_for text c ≡ Some [] → IsNoted text c (put ++ 58 ∷ [])
 
 -- What may be put in the place of a call: what is exact, and if all idioms are wanted, also an idiom that differs, below its comment.

@@ -15,7 +15,7 @@ use Rattle.port_definitions.specs.Defined.{Defines, DefinesWord, IsNameAt, IsPla
 use Rattle.port_calls.specs.Compiler.{IsBelowCompiler}
 use Rattle.port_calls.specs.Exchanged.{IsExchanged}
 use Rattle.port_calls.specs.Making.{IsMade, LacksVersion}
-use Rattle.port_calls.specs.Put.{MayPut, arg_text, is_blank, is_c_name, is_space, difference, below}
+use Rattle.port_calls.specs.Put.{MayPut, arg_text, is_blank_or_return, is_c_name, is_space_or_return, difference, below}
 use Rattle.port_idioms.specs.declared.idioms.Idioms.{Idioms}
 
 -- The argument is more than blanks and a pair of brackets.
@@ -87,7 +87,7 @@ HasToGo text c =
 
 -- Between these offsets are the call and, around it, nothing but blanks.
 abbrev pub IsAround : List ℕ → MacroCall → ℕ → ℕ → Type 0
-IsAround text c start end = (start ≤ c.start) × (c.end ≤ end) × (list_all is_blank (slice_range text start c.start) ≡ true) × (list_all is_blank (slice_range text c.end end) ≡ true)
+IsAround text c start end = (start ≤ c.start) × (c.end ≤ end) × (list_all is_blank_or_return (slice_range text start c.start) ≡ true) × (list_all is_blank_or_return (slice_range text c.end end) ≡ true)
 
 -- The call is one of AC_ARG_ENABLE or AC_ARG_WITH.
 abbrev pub DeclaresOption : List ℕ → MacroCall → Type 0
@@ -137,7 +137,7 @@ EndsItsLine text c = ends_its_line (slice_range text c.start c.name_end) ≡ tru
 
 -- From the end of the call up to this offset there are only spaces, tabs and carriage returns.
 abbrev pub AreSpaces : List ℕ → MacroCall → ℕ → Type 0
-AreSpaces text c end = (c.end ≤ end) × (end ≤ length text) × (list_all is_space (slice_range text c.end end) ≡ true)
+AreSpaces text c end = (c.end ≤ end) × (end ≤ length text) × (list_all is_space_or_return (slice_range text c.end end) ≡ true)
 
 -- The byte is a bracket.
 abbrev pub is_bracket : ℕ → Bool
@@ -153,7 +153,7 @@ pub record IsInCall (text : List ℕ) (arg : Extent) (at : ℕ) : Type 0 where
 pub record IsBare (text : List ℕ) (arg : Extent) (end : ℕ) : Type 0 where
   pub place : (arg.start ≤ end) × (end ≤ arg.end) × (arg.end ≤ length text)
   pub plain : (at : ℕ) → arg.start ≤ at → at < end → is_bracket (slice_index text at) ≡ true → IsInCall text arg at
-  pub blank : list_all is_blank (slice_range text end arg.end) ≡ true
+  pub blank : list_all is_blank_or_return (slice_range text end arg.end) ≡ true
 
 -- A macro of this name does what its argument at this index, counted from 0, says. acrun doesn't read it, and the table has an idiom for it.
 abbrev pub does_argument : List ℕ → ℕ → Bool
@@ -172,7 +172,7 @@ pub record IsBareAlone (text : List ℕ) (arg : Extent) (end : ℕ) : Type 0 whe
   pub whole : Extent
   pub all : whole.start ≡ 0
   pub alone : IsBare (slice_range text arg.start end) whole (length (slice_range text arg.start end))
-  pub blank : list_all is_blank (slice_range text end arg.end) ≡ true
+  pub blank : list_all is_blank_or_return (slice_range text end arg.end) ≡ true
 
 -- A text in brackets.
 abbrev pub in_brackets : List ℕ → List ℕ
@@ -192,7 +192,7 @@ pub record SetsGnu (put : List ℕ) : Type 0 where
   pub indent : List ℕ
   pub has : put_by (entry_of (codes "GCC") TABLE.now) ≡ Some it
   pub differs : Differs (codes "GCC") 0 said
-  pub blank : list_all is_space indent ≡ true
+  pub blank : list_all is_space_or_return indent ≡ true
   pub is : put ≡ ((10 ∷ indent) ++ difference (codes "GCC") said) ++ below indent it []
 
 -- What is put after AC_PROG_CC, if all idioms are wanted. (own)
@@ -230,13 +230,13 @@ pub data IsTold (text : List ℕ) (at : ℕ) : Type 0 where
 
 -- No blank. (own)
 abbrev pub is_shown : ℕ → Bool
-is_shown b = not (is_blank b)
+is_shown b = not (is_blank_or_return b)
 
 -- Between these offsets is nothing but messages, comments and blanks, and from the second one on nothing but blanks. (own)
 pub record AreMessages (text : List ℕ) (start end : ℕ) : Type 0 where
   pub place : (start ≤ end) × (end ≤ length text)
   pub plain : (at : ℕ) → start ≤ at → at < end → is_shown (slice_index text at) ≡ true → IsTold text at
-  pub rest : list_all is_blank (slice_range text end (length text)) ≡ true
+  pub rest : list_all is_blank_or_return (slice_range text end (length text)) ≡ true
 
 -- The comment above messages that were after AC_OUTPUT. (own)
 abbrev pub before_output : List ℕ
@@ -264,7 +264,7 @@ pub data IsPass (idioms : Idioms) (text : List ℕ) : ℕ → List ℕ → Type 
   renamed : {at : ℕ} {out : List ℕ} (c : MacroCall) (end : ℕ) → IsPass idioms text at out → Contains (calls_in text) c → DeclaresOption text c → IsOldHelp text c at end → end ≤ length text
       → IsPass idioms text end (out ++ codes "AS_HELP_STRING")
   parted : {at : ℕ} {out : List ℕ} (c : MacroCall) → IsPass idioms text at out → Contains (calls_in text) c → JoinsWords text c at → IsPass idioms text (at + 1) out
-  lined : {out : List ℕ} (c : MacroCall) (end : ℕ) (indent : List ℕ) → IsPass idioms text c.end out → Contains (calls_in text) c → EndsItsLine text c → AreSpaces text c end → list_all is_space indent ≡ true
+  lined : {out : List ℕ} (c : MacroCall) (end : ℕ) (indent : List ℕ) → IsPass idioms text c.end out → Contains (calls_in text) c → EndsItsLine text c → AreSpaces text c end → list_all is_space_or_return indent ≡ true
       → IsPass idioms text end (out ++ 10 ∷ indent)
   bracketed : {out : List ℕ} (c : MacroCall) (i : ℕ) (arg : Extent) (end : ℕ) → IsPass idioms text arg.start out → Contains (calls_in text) c → c.is_of_profile ≡ true → slice_get c.args i ≡ Some arg
       → IsBare text arg end → IsPass idioms text end (out ++ in_brackets (slice_range text arg.start end))

@@ -7,29 +7,19 @@ ghost use Rattle.port_calls.specs.Put as specs;
 use crate::spots::Spot;
 use lint_text::{before, from, part};
 pub(crate) use port_definitions::{is_dropped, last_line, space_len};
-
-/// Returns whether the byte is a space, a tab or a carriage return.
-pub(crate) fn is_space(byte: u8) -> bool
-    ensures { result ≡ specs.is_space byte }
-{
-    byte == b' ' || byte == b'\t' || byte == b'\r'
-}
-
-pub(crate) fn is_blank(byte: u8) -> bool
-    ensures { result ≡ specs.is_blank byte }
-{
-    byte == b' ' || byte == b'\t' || byte == b'\r' || byte == b'\n'
-}
+pub(crate) use text_cut::{is_blank_or_return, is_space_or_return};
 
 pub(crate) fn are_blank(text: &[u8]) -> bool
-    ensures { result ≡ list_all specs.is_blank text.now }
+    ensures { result ≡ list_all specs.is_blank_or_return text.now }
 {
-    text.iter().all(|byte| is_blank(*byte))
+    text.iter().all(|byte| is_blank_or_return(*byte))
 }
 
 /// Returns the number of blanks and newlines at the front.
 pub(crate) fn blank_len(text: &[u8]) -> usize {
-    text.iter().take_while(|byte| is_blank(**byte)).count()
+    text.iter()
+        .take_while(|byte| is_blank_or_return(**byte))
+        .count()
 }
 
 /// Returns the text without the blanks and newlines at its end.
@@ -37,21 +27,21 @@ pub(crate) fn without_end_blanks(text: &[u8]) -> &[u8] {
     let blanks = text
         .iter()
         .rev()
-        .take_while(|byte| is_blank(**byte))
+        .take_while(|byte| is_blank_or_return(**byte))
         .count();
     before(text, text.len().saturating_sub(blanks))
 }
 
 /// Returns whether a text has nothing but spaces, tabs and carriage returns.
 pub(crate) fn are_spaces(text: &[u8]) -> bool
-    ensures { result ≡ list_all specs.is_space text.now }
+    ensures { result ≡ list_all specs.is_space_or_return text.now }
 {
-    text.iter().all(|byte| is_space(*byte))
+    text.iter().all(|byte| is_space_or_return(*byte))
 }
 
 /// Returns the text if it has nothing but spaces and tabs, and otherwise nothing.
 fn spaces_of(text: &[u8]) -> &[u8]
-    ensures { list_all specs.is_space result.now ≡ true }
+    ensures { list_all specs.is_space_or_return result.now ≡ true }
 {
     if are_spaces(text) { text } else { b"" }
 }
@@ -59,7 +49,7 @@ fn spaces_of(text: &[u8]) -> &[u8]
 /// Returns the spaces and tabs that the line of a place begins with, if there is nothing else
 /// before it.
 pub(crate) fn indent_of(text: &[u8], spot: Spot, at: usize) -> &[u8]
-    ensures { list_all specs.is_space result.now ≡ true }
+    ensures { list_all specs.is_space_or_return result.now ≡ true }
 {
     if spot.is_first {
         spaces_of(part(text, spot.line, at))
@@ -70,7 +60,7 @@ pub(crate) fn indent_of(text: &[u8], spot: Spot, at: usize) -> &[u8]
 
 /// Returns the spaces and tabs that the line of a place begins with.
 pub(crate) fn line_indent(text: &[u8], spot: Spot) -> &[u8]
-    ensures { list_all specs.is_space result.now ≡ true }
+    ensures { list_all specs.is_space_or_return result.now ≡ true }
 {
     let line = from(text, spot.line);
     spaces_of(before(line, space_len(line)))
@@ -101,7 +91,10 @@ pub(crate) fn goes_on(rest: &[u8]) -> bool {
 
 /// Returns whether a line begins with a word and a blank.
 fn begins_with(line: &[u8], word: &[u8]) -> bool {
-    line.starts_with(word) && line.get(word.len()).is_some_and(|byte| is_space(*byte))
+    line.starts_with(word)
+        && line
+            .get(word.len())
+            .is_some_and(|byte| is_space_or_return(*byte))
 }
 
 /// Returns whether a line of a text begins an `if` or a `case` of a shell, and a line ends one. If
@@ -154,7 +147,7 @@ fn text_before(text: &[u8], spot: Spot, at: usize) -> &[u8] {
 pub(crate) fn ends_in_word(text: &[u8]) -> bool {
     let is_word = text.ends_with(b"then") || text.ends_with(b"else");
     let before = text.len().checked_sub(5).and_then(|at| text.get(at));
-    is_word && !before.is_some_and(|byte| !is_blank(*byte) && *byte != b';')
+    is_word && !before.is_some_and(|byte| !is_blank_or_return(*byte) && *byte != b';')
 }
 
 /// Returns whether a statement may begin at a place: an argument begins there, `then` or `else` is

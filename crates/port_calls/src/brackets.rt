@@ -260,7 +260,7 @@ fn is_bare_alone(text: &[u8], calls: &[CallAt], whole: Extent) -> bool
 fn is_blank_after(text: &[u8], arg: Extent, end: usize) -> bool
     ensures { IsTrue result
         → ((arg.start ≤ end) × (end ≤ arg.end) × (arg.end ≤ length text.now))
-        × (list_all put.is_blank (slice_range text.now end arg.end) ≡ true) }
+        × (list_all put.is_blank_or_return (slice_range text.now end arg.end) ≡ true) }
 {
     let is_there = arg.start <= end && end <= arg.end && arg.end <= text.len();
     is_there && are_blank(&text[end..arg.end])
@@ -279,7 +279,7 @@ fn put_enclosed(
     pass: &mut Pass,
 ) -> Result<(), AllocError>
     requires place { ((arg.start ≤ end) × (end ≤ arg.end) × (arg.end ≤ length text.now))
-        × (list_all put.is_blank (slice_range text.now end arg.end) ≡ true) }
+        × (list_all put.is_blank_or_return (slice_range text.now end arg.end) ≡ true) }
     requires inner { map macro_call_of inner.now ≡ calls_in (slice_range text.now arg.start end) }
     requires call { Contains (calls_in text.now) (macro_call_of call.now) }
     requires does { specs.DoesArgument text.now (macro_call_of call.now) index }

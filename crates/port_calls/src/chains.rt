@@ -5,7 +5,7 @@ ghost use Rattle.std.specs.List.{flat_map, list_all};
 ghost use Rattle.text_cut.specs.Cuts.{fields};
 ghost use Rattle.ac_calls.specs.Calls.{calls_in, macro_call_of};
 ghost use Rattle.port_idioms.specs.Filled as filled;
-ghost use Rattle.port_calls.specs.Put.{arg_text, is_c_name, is_space};
+ghost use Rattle.port_calls.specs.Put.{arg_text, is_c_name, is_space_or_return};
 ghost use Rattle.port_calls.specs.Chains as specs;
 ghost use Rattle.port_calls.specs.Rewritten as rewritten;
 
@@ -279,7 +279,7 @@ fn chain_in(
     requires three { length (macro_call_of call.now).args ≤ 3 }
     requires first { slice_get (macro_call_of call.now).args 0 ≡ Some variable }
     requires second { slice_get (macro_call_of call.now).args 1 ≡ Some programs }
-    requires indent { list_all is_space indent.now ≡ true }
+    requires indent { list_all is_space_or_return indent.now ≡ true }
     ensures { IfOk result (λ o.
         IfSome o (λ v. specs.IsChain text.now (macro_call_of call.now) v.items)) }
 {
@@ -306,7 +306,7 @@ fn chain_of(
     indent: &[u8],
     call: &CallAt,
 ) -> Result<Option<Vec<u8>>, AllocError>
-    requires { list_all is_space indent.now ≡ true }
+    requires { list_all is_space_or_return indent.now ≡ true }
     ensures { IfOk result (λ o.
         IfSome o (λ v. specs.IsChain text.now (macro_call_of call.now) v.items)) }
 {

@@ -199,7 +199,7 @@ fn takes_next_line(text: &[u8], call: &CallAt) -> bool {
 /// Returns what is put in the place of a call, with a newline after it if it would be joined to the
 /// next line.
 fn put_apart(text: &[u8], indent: &[u8], call: &CallAt, put: Vec<u8>) -> Result<Vec<u8>, AllocError>
-    requires indent { list_all specs.is_space indent.now ≡ true }
+    requires indent { list_all specs.is_space_or_return indent.now ≡ true }
     requires put { specs.IsPut text.now (macro_call_of call.now) put.items }
     ensures { IfOk result (λ v. specs.IsPut text.now (macro_call_of call.now) v.items) }
 {

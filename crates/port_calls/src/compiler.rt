@@ -84,7 +84,7 @@ fn lines_below(
 
 /// Returns the lines that set CFLAGS.
 pub(crate) fn flags_below(alloc: Global, indent: &[u8]) -> Result<Vec<u8>, AllocError>
-    requires { list_all put.is_space indent.now ≡ true }
+    requires { list_all put.is_space_or_return indent.now ≡ true }
     ensures { IfOk result (λ v. SetsUp v.items) }
 {
     lines_below(alloc, indent, b"CFLAGS", flags_said(), flags_text())
@@ -92,7 +92,7 @@ pub(crate) fn flags_below(alloc: Global, indent: &[u8]) -> Result<Vec<u8>, Alloc
 
 /// Returns the lines that look for the default headers.
 pub(crate) fn headers_below(alloc: Global, indent: &[u8]) -> Result<Vec<u8>, AllocError>
-    requires { list_all put.is_space indent.now ≡ true }
+    requires { list_all put.is_space_or_return indent.now ≡ true }
     ensures { IfOk result (λ v. SetsUp v.items) }
 {
     lines_below(
@@ -106,7 +106,7 @@ pub(crate) fn headers_below(alloc: Global, indent: &[u8]) -> Result<Vec<u8>, All
 
 /// Returns the lines that define STDC_HEADERS.
 pub(crate) fn standard_below(alloc: Global, indent: &[u8]) -> Result<Vec<u8>, AllocError>
-    requires { list_all put.is_space indent.now ≡ true }
+    requires { list_all put.is_space_or_return indent.now ≡ true }
     ensures { IfOk result (λ v. SetsUp v.items) }
 {
     lines_below(

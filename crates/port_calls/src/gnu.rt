@@ -7,7 +7,7 @@ ghost use Rattle.lint_macros.specs.Entries.{entry_of};
 ghost use Rattle.lint_macros.specs.declared.text.TheConstants.{TABLE};
 ghost use Rattle.port_idioms.specs.Rows.{put_by, Differs};
 ghost use Rattle.port_idioms.specs.declared.idioms.Idioms.TheVariants.{All};
-ghost use Rattle.port_calls.specs.Put.{is_space, difference, below};
+ghost use Rattle.port_calls.specs.Put.{is_space_or_return, difference, below};
 ghost use Rattle.port_calls.specs.Rewritten as specs;
 
 use crate::around::{line_indent, space_len};
@@ -104,7 +104,7 @@ fn put_below(
 fn gnu_text(alloc: Global, indent: &[u8], other: &Other) -> Result<Option<Vec<u8>>, AllocError>
     requires has { put_by (entry_of (codes "GCC") TABLE.now) ≡ Some other.now.idiom.now }
     requires differs { Differs (codes "GCC") 0 other.now.said.now }
-    requires blank { list_all is_space indent.now ≡ true }
+    requires blank { list_all is_space_or_return indent.now ≡ true }
     ensures { IfOk result (λ o. IfSome o (λ v. specs.SetsGnu v.items)) }
 {
     let mut out = comment_below(alloc, indent, other.said)?;
@@ -177,7 +177,7 @@ fn put_flags(
     requires all { idioms ≡ All }
     requires compiler { slice_range text.now (macro_call_of call.now).start (macro_call_of call.now).name_end
         ≡ codes "AC_PROG_CC" }
-    requires blank { list_all is_space indent.now ≡ true }
+    requires blank { list_all is_space_or_return indent.now ≡ true }
     requires begun { specs.IsPass idioms text.now pass.old.at pass.old.out.items }
     ensures { OnOk result (specs.IsPass idioms text.now pass.new.at pass.new.out.items) }
 {
@@ -198,7 +198,7 @@ fn put_headers(
     requires all { idioms ≡ All }
     requires compiler { slice_range text.now (macro_call_of call.now).start (macro_call_of call.now).name_end
         ≡ codes "AC_PROG_CC" }
-    requires blank { list_all is_space indent.now ≡ true }
+    requires blank { list_all is_space_or_return indent.now ≡ true }
     requires begun { specs.IsPass idioms text.now pass.old.at pass.old.out.items }
     ensures { OnOk result (specs.IsPass idioms text.now pass.new.at pass.new.out.items) }
 {
@@ -219,7 +219,7 @@ fn put_standard(
     requires all { idioms ≡ All }
     requires compiler { slice_range text.now (macro_call_of call.now).start (macro_call_of call.now).name_end
         ≡ codes "AC_PROG_CC" }
-    requires blank { list_all is_space indent.now ≡ true }
+    requires blank { list_all is_space_or_return indent.now ≡ true }
     requires begun { specs.IsPass idioms text.now pass.old.at pass.old.out.items }
     ensures { OnOk result (specs.IsPass idioms text.now pass.new.at pass.new.out.items) }
 {
@@ -241,7 +241,7 @@ fn put_below_compiler(
     requires all { idioms ≡ All }
     requires compiler { slice_range text.now (macro_call_of call.now).start (macro_call_of call.now).name_end
         ≡ codes "AC_PROG_CC" }
-    requires blank { list_all is_space indent.now ≡ true }
+    requires blank { list_all is_space_or_return indent.now ≡ true }
     requires begun { specs.IsPass idioms text.now pass.old.at pass.old.out.items }
     ensures { OnOk result (specs.IsPass idioms text.now pass.new.at pass.new.out.items) }
 {

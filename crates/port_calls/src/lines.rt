@@ -3,7 +3,7 @@
 ghost use Rattle.std.specs.Prelude.{◌≡◌, ◌<◌, ◌∷◌, true, Contains, IfOk, OnOk, IsTrue};
 ghost use Rattle.std.specs.List.{list_all};
 ghost use Rattle.ac_calls.specs.Calls.{calls_in, macro_call_of};
-ghost use Rattle.port_calls.specs.Put.{is_space};
+ghost use Rattle.port_calls.specs.Put.{is_space_or_return};
 ghost use Rattle.port_calls.specs.Rewritten as specs;
 
 use crate::around::{
@@ -62,7 +62,7 @@ fn put_line(
 ) -> Result<(), AllocError>
     requires call { Contains (calls_in text.now) (macro_call_of call.now) }
     requires ends { specs.EndsItsLine text.now (macro_call_of call.now) }
-    requires indent { list_all is_space indent.now ≡ true }
+    requires indent { list_all is_space_or_return indent.now ≡ true }
     requires begun { specs.IsPass idioms text.now pass.old.at pass.old.out.items }
     ensures { OnOk result (specs.IsPass idioms text.now pass.new.at pass.new.out.items) }
 {

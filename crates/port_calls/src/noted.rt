@@ -25,7 +25,7 @@ fn noted_apart(
     call: &CallAt,
     put: Vec<u8>,
 ) -> Result<Vec<u8>, AllocError>
-    requires indent { list_all specs.is_space indent.now ≡ true }
+    requires indent { list_all specs.is_space_or_return indent.now ≡ true }
     requires put { specs.IsNoted text.now (macro_call_of call.now) put.items }
     ensures { IfOk result (λ v. specs.IsNoted text.now (macro_call_of call.now) v.items) }
 {
@@ -69,7 +69,7 @@ fn with_comment(
 ) -> Result<Vec<u8>, AllocError>
     requires dropped { specs.put_for text.now (macro_call_of call.now) ≡ Some [] }
     requires said { specs.Says text.now (macro_call_of call.now) said.now }
-    requires indent { list_all specs.is_space indent.now ≡ true }
+    requires indent { list_all specs.is_space_or_return indent.now ≡ true }
     requires put { specs.IsNoted text.now (macro_call_of call.now) put.items }
     ensures { IfOk result (λ v. specs.IsNoted text.now (macro_call_of call.now) v.items) }
 {
@@ -98,7 +98,7 @@ fn with_command(
     put: Vec<u8>,
 ) -> Result<Vec<u8>, AllocError>
     requires dropped { specs.put_for text.now (macro_call_of call.now) ≡ Some [] }
-    requires indent { list_all specs.is_space indent.now ≡ true }
+    requires indent { list_all specs.is_space_or_return indent.now ≡ true }
     requires put { specs.IsNoted text.now (macro_call_of call.now) put.items }
     ensures { IfOk result (λ v. specs.IsNoted text.now (macro_call_of call.now) v.items) }
 {
@@ -116,7 +116,7 @@ fn with_idle(
     put: Vec<u8>,
 ) -> Result<Vec<u8>, AllocError>
     requires dropped { specs.put_for text.now (macro_call_of call.now) ≡ Some [] }
-    requires indent { list_all specs.is_space indent.now ≡ true }
+    requires indent { list_all specs.is_space_or_return indent.now ≡ true }
     requires put { specs.IsNoted text.now (macro_call_of call.now) put.items }
     ensures { IfOk result (λ v. specs.IsNoted text.now (macro_call_of call.now) v.items) }
 {
@@ -139,7 +139,7 @@ fn with_said(
     put: Vec<u8>,
 ) -> Result<Vec<u8>, AllocError>
     requires idiom { specs.put_for text.now (macro_call_of call.now) ≡ Some other.now.idiom.now }
-    requires indent { list_all specs.is_space indent.now ≡ true }
+    requires indent { list_all specs.is_space_or_return indent.now ≡ true }
     requires put { specs.IsNoted text.now (macro_call_of call.now) put.items }
     ensures { IfOk result (λ v. specs.IsNoted text.now (macro_call_of call.now) v.items) }
 {
@@ -169,7 +169,7 @@ fn noted_until(
     requires idiom { specs.put_for text.now (macro_call_of call.now) ≡ Some other.now.idiom.now }
     requires said { Differs (specs.row_name text.now (macro_call_of call.now))
         (specs.count_of text.now (macro_call_of call.now).args) other.now.said.now }
-    requires indent { list_all specs.is_space indent.now ≡ true }
+    requires indent { list_all specs.is_space_or_return indent.now ≡ true }
     ensures { IfOk result (λ o.
         IfSome o (λ change. specs.IsNoted text.now (macro_call_of call.now) change.put.items)) }
 {

@@ -265,7 +265,7 @@ pub(crate) fn noted_text(
     requires idiom { specs.put_for text.now (macro_call_of call.now) ≡ Some other.now.idiom.now }
     requires said { Differs (specs.row_name text.now (macro_call_of call.now))
         (specs.count_of text.now (macro_call_of call.now).args) other.now.said.now }
-    requires indent { list_all specs.is_space indent.now ≡ true }
+    requires indent { list_all specs.is_space_or_return indent.now ≡ true }
     ensures { IfOk result (λ o.
         IfSome o (λ v. specs.IsNoted text.now (macro_call_of call.now) v.items)) }
 {

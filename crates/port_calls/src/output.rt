@@ -6,7 +6,7 @@ ghost use Rattle.ac_calls.specs.Calls.{calls_in, macro_call_of};
 ghost use Rattle.port_idioms.specs.declared.idioms.Idioms.TheVariants.{All};
 ghost use Rattle.port_calls.specs.Rewritten as specs;
 
-use crate::around::{are_blank, blank_len, is_blank, without_end_blanks};
+use crate::around::{are_blank, blank_len, is_blank_or_return, without_end_blanks};
 use crate::passing::{is_around, is_output};
 use crate::spots::Spot;
 use crate::writing::{Pass, write_change};
@@ -115,7 +115,7 @@ fn is_told_at(text: &[u8], calls: &[CallAt], first: usize, at: usize) -> bool
 fn is_shown(byte: u8) -> bool
     ensures { result ≡ specs.is_shown byte }
 {
-    !is_blank(byte)
+    !is_blank_or_return(byte)
 }
 
 /// Returns whether the byte at an offset is a blank, or is in a message or in a comment.

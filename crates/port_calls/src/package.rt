@@ -8,7 +8,7 @@ ghost use Rattle.lint_macros.specs.declared.text.TheConstants.{TABLE};
 ghost use Rattle.port_idioms.specs.Filled.{text_of};
 ghost use Rattle.port_idioms.specs.Rows.{put_by, Differs};
 ghost use Rattle.port_idioms.specs.declared.idioms.Idioms.TheVariants.{All};
-ghost use Rattle.port_calls.specs.Put.{arg_text, count_of, difference, below, is_space};
+ghost use Rattle.port_calls.specs.Put.{arg_text, count_of, difference, below, is_space_or_return};
 ghost use Rattle.port_calls.specs.Making as specs;
 ghost use Rattle.port_calls.specs.Rewritten as rewritten;
 
@@ -239,7 +239,7 @@ fn title_text(
     other: &Other,
 ) -> Result<Option<Vec<u8>>, AllocError>
     requires lacks { specs.LacksVersion text.now (macro_call_of call.now) }
-    requires indent { list_all is_space indent.now ≡ true }
+    requires indent { list_all is_space_or_return indent.now ≡ true }
     requires there { Contains (calls_in text.now) (macro_call_of named.now) }
     requires title { specs.NamesPackage text.now (macro_call_of named.now) title.name title.version }
     requires has { put_by (entry_of (specs.titled_row (count_of text.now (macro_call_of call.now).args)) TABLE.now)
@@ -292,7 +292,7 @@ fn put_titled(
     requires call { Contains (calls_in text.now) (macro_call_of call.now) }
     requires all { idioms ≡ All }
     requires lacks { specs.LacksVersion text.now (macro_call_of call.now) }
-    requires indent { list_all is_space indent.now ≡ true }
+    requires indent { list_all is_space_or_return indent.now ≡ true }
     requires there { Contains (calls_in text.now) (macro_call_of named.now) }
     requires title { specs.NamesPackage text.now (macro_call_of named.now) title.name title.version }
     requires has { put_by (entry_of (specs.titled_row (count_of text.now (macro_call_of call.now).args)) TABLE.now)
@@ -323,7 +323,7 @@ fn put_title(
     requires call { Contains (calls_in text.now) (macro_call_of call.now) }
     requires all { idioms ≡ All }
     requires lacks { specs.LacksVersion text.now (macro_call_of call.now) }
-    requires indent { list_all is_space indent.now ≡ true }
+    requires indent { list_all is_space_or_return indent.now ≡ true }
     requires there { Contains (calls_in text.now) (macro_call_of named.now) }
     requires begun { rewritten.IsPass idioms text.now pass.old.at pass.old.out.items }
     ensures { OnOk result (rewritten.IsPass idioms text.now pass.new.at pass.new.out.items) }
@@ -356,7 +356,7 @@ fn put_found_title(
     requires call { Contains (calls_in text.now) (macro_call_of call.now) }
     requires all { idioms ≡ All }
     requires lacks { specs.LacksVersion text.now (macro_call_of call.now) }
-    requires indent { list_all is_space indent.now ≡ true }
+    requires indent { list_all is_space_or_return indent.now ≡ true }
     requires begun { rewritten.IsPass idioms text.now pass.old.at pass.old.out.items }
     ensures { OnOk result (rewritten.IsPass idioms text.now pass.new.at pass.new.out.items) }
 {

@@ -59,7 +59,7 @@ fn kept_until(
 ) -> Result<Change, AllocError>
     requires dropped { specs.put_for text.now (macro_call_of call.now) ≡ Some [] }
     requires said { specs.Says text.now (macro_call_of call.now) said.now }
-    requires indent { list_all specs.is_space indent.now ≡ true }
+    requires indent { list_all specs.is_space_or_return indent.now ≡ true }
     ensures { IfOk result (λ change.
         specs.IsPut text.now (macro_call_of call.now) change.put.items) }
 {
@@ -101,7 +101,7 @@ fn kept_idle(
 ) -> Result<Change, AllocError>
     requires dropped { specs.put_for text.now (macro_call_of call.now) ≡ Some [] }
     requires said { specs.Says text.now (macro_call_of call.now) said.now }
-    requires indent { list_all specs.is_space indent.now ≡ true }
+    requires indent { list_all specs.is_space_or_return indent.now ≡ true }
     ensures { IfOk result (λ change.
         specs.IsPut text.now (macro_call_of call.now) change.put.items) }
 {

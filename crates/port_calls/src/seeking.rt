@@ -12,7 +12,7 @@ ghost use Rattle.port_idioms.specs.Filled.{text_of};
 ghost use Rattle.port_idioms.specs.Rows.{put_by, Differs};
 ghost use Rattle.port_idioms.specs.declared.idioms.Idioms.TheVariants.{All};
 ghost use Rattle.port_definitions.specs.Defined.{is_of_name};
-ghost use Rattle.port_calls.specs.Put.{arg_text, count_of, difference, below, is_space};
+ghost use Rattle.port_calls.specs.Put.{arg_text, count_of, difference, below, is_space_or_return};
 ghost use Rattle.port_calls.specs.Making as specs;
 ghost use Rattle.port_calls.specs.Rewritten as rewritten;
 
@@ -392,7 +392,7 @@ fn search_text(
 ) -> Result<Option<Vec<u8>>, AllocError>
     requires egrep { slice_range text.now (macro_call_of call.now).start (macro_call_of call.now).name_end
         ≡ codes "AC_EGREP_CPP" }
-    requires indent { list_all is_space indent.now ≡ true }
+    requires indent { list_all is_space_or_return indent.now ≡ true }
     requires search { specs.IsSearch text.now (macro_call_of call.now) search.word search.program
         search.at.condition search.at.word search.at.after }
     requires program { program.now
@@ -437,7 +437,7 @@ fn put_search(
     requires all { idioms ≡ All }
     requires egrep { slice_range text.now (macro_call_of call.now).start (macro_call_of call.now).name_end
         ≡ codes "AC_EGREP_CPP" }
-    requires indent { list_all is_space indent.now ≡ true }
+    requires indent { list_all is_space_or_return indent.now ≡ true }
     requires search { specs.IsSearch text.now (macro_call_of call.now) search.word search.program
         search.at.condition search.at.word search.at.after }
     requires has { put_by (entry_of (codes "AC_EGREP_CPP(symbol)") TABLE.now) ≡ Some other.now.idiom.now }
@@ -479,7 +479,7 @@ fn put_sought(
     requires all { idioms ≡ All }
     requires egrep { slice_range text.now (macro_call_of call.now).start (macro_call_of call.now).name_end
         ≡ codes "AC_EGREP_CPP" }
-    requires indent { list_all is_space indent.now ≡ true }
+    requires indent { list_all is_space_or_return indent.now ≡ true }
     requires begun { rewritten.IsPass idioms text.now pass.old.at pass.old.out.items }
     ensures { OnOk result (rewritten.IsPass idioms text.now pass.new.at pass.new.out.items) }
 {

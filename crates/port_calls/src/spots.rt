@@ -1,6 +1,6 @@
 //! Where calls are on their lines and within other calls.
 
-use crate::around::is_space;
+use crate::around::is_space_or_return;
 use ac_calls::CallAt;
 
 /// Where a call is.
@@ -45,7 +45,7 @@ impl Walk {
             if text[i] == b'\n' {
                 self.line = i.saturating_add(1);
                 self.is_first = true;
-            } else if !is_space(text[i]) {
+            } else if !is_space_or_return(text[i]) {
                 self.is_first = false;
             }
         }

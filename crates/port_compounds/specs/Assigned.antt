@@ -3,7 +3,7 @@
 use Rattle.std.specs.Prelude.{◌≡◌, ℕ, true, List, [], ◌∷◌, ◌++◌, codes}
 use Rattle.std.specs.List.{list_all}
 use Rattle.port_compounds.specs.Guards.{IsGuarded}
-use Rattle.port_compounds.specs.Places.{is_space}
+use Rattle.port_compounds.specs.Places.{is_space_or_return}
 use Rattle.port_compounds.specs.Words.{IsValue, IsVariable}
 
 -- The text assigns a word to a variable.
@@ -21,5 +21,5 @@ pub record IsOnTwoLines (text : List ℕ) (start end : ℕ) (put : List ℕ) : T
   pub indent : List ℕ
   pub is : IsGuarded text start end (assignment ∷ command ∷ [])
   pub assigns : IsAssignment assignment
-  pub blank : list_all is_space indent ≡ true
+  pub blank : list_all is_space_or_return indent ≡ true
   pub made : put ≡ assignment ++ ((10 ∷ indent) ++ command)

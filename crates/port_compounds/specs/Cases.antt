@@ -2,7 +2,7 @@
 -- a last branch whose pattern is `*`. (POSIX shell, 2.9.4.3 "Case Conditional Construct")
 use Rattle.std.specs.Prelude.{◌≡◌, ◌⊎◌, ℕ, ◌+◌, ◌<◌, ◌≤◌, true, List, [], ◌∷◌, ◌++◌, slice_range, slice_index, codes}
 use Rattle.port_compounds.specs.Parts.{HasPlainEnd, IsAtLineStart, IsBeforeSemicolon, IsNotEscaped, IsPlainLine, IsStatement}
-use Rattle.port_compounds.specs.Places.{is_blank, AreBlank, AreSpaces, IsWord}
+use Rattle.port_compounds.specs.Places.{is_blank_or_return, AreBlank, AreSpaces, IsWord}
 
 -- ---- the word
 
@@ -108,7 +108,7 @@ pub record IsHead (text : List ℕ) (start end : ℕ) (word : List ℕ) : Type 0
   pub begins : IsWord text start (codes "case") after
   pub subject : IsSubject text after at word
   pub ends : IsWord text at (codes "in") end
-  pub blank : is_blank (slice_index text end) ≡ true
+  pub blank : is_blank_or_return (slice_index text end) ≡ true
 
 -- A `case` at offset `start` has been read up to the end of a branch, or of what is before the first one, and has these parts so far.
 pub data AreBranches (text : List ℕ) (start : ℕ) : ℕ → List (List ℕ) → Type 0 where

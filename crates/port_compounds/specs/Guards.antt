@@ -6,17 +6,17 @@ use Rattle.std.specs.Char.{is_ascii_alphabetic}
 use Rattle.m4quote.specs.ItemValue.{Span, ItemValue, call}
 use Rattle.m4quote.specs.Spelling.{IsSpelling}
 use Rattle.port_compounds.specs.Parts.{IsNotEscaped, IsPlainLine}
-use Rattle.port_compounds.specs.Places.{is_blank, AreBlank, AreSpaces, IsWord, BeginsStatement, EndsStatement}
+use Rattle.port_compounds.specs.Places.{is_blank_or_return, AreBlank, AreSpaces, IsWord, BeginsStatement, EndsStatement}
 
 -- ---- the status of a command
 
 -- A byte with which an option may begin, or what may be before one: `-`, a blank, or a backslash. (own)
 abbrev pub may_begin_option : ℕ → Bool
-may_begin_option b = b == 45 || b == 92 || is_blank b
+may_begin_option b = b == 45 || b == 92 || is_blank_or_return b
 
 -- At this offset is a blank, and an option may follow it. (own)
 abbrev pub IsBeforeOption : List ℕ → ℕ → Type 0
-IsBeforeOption text at = (is_blank (slice_index text at) ≡ true) × (may_begin_option (slice_index text (at + 1)) ≡ true)
+IsBeforeOption text at = (is_blank_or_return (slice_index text at) ≡ true) × (may_begin_option (slice_index text (at + 1)) ≡ true)
 
 -- A letter or `_`. A digit is none: `$1set` is the word `set` if the first parameter is empty. (own)
 abbrev pub may_begin_name : ℕ → Bool

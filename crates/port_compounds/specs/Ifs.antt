@@ -4,7 +4,7 @@ use Rattle.std.specs.Prelude.{◌≡◌, ◌⊎◌, ℕ, ◌<◌, ◌≤◌, tru
 use Rattle.m4quote.specs.ItemValue.{bare}
 use Rattle.m4quote.specs.Spelling.{IsSpelling}
 use Rattle.port_compounds.specs.Parts.{IsListEnd, IsAtLineStart, IsBeforeSemicolon, IsStatement}
-use Rattle.port_compounds.specs.Places.{HasNoHash, is_blank, AreBlank, IsWord}
+use Rattle.port_compounds.specs.Places.{HasNoHash, is_blank_or_return, AreBlank, IsWord}
 
 -- Between two offsets is a condition, which ends before a `;` or a newline. It has no `#`. (own)
 pub record IsConditionAt (text : List ℕ) (start end from to : ℕ) : Type 0 where
@@ -24,7 +24,7 @@ pub record IsCondition (text : List ℕ) (start end : ℕ) (condition : List ℕ
 -- Between two offsets is a body, after at least one blank. It ends in the newline of its last line, or a `;` follows it. (own)
 pub record IsBodyAt (text : List ℕ) (start end from to : ℕ) : Type 0 where
   pub order : (start ≤ from) × (from ≤ to) × (to ≤ end)
-  pub begins : is_blank (slice_index text start) ≡ true
+  pub begins : is_blank_or_return (slice_index text start) ≡ true
   pub before : AreBlank text start from
   pub after : ((to ≡ end) × IsAtLineStart text from to) ⊎ IsBeforeSemicolon text from to end
 

@@ -3,7 +3,7 @@
 use Rattle.std.specs.Prelude.{◌≡◌, ◌⊎◌, ℕ, ◌+◌, ◌<◌, ◌≤◌, ◌==◌, ◌||◌, Bool, true, List, [], ◌∷◌, ◌++◌, length, slice_range, slice_index, codes}
 use Rattle.std.specs.List.{flat_map, list_all}
 use Rattle.port_compounds.specs.Parts.{HasPlainEnd, IsListEnd, IsPlainLine, IsStatement}
-use Rattle.port_compounds.specs.Places.{is_space, AreBlank, AreSpaces, IsWord}
+use Rattle.port_compounds.specs.Places.{is_space_or_return, AreBlank, AreSpaces, IsWord}
 use Rattle.port_compounds.specs.Words.{IsConstant, IsVariable}
 
 -- Between these offsets are `for`, this name, and `in`.
@@ -106,5 +106,5 @@ pub record IsWrittenOut (text : List ℕ) (start end : ℕ) (put : List ℕ) : T
   pub body : List ℕ
   pub indent : List ℕ
   pub is : IsFor text start end name words body
-  pub blank : list_all is_space indent ≡ true
+  pub blank : list_all is_space_or_return indent ≡ true
   pub made : put ≡ turns indent name body words

@@ -1,22 +1,15 @@
 -- Places of a text. The offsets are those of the text. All of this is own.
 use Rattle.std.specs.Prelude.{◌≡◌, ◌⊎◌, ℕ, ◌-◌, ◌+◌, ◌<◌, ◌≤◌, ◌==◌, ◌||◌, Bool, true, false, List, length, slice_range, slice_index, codes}
 use Rattle.std.specs.List.{list_all, list_any}
-
--- A space, a tab or a carriage return.
-abbrev pub is_space : ℕ → Bool
-is_space b = b == 32 || b == 9 || b == 13
-
--- The same, or a newline.
-abbrev pub is_blank : ℕ → Bool
-is_blank b = b == 32 || b == 9 || b == 13 || b == 10
+pub use Rattle.text_cut.specs.Cuts.{is_space_or_return, is_blank_or_return}
 
 -- Between these offsets there are blanks alone.
 abbrev pub AreBlank : List ℕ → ℕ → ℕ → Type 0
-AreBlank text start end = list_all is_blank (slice_range text start end) ≡ true
+AreBlank text start end = list_all is_blank_or_return (slice_range text start end) ≡ true
 
 -- Between these offsets there are spaces alone.
 abbrev pub AreSpaces : List ℕ → ℕ → ℕ → Type 0
-AreSpaces text start end = list_all is_space (slice_range text start end) ≡ true
+AreSpaces text start end = list_all is_space_or_return (slice_range text start end) ≡ true
 
 -- Between these offsets of the text is this word.
 abbrev pub IsWord : List ℕ → ℕ → List ℕ → ℕ → Type 0

@@ -3,7 +3,7 @@
 ghost use Rattle.std.specs.Prelude.{◌≡◌, ◌++◌, ◌∷◌, [], true, map, codes, IfOk, IfSome, IsTrue};
 ghost use Rattle.std.specs.List.{list_all};
 ghost use Rattle.port_compounds.specs.Guards.{IsGuarded};
-ghost use Rattle.port_compounds.specs.Places.{is_space};
+ghost use Rattle.port_compounds.specs.Places.{is_space_or_return};
 ghost use Rattle.port_compounds.specs.Assigned as specs;
 
 use crate::cut::GuardCut;

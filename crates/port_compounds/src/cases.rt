@@ -2,7 +2,7 @@
 
 ghost use Rattle.std.specs.Prelude.{◌≡◌, ◌≤◌, ◌<◌, ◌+◌, ◌++◌, ◌∷◌, [], ◌⊎◌, map, length, true, false, slice_index, slice_range, codes, IfOk, IfSome, IsTrue, OnOk};
 ghost use Rattle.port_compounds.specs.Parts.{IsNotEscaped};
-ghost use Rattle.port_compounds.specs.Places.{AreBlank, AreSpaces, is_blank};
+ghost use Rattle.port_compounds.specs.Places.{AreBlank, AreSpaces, is_blank_or_return};
 ghost use Rattle.port_compounds.specs.Cases as specs;
 
 use crate::cut::{CaseBranch, CaseCut};
@@ -11,7 +11,7 @@ use crate::parts::{
     is_after_backslash, is_plain_line, semicolon_start,
 };
 use crate::places::{
-    after_spaces, are_blank, are_spaces, before_spaces, is_blank, is_statement, is_word,
+    after_spaces, are_blank, are_spaces, before_spaces, is_blank_or_return, is_statement, is_word,
 };
 use std::alloc::{AllocError, Global};
 
@@ -59,9 +59,9 @@ fn subject<'a>(
 
 /// Returns whether a blank is at an offset.
 fn is_blank_at(text: &[u8], at: usize) -> bool
-    ensures { IsTrue result → is_blank (slice_index text.now at) ≡ true }
+    ensures { IsTrue result → is_blank_or_return (slice_index text.now at) ≡ true }
 {
-    at < text.len() && is_blank(text[at])
+    at < text.len() && is_blank_or_return(text[at])
 }
 
 /// Returns the word of a `case`, whose `in` is at an offset, if there is one.

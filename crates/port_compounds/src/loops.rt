@@ -3,7 +3,7 @@
 ghost use Rattle.std.specs.Prelude.{◌≡◌, ◌⊎◌, ◌≤◌, ◌<◌, ◌+◌, ◌++◌, ◌∷◌, [], map, length, true, false, slice_index, slice_range, codes, IfOk, IfSome, IsTrue, OnOk};
 ghost use Rattle.std.specs.List.{flat_map, list_all};
 ghost use Rattle.port_compounds.specs.Parts.{HasPlainEnd, IsListEnd, IsPlainLine, IsStatement};
-ghost use Rattle.port_compounds.specs.Places.{is_space, AreBlank, AreSpaces, IsWord};
+ghost use Rattle.port_compounds.specs.Places.{is_space_or_return, AreBlank, AreSpaces, IsWord};
 ghost use Rattle.port_compounds.specs.Words.{IsConstant, IsVariable};
 ghost use Rattle.port_compounds.specs.Loops as specs;
 
@@ -334,7 +334,7 @@ fn turns(
 
 /// Returns the spaces that are before an offset on its line, or nothing if something else is.
 pub(crate) fn indent_at(text: &[u8], at: usize) -> &[u8]
-    ensures { list_all is_space result.now ≡ true }
+    ensures { list_all is_space_or_return result.now ≡ true }
 {
     let line = line_start(text, 0, at);
     if line <= at && at <= text.len() && are_spaces(&text[line..at]) {

@@ -9,7 +9,7 @@ ghost use Rattle.port_compounds.specs.Parts as specs;
 ghost use Rattle.port_compounds.specs.Places.{AreSpaces};
 
 use crate::lines::{has_dnl, has_hash, has_no_hash, keeps_newline, line_start};
-use crate::places::{after_spaces, are_blank, are_spaces, before_spaces, is_blank};
+use crate::places::{after_spaces, are_blank, are_spaces, before_spaces, is_blank_or_return};
 use m4quote::{Item, QuoteFault, read_items};
 use std::alloc::{AllocError, Global};
 
@@ -126,7 +126,7 @@ fn is_condition(text: &[u8], start: usize, end: usize, from: usize, to: usize) -
 /// Returns the offset after the blanks at an offset.
 pub(crate) fn after_blanks(text: &[u8], at: usize) -> usize {
     for i in at..text.len() {
-        if !is_blank(text[i]) {
+        if !is_blank_or_return(text[i]) {
             return i;
         }
     }
@@ -136,7 +136,7 @@ pub(crate) fn after_blanks(text: &[u8], at: usize) -> usize {
 /// Returns the offset of the blanks before an offset, but none before `start`.
 pub(crate) fn before_blanks(text: &[u8], start: usize, at: usize) -> usize {
     for i in (start..at.min(text.len())).rev() {
-        if !is_blank(text[i]) {
+        if !is_blank_or_return(text[i]) {
             return i.saturating_add(1);
         }
     }
@@ -292,7 +292,7 @@ fn is_body(text: &[u8], start: usize, end: usize, from: usize, to: usize) -> boo
         && to <= end
         && end <= text.len()
         && start < end
-        && is_blank(text[start])
+        && is_blank_or_return(text[start])
         && are_blank(&text[start..from])
         && (to == end && ends_in_line(text, from, to) || ends_in_semicolon(text, from, to, end))
 }

@@ -6,33 +6,20 @@ ghost use Rattle.port_compounds.specs.Parts.{IsStatement};
 ghost use Rattle.port_compounds.specs.Places as specs;
 
 use crate::lines::ends_comment;
-
-/// Returns whether the byte is a space, a tab or a carriage return.
-pub(crate) fn is_space(byte: u8) -> bool
-    ensures { result ≡ specs.is_space byte }
-{
-    byte == b' ' || byte == b'\t' || byte == b'\r'
-}
-
-/// Returns whether the byte is a blank or a newline.
-pub(crate) fn is_blank(byte: u8) -> bool
-    ensures { result ≡ specs.is_blank byte }
-{
-    byte == b' ' || byte == b'\t' || byte == b'\r' || byte == b'\n'
-}
+pub(crate) use text_cut::{is_blank_or_return, is_space_or_return};
 
 /// Returns whether there are blanks and newlines alone.
 pub fn are_blank(text: &[u8]) -> bool
-    ensures { result ≡ list_all specs.is_blank text.now }
+    ensures { result ≡ list_all specs.is_blank_or_return text.now }
 {
-    text.iter().all(|byte| is_blank(*byte))
+    text.iter().all(|byte| is_blank_or_return(*byte))
 }
 
 /// Returns whether there are spaces alone.
 pub fn are_spaces(text: &[u8]) -> bool
-    ensures { result ≡ list_all specs.is_space text.now }
+    ensures { result ≡ list_all specs.is_space_or_return text.now }
 {
-    text.iter().all(|byte| is_space(*byte))
+    text.iter().all(|byte| is_space_or_return(*byte))
 }
 
 /// Returns whether this word is between two offsets.
@@ -45,7 +32,7 @@ pub fn is_word(text: &[u8], start: usize, word: &[u8], end: usize) -> bool
 /// Returns the offset after the spaces that are at an offset.
 pub(crate) fn after_spaces(text: &[u8], at: usize) -> usize {
     for i in at..text.len() {
-        if !is_space(text[i]) {
+        if !is_space_or_return(text[i]) {
             return i;
         }
     }
@@ -55,7 +42,7 @@ pub(crate) fn after_spaces(text: &[u8], at: usize) -> usize {
 /// Returns the offset of the spaces before an offset, but none before `start`.
 pub(crate) fn before_spaces(text: &[u8], start: usize, at: usize) -> usize {
     for i in (start..at.min(text.len())).rev() {
-        if !is_space(text[i]) {
+        if !is_space_or_return(text[i]) {
             return i.saturating_add(1);
         }
     }

@@ -3,13 +3,13 @@
 ghost use Rattle.std.specs.Prelude.{◌≡◌, ◌≤◌, ◌+◌, false, length, slice_range, codes};
 ghost use Rattle.port_compounds.specs.Guards as specs;
 
-use crate::places::is_blank;
+use crate::places::is_blank_or_return;
 
 /// Returns whether an option may begin with the byte, or the byte may be before one.
 fn may_begin_option(byte: u8) -> bool
     ensures { result ≡ specs.may_begin_option byte }
 {
-    byte == b'-' || byte == b'\\' || is_blank(byte)
+    byte == b'-' || byte == b'\\' || is_blank_or_return(byte)
 }
 
 /// Returns whether `$?` is at an offset.
@@ -35,7 +35,7 @@ fn is_before_option(text: &[u8], at: usize) -> bool
     ensures { result ≡ false → (specs.IsBeforeOption text.now at) → ⊥ }
 {
     let after = at.saturating_add(1);
-    after < text.len() && is_blank(text[at]) && may_begin_option(text[after])
+    after < text.len() && is_blank_or_return(text[at]) && may_begin_option(text[after])
 }
 
 /// Returns whether the byte may begin the name of a variable. A digit may not: `$1set` may be `set`.

@@ -2,14 +2,14 @@
 use Rattle.std.proofs.Common.{◌≡◌, ℕ, List, true, Option, Some, None, Result, Ok, Err, sym, subst}
 use Rattle.std.specs.Prelude.{IfOk, IfSome}
 use Rattle.std.specs.List.{list_all}
-use Rattle.port_compounds.specs.Places.{is_space}
+use Rattle.port_compounds.specs.Places.{is_space_or_return}
 use Rattle.port_idioms.specs.declared.idioms.Idioms.{Idioms}
 use Rattle.port_idioms.specs.declared.idioms.Idioms.TheVariants.{All}
 use Rattle.port_shell.specs.Formed.{IsNote, noted}
 use Rattle.port_shell.specs.Formed as specs
 
 -- A comment with blanks after it is a note, if all idioms are wanted.
-pub commented : (indent items : List ℕ) → list_all is_space indent ≡ true → items ≡ noted indent → IsNote All items
+pub commented : (indent items : List ℕ) → list_all is_space_or_return indent ≡ true → items ≡ noted indent → IsNote All items
 commented indent items blank is = subst (IsNote All) (sym is) (specs.IsNote.comment indent blank)
 
 -- What is a note if all idioms are wanted is one for these idioms, which are all.

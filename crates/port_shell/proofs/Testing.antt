@@ -7,7 +7,7 @@ use Rattle.ac_calls.specs.declared.call.CallAt.{CallAt}
 use Rattle.ac_calls.specs.Calls.{MacroCall, macro_call_of}
 use Rattle.std.specs.List.{list_all}
 use Rattle.port_compounds.specs.Guards.{IsGuarded}
-use Rattle.port_compounds.specs.Places.{is_space}
+use Rattle.port_compounds.specs.Places.{is_space_or_return}
 use Rattle.port_idioms.specs.declared.idioms.Idioms.{Idioms}
 use Rattle.port_idioms.specs.declared.idioms.Idioms.TheVariants.{All}
 use Rattle.port_joints.specs.Files.{program_of}
@@ -25,7 +25,7 @@ tested_step idioms text at out start from to put new_at new before is (first, se
     (subst (IsPass idioms text to) (sym new_is) (specs.IsPass.tested start to put (specs.IsPass.copied from before place (omega (arith, second, third))) is (first, second, third) become))
 
 pub spelled_step : (idioms : Idioms) (text : List ℕ) (at : ℕ) (out : List ℕ) (start from to : ℕ) (indent put whole : List ℕ) (new_at : ℕ) (new : List ℕ) → idioms ≡ All
-    → IsPass idioms text at out → IsTestAt text start from to → AreOrdered text start from to → IsRespelled (slice_range text from to) put → list_all is_space indent ≡ true → at ≤ start
+    → IsPass idioms text at out → IsTestAt text start from to → AreOrdered text start from to → IsRespelled (slice_range text from to) put → list_all is_space_or_return indent ≡ true → at ≤ start
     → whole ≡ spelled_so indent ++ (slice_range text start from ++ put)
     → (new_at ≡ to) × (new ≡ (out ++ slice_range text at start) ++ whole) → IsPass idioms text new_at new
 spelled_step idioms text at out start from to indent put whole new_at new all before is (first, second, third) spelled blank place whole_is (at_is, new_is) =
@@ -34,7 +34,7 @@ spelled_step idioms text at out start from to indent put whole new_at new all be
     (specs.IsPass.respelled from to put indent all (specs.IsPass.copied start before place (omega (arith, first, second, third))) is (first, second, third) spelled blank))
 
 pub asked_step : (idioms : Idioms) (text : List ℕ) (at : ℕ) (out : List ℕ) (start from to : ℕ) (indent put call whole : List ℕ) (new_at : ℕ) (new : List ℕ) → idioms ≡ All
-    → IsPass idioms text at out → IsTestAt text start from to → AreOrdered text start from to → MayAskAt text start → IsAsked (slice_range text from to) put call → list_all is_space indent ≡ true → at ≤ start
+    → IsPass idioms text at out → IsTestAt text start from to → AreOrdered text start from to → MayAskAt text start → IsAsked (slice_range text from to) put call → list_all is_space_or_return indent ≡ true → at ≤ start
     → whole ≡ asked_so indent call ++ (slice_range text start from ++ put)
     → (new_at ≡ to) × (new ≡ (out ++ slice_range text at start) ++ whole) → IsPass idioms text new_at new
 asked_step idioms text at out start from to indent put call whole new_at new all before is (first, second, third) may asked blank place whole_is (at_is, new_is) =

@@ -11,7 +11,7 @@ use Rattle.port_compounds.specs.Guards.{IsGuarded, ReadsStatus}
 use Rattle.port_compounds.specs.Ifs.{IsIf}
 use Rattle.port_compounds.specs.Loops.{IsWrittenOut}
 use Rattle.port_compounds.specs.Parts.{IsListEnd}
-use Rattle.port_compounds.specs.Places.{is_space, AreBlank, IsWord, BeginsStatement}
+use Rattle.port_compounds.specs.Places.{is_space_or_return, AreBlank, IsWord, BeginsStatement}
 use Rattle.port_idioms.specs.declared.idioms.Idioms.{Idioms}
 use Rattle.port_idioms.specs.declared.idioms.Idioms.TheVariants.{All}
 use Rattle.port_joints.specs.Files.{HasPart, IsFileTest, IsTestOfFiles, program_of, with_answer}
@@ -27,7 +27,7 @@ noted indent = codes "dnl acrun: in place of a statement: Autoconf makes the che
 -- What is written right before a call: nothing, or if all idioms are wanted, also the comment.
 pub data IsNote : Idioms → List ℕ → Type 0 where
   nothing : {idioms : Idioms} → IsNote idioms []
-  comment : (indent : List ℕ) → list_all is_space indent ≡ true → IsNote All (noted indent)
+  comment : (indent : List ℕ) → list_all is_space_or_return indent ≡ true → IsNote All (noted indent)
 
 -- `if` or `elif` is at the first of these offsets, and its condition is between the other two. (POSIX shell, 2.9.4.1)
 pub record IsIfTest (text : List ℕ) (start from to : ℕ) : Type 0 where
@@ -135,9 +135,9 @@ pub data IsPass (idioms : Idioms) (text : List ℕ) : ℕ → List ℕ → Type 
   tested : {from : ℕ} {out : List ℕ} (start to : ℕ) (put : List ℕ) → IsPass idioms text from out → IsTestAt text start from to → AreOrdered text start from to
       → Becomes (slice_range text from to) put → IsPass idioms text to (out ++ put)
   respelled : {start : ℕ} {out : List ℕ} (from to : ℕ) (put indent : List ℕ) → idioms ≡ All → IsPass idioms text start out → IsTestAt text start from to → AreOrdered text start from to
-      → IsRespelled (slice_range text from to) put → list_all is_space indent ≡ true → IsPass idioms text to (out ++ (spelled_so indent ++ (slice_range text start from ++ put)))
+      → IsRespelled (slice_range text from to) put → list_all is_space_or_return indent ≡ true → IsPass idioms text to (out ++ (spelled_so indent ++ (slice_range text start from ++ put)))
   asked : {start : ℕ} {out : List ℕ} (from to : ℕ) (put call indent : List ℕ) → idioms ≡ All → IsPass idioms text start out → IsTestAt text start from to → AreOrdered text start from to
-      → MayAskAt text start → IsAsked (slice_range text from to) put call → list_all is_space indent ≡ true
+      → MayAskAt text start → IsAsked (slice_range text from to) put call → list_all is_space_or_return indent ≡ true
       → IsPass idioms text to (out ++ (asked_so indent call ++ (slice_range text start from ++ put)))
 
 -- A pass that has read the text up to `start` may put this, after a note, in the place of what is between the offsets.

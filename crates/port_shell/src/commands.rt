@@ -14,6 +14,7 @@ use lint_text::part;
 use port_compounds::{are_spaces, is_word};
 use port_echo::{is_blank_echo, is_one_word, line_command, message_of};
 use std::alloc::{AllocError, Global};
+use text_cut::is_space;
 
 /// What the comments begin with.
 const FRONT: &[u8] = b"dnl acrun: in place of ";
@@ -307,11 +308,6 @@ fn pass_unset(
 /// Returns the offset of the last `;` of a command, or 0.
 fn last_semicolon(command: &[u8]) -> usize {
     command.iter().rposition(|byte| *byte == b';').unwrap_or(0)
-}
-
-/// Returns whether a byte is a space.
-fn is_space(byte: u8) -> bool {
-    byte == b' ' || byte == b'\t'
 }
 
 /// Returns the offset before the spaces that end at an offset.

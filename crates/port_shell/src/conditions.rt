@@ -4,7 +4,7 @@ ghost use Rattle.std.specs.Prelude.{◌≡◌, ◌⊎◌, ◌≤◌, ◌<◌, �
 ghost use Rattle.std.specs.List.{list_all};
 ghost use Rattle.ac_calls.specs.Calls.{calls_in, macro_call_of};
 ghost use Rattle.port_compounds.specs.Guards.{IsGuarded};
-ghost use Rattle.port_compounds.specs.Places.{is_space, AreBlank, IsWord};
+ghost use Rattle.port_compounds.specs.Places.{is_space_or_return, AreBlank, IsWord};
 ghost use Rattle.port_idioms.specs.declared.idioms.Idioms.TheVariants.{All};
 ghost use Rattle.port_joints.specs.Joints.{Becomes};
 ghost use Rattle.port_joints.specs.Spelled.{IsRespelled};
@@ -396,7 +396,7 @@ fn put_spelled(
     requires is { specs.IsTestAt text.now place.start place.from place.to }
     requires order { specs.AreOrdered text.now place.start place.from place.to }
     requires spelled { IsRespelled (slice_range text.now place.from place.to) put.now }
-    requires indent { list_all is_space indent.now ≡ true }
+    requires indent { list_all is_space_or_return indent.now ≡ true }
     requires begun { specs.IsPass idioms text.now pass.old.at pass.old.out.items }
     ensures { OnOk result (specs.IsPass idioms text.now pass.new.at pass.new.out.items) }
 {

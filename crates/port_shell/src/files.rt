@@ -3,7 +3,7 @@
 ghost use Rattle.std.specs.Prelude.{◌≡◌, ◌≤◌, ◌<◌, ◌+◌, ◌++◌, true, false, map, length, slice_range, codes, Contains, IfOk, IfSome, OnOk, IsTrue};
 ghost use Rattle.std.specs.List.{list_all};
 ghost use Rattle.ac_calls.specs.Calls.{calls_in, macro_call_of};
-ghost use Rattle.port_compounds.specs.Places.{is_space, IsWord};
+ghost use Rattle.port_compounds.specs.Places.{is_space_or_return, IsWord};
 ghost use Rattle.port_idioms.specs.declared.idioms.Idioms.TheVariants.{All};
 ghost use Rattle.port_joints.specs.Files as files;
 ghost use Rattle.port_shell.specs.Calls.{IsPut};
@@ -138,7 +138,7 @@ fn put_asked(
     requires order { specs.AreOrdered text.now place.start place.from place.to }
     requires may { specs.MayAskAt text.now place.start }
     requires asked { specs.IsAsked (slice_range text.now place.from place.to) put.now call.now }
-    requires indent { list_all is_space indent.now ≡ true }
+    requires indent { list_all is_space_or_return indent.now ≡ true }
     requires begun { specs.IsPass idioms text.now pass.old.at pass.old.out.items }
     ensures { OnOk result (specs.IsPass idioms text.now pass.new.at pass.new.out.items) }
 {

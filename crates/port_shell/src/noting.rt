@@ -2,7 +2,7 @@
 
 ghost use Rattle.std.specs.Prelude.{◌≡◌, true, IfOk, IfSome};
 ghost use Rattle.std.specs.List.{list_all};
-ghost use Rattle.port_compounds.specs.Places.{is_space};
+ghost use Rattle.port_compounds.specs.Places.{is_space_or_return};
 ghost use Rattle.port_shell.specs.Formed as specs;
 
 use lint_text::{line_start, part};
@@ -38,7 +38,7 @@ fn noted(alloc: Global, indent: &[u8]) -> Result<Vec<u8>, AllocError>
 /// Returns the comment with these spaces after it.
 #[tactic(auto, using(crate::proofs::Notes::commented))]
 fn note_after(alloc: Global, indent: &[u8]) -> Result<Option<Vec<u8>>, AllocError>
-    requires { list_all is_space indent.now ≡ true }
+    requires { list_all is_space_or_return indent.now ≡ true }
     ensures { IfOk result (λ o. IfSome o (λ v. specs.IsNote Idioms.All v.items)) }
 {
     let note = noted(alloc, indent)?;

@@ -14,6 +14,7 @@ use deftable::shell_name::name_bytes_len;
 use deftable::{Bytes, Name};
 use shellword::{ShellFault, Word, read_word_front};
 use std::alloc::Global;
+use text_cut::is_space;
 
 /// The part of a statement that has been read.
 #[derive(Clone, Copy)]
@@ -33,12 +34,6 @@ pub(crate) struct Item {
     pub(crate) assignment: Option<Assignment>,
     pub(crate) len: usize,
     pub(crate) stage: Stage,
-}
-
-fn is_space(byte: u8) -> bool
-    ensures { result ≡ bytes.is_space byte }
-{
-    byte == b' ' || byte == b'\t'
 }
 
 /// Returns whether a lone colon may end before `rest`: `rest` is empty, or begins with a blank or

@@ -3,6 +3,7 @@ use Rattle.std.specs.Prelude.{ℕ, ◌+◌, Bool, true, false, ◌||◌, not, Li
 use Rattle.std.specs.List.{prefix_len, list_all}
 use Rattle.std.specs.Char.{is_ascii_digit}
 use Rattle.deftable.specs.ShellName.{starts_name, continues_name}
+pub use Rattle.text_cut.specs.Cuts.{is_blank, is_space}
 
 -- The single quote. (POSIX shell, 2.2.2)
 abbrev pub single_quote : ℕ
@@ -98,10 +99,6 @@ abbrev pub stands_alone : List ℕ → Bool
 stands_alone [] = true
 stands_alone (b ∷ bs) = not (starts_name b || follows_dollar b)
 
--- Space, tab or newline. (own)
-abbrev pub is_blank : ℕ → Bool
-is_blank b = b == 32 || b == 9 || b == newline
-
 -- The bytes that end a word outside quotes: blanks and ; & | < > ( ). (POSIX shell, 2.2)
 abbrev pub ends_word : ℕ → Bool
 ends_word b = is_blank b || b == semicolon || b == ampersand || b == bar || b == 60 || b == 62 || b == 40 || b == 41
@@ -115,7 +112,3 @@ word_ends (b ∷ bs) = ends_word b
 abbrev pub is_parted : List ℕ → Bool
 is_parted [] = true
 is_parted (b ∷ bs) = is_blank b || b == semicolon
-
--- Space or tab. (own)
-abbrev pub is_space : ℕ → Bool
-is_space b = b == 32 || b == 9

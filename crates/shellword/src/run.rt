@@ -4,7 +4,7 @@ ghost use Rattle.std.specs.Prelude.{◌≡◌, ℕ, List, ◌∷◌, ◌+◌, �
 ghost use Rattle.shellword.specs.Faults.{IsWordFault};
 ghost use Rattle.shellword.specs.Gives.{Gives};
 ghost use Rattle.shellword.specs.Contexts.{is_over, is_quoted};
-ghost use Rattle.shellword.specs.Text.{ends_word, is_blank};
+ghost use Rattle.shellword.specs.Text.{ends_word};
 ghost use Rattle.shellword.specs.Scan.{scan};
 ghost use Rattle.shellword.specs.declared.fault.ShellFault.TheVariants.{OutOfMemory};
 
@@ -12,12 +12,7 @@ use crate::fault::ShellFault;
 use crate::front::{Context, read_front};
 use crate::part::Part;
 use std::alloc::Global;
-
-pub(crate) fn is_blank(byte: u8) -> bool
-    ensures { result ≡ is_blank byte }
-{
-    byte == b' ' || byte == b'\t' || byte == b'\n'
-}
+use text_cut::is_blank;
 
 /// Returns whether the byte ends a word outside quotes.
 pub(crate) fn ends_word(byte: u8) -> bool

@@ -3,7 +3,7 @@
 ghost use Rattle.std.specs.Prelude.{◌≡◌, ◌∷◌, [], ◌++◌, ◌≤◌, drop, length, slice_index, ◌+◌, ◌<◌, false, IfOk, IfErr, List, ℕ};
 ghost use Rattle.shellword.specs.Faults.{IsWordFault};
 ghost use Rattle.shellword.specs.Gives.{Gives};
-ghost use Rattle.shellword.specs.Text.{begins_with, is_space, ends_word};
+ghost use Rattle.shellword.specs.Text.{begins_with, ends_word};
 ghost use Rattle.shellword.specs.Cut.{ampersand_at, bar_at, word_at, token_at, tokens_of};
 ghost use Rattle.shellword.specs.declared.fault.ShellFault.TheVariants.{OutOfMemory};
 
@@ -13,6 +13,7 @@ use crate::run::{ends_word, read_run};
 use crate::word::Word;
 use std::alloc::Global;
 use std::collections::VecDeque;
+use text_cut::is_space;
 
 /// The operator that joins a test and the element after it.
 #[derive(Clone, Copy)]
@@ -39,12 +40,6 @@ fn begins_with(text: &[u8], byte: u8) -> bool
         Some((first, _)) => *first == byte,
         None => false,
     }
-}
-
-fn is_space(byte: u8) -> bool
-    ensures { result ≡ is_space byte }
-{
-    byte == b' ' || byte == b'\t'
 }
 
 /// Reads the token that begins with the `&` at offset `at`, which must be `&&`. Returns it and the

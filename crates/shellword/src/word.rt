@@ -16,11 +16,12 @@ ghost use Rattle.shellword.specs.declared.fault.ShellFault.TheVariants.{OutOfMem
 use crate::fault::ShellFault;
 use crate::front::Context;
 use crate::part::Part;
-use crate::run::{is_blank, read_run};
+use crate::run::read_run;
 use crate::value::value_of_parts;
 use deftable::{Bytes, Vars};
 use std::alloc::{AllocError, Global};
 use std::marker::Model;
+use text_cut::is_blank;
 
 /// A shell word. In contracts, its value is the list of its parts.
 pub struct Word {

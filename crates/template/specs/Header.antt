@@ -2,13 +2,10 @@
 use Rattle.std.specs.Prelude.{◌≡◌, ℕ, ◌==◌, ◌&&◌, ◌||◌, ◌<◌, nat_eq, bytes_eq, Bool, true, false, List, [], ◌∷◌, ◌++◌, length, take, drop, flat_map, Option, Some, None, option_and_then, option_map, codes, if◌then◌else◌}
 use Rattle.std.specs.List.{list_all, ends_with, prefix_len}
 use Rattle.bstr.specs.Text.{lines_of}
+pub use Rattle.text_cut.specs.Cuts.{is_space}
 use Rattle.deftable.specs.ShellName.{is_shell_name_of, continues_name}
 use Rattle.deftable.specs.Table.{value_of}
 use Rattle.template.specs.declared.header.Parts.{Parts}
-
--- A space or a tab. (own)
-abbrev pub is_space : ℕ → Bool
-is_space b = b == 32 || b == 9
 
 -- What a line says about a name: the spaces and tabs before and after its `#`, whether the keyword is `undef`, and the
 -- name. (Autoconf's manual, "Header Templates")

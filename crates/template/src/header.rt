@@ -9,6 +9,7 @@ use bstr::ByteSlice;
 use deftable::shell_name::name_bytes_len;
 use deftable::{Bytes, Defs, is_shell_name};
 use std::alloc::{AllocError, Global};
+use text_cut::is_space;
 
 /// The parts of a line that says something about a name.
 #[derive(Clone, Copy)]
@@ -20,12 +21,6 @@ struct Parts<'a> {
     /// Whether the keyword is `undef`.
     is_undef: bool,
     name: &'a [u8],
-}
-
-fn is_space(byte: u8) -> bool
-    ensures { result ≡ header.is_space byte }
-{
-    byte == b' ' || byte == b'\t'
 }
 
 /// Returns the number of spaces and tabs at the front.

@@ -2,12 +2,15 @@
 
 use std::test::Fail;
 use test_rows::{Page, RowCall, cut, try_rows};
-use text_cut::{fields, is_blank, parts, trim};
+use text_cut::{fields, is_blank, is_blank_or_return, is_space, is_space_or_return, parts, trim};
 
-/// `trim`, `fields` or `parts` and a text, for `parts` with the separator before it; or `blanks`
-/// alone, for every byte that is one.
+/// `trim`, `fields` or `parts` and a text, for `parts` with the separator before it; or `blanks` and
+/// one of four letters, for every byte that is a space, a blank, or one of them or a carriage return.
 const TEXTS: &[u8] = b"
-blanks => [^I^J ]
+blanks s => [^I ]
+blanks r => [^I\r ]
+blanks b => [^I^J ]
+blanks a => [^I^J\r ]
 
 trim  \t^J^Ja b\tc^J^J  => [a b\tc]
 trim  \xff \xc3  => [\xff \xc3]
@@ -27,10 +30,19 @@ parts : ^J => [ ^J]
 parts : => []
 ";
 
-fn put_blanks(page: &mut Page) {
+fn is_among(kind: &[u8], byte: u8) -> bool {
+    match kind {
+        b"s" => is_space(byte),
+        b"r" => is_space_or_return(byte),
+        b"b" => is_blank(byte),
+        _ => is_blank_or_return(byte),
+    }
+}
+
+fn put_blanks(page: &mut Page, kind: &[u8]) {
     page.put(b"[");
     for byte in 0..=u8::MAX {
-        if is_blank(byte) {
+        if is_among(kind, byte) {
             page.put_byte(byte);
         }
     }
@@ -53,7 +65,7 @@ impl RowCall for Textcut {
     fn put(&self, page: &mut Page, given: &[u8]) {
         let (call, text) = cut(given, b" ");
         match (call.first(), text) {
-            (Some(b'b'), _) => put_blanks(page),
+            (Some(b'b'), _) => put_blanks(page, text),
             (Some(b't'), _) => page.put_text(trim(text)),
             (Some(b'p'), [separator, text @ ..]) => put_pieces(page, text, Some(*separator)),
             _ => put_pieces(page, text, None),

@@ -15,10 +15,34 @@
 #![tactic(auto)]
 
 ghost use Rattle.std.specs.Prelude.{◌≡◌, ◌≤◌, length, map, IfOk};
-ghost use Rattle.text_cut.specs.Cuts.{is_blank, trimmed, fields, parts};
+ghost use Rattle.text_cut.specs.Cuts.{
+  is_space,
+  is_space_or_return,
+  is_blank,
+  is_blank_or_return,
+  trimmed,
+  fields,
+  parts,
+};
 
 use bstr::ByteSlice;
 use std::alloc::{AllocError, Global};
+
+/// Returns whether the byte is a space or a tab. These bytes separate words within a line (POSIX,
+/// Shell Command Language, "Token Recognition").
+pub fn is_space(byte: u8) -> bool
+    ensures { result ≡ is_space byte }
+{
+    byte == b' ' || byte == b'\t'
+}
+
+/// Returns whether the byte is a space, a tab or a carriage return, which may end a line before its
+/// newline (own).
+pub fn is_space_or_return(byte: u8) -> bool
+    ensures { result ≡ is_space_or_return byte }
+{
+    byte == b' ' || byte == b'\t' || byte == b'\r'
+}
 
 /// Returns whether the byte is a space, a tab or a newline. These bytes separate the fields of a
 /// POSIX shell if IFS is unset (POSIX, Shell Command Language, "Field Splitting").
@@ -28,6 +52,13 @@ pub fn is_blank(byte: u8) -> bool
     ensures value { result ≡ is_blank byte }
 {
     byte == b' ' || byte == b'\t' || byte == b'\n'
+}
+
+/// Returns whether the byte is a blank or a carriage return (own).
+pub fn is_blank_or_return(byte: u8) -> bool
+    ensures { result ≡ is_blank_or_return byte }
+{
+    byte == b' ' || byte == b'\t' || byte == b'\r' || byte == b'\n'
 }
 
 /// Returns the text without the blanks at both ends (own). Blanks within it stay.
