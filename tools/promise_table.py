@@ -36,7 +36,6 @@ from the sources.
 # Why functions of a crate have no clause, by crate.
 WHY_NONE = {
     "lint_macros": "Each index is exact, whoever made it: it has a ghost field that says so, and its calls are stated by that.",
-    "lint_text": "They cut texts in which words and places are looked for. What is said of a place is stated by the functions of `places`.",
     "lint_words": "They choose words for a reader. Which words are right is a judgement, and examples hold it.",
     "lint_templates": "Which names a source gives, and a header lists, decides only what is warned of. Examples hold it.",
     "lint_warnings": "What means something else than it seems to is a judgement, row by row. Examples hold each row.",

@@ -5,7 +5,8 @@ use Rattle.std.proofs.Math.Seq.{take-add}
 use Rattle.std.proofs.lemmas.Bool.{cases_Bool, cases_eq, cases_lt}
 use Rattle.std.proofs.lemmas.List.{reverse-append, append_assoc}
 use Rattle.std.proofs.lemmas.List.Sums.{sum_by-append, sum_by-cons}
-use Rattle.lint_text.specs.Places.{is_newline, is_in_line, before, position_of}
+use Rattle.lint_text.specs.Parts.{is_newline, is_in_line, before}
+use Rattle.lint_text.specs.Places.{position_of}
 
 is_counted : (b n : ℕ) → is_newline b ≡ true → cond (is_newline b) 1 0 + n ≡ 0 → ⊥
 is_counted b n newline none =

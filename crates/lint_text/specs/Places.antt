@@ -1,23 +1,8 @@
 -- Where an offset of a text is.
-use Rattle.std.specs.Prelude.{ℕ, ◌+◌, ◌-◌, min, Bool, not, List, length, take, drop, slice_range, ◌==◌}
+use Rattle.std.specs.Prelude.{ℕ, ◌+◌, ◌-◌, min, List, length, slice_range}
 use Rattle.std.specs.List.{count_by, prefix_len, suffix_len}
+use Rattle.lint_text.specs.Parts.{is_newline, is_in_line, before, from}
 use Rattle.lint_text.specs.declared.places.Position.{Position}
-
--- The byte is a newline, which ends its line. (own)
-abbrev pub is_newline : ℕ → Bool
-is_newline b = b == 10
-
--- The byte is no newline. (own)
-abbrev pub is_in_line : ℕ → Bool
-is_in_line b = not (b == 10)
-
--- The bytes before the offset, which are all if it is past the end. (own)
-abbrev pub before : List ℕ → ℕ → List ℕ
-before text offset = take offset text
-
--- The bytes from the offset on, which are none if it is past the end. (own)
-abbrev pub from : List ℕ → ℕ → List ℕ
-from text offset = drop offset text
 
 -- The place of an offset: its line is 1 and the number of newlines before it, and its column is 1 and the number of bytes since the last
 -- newline before it. (own)

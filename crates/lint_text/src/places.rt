@@ -15,8 +15,11 @@
 //! line and the column determine the offset.
 
 ghost use Rattle.std.specs.Prelude.{◌≡◌, ℕ, ◌≤◌, min, length, List};
-ghost use Rattle.std.specs.List.{count_by, prefix_len, suffix_len};
+ghost use Rattle.std.specs.List.{count_by, suffix_len};
+ghost use Rattle.lint_text.specs.Parts as parts;
 ghost use Rattle.lint_text.specs.Places as specs;
+
+use crate::pieces::{before, first_line_len, from, is_in_line};
 
 /// A place in a text: its line and its column, from 1.
 #[derive(Clone, Copy, Debug, PartialEq, Eq)]
@@ -28,34 +31,14 @@ pub struct Position {
 }
 
 fn is_newline(byte: u8) -> bool
-    ensures { result ≡ specs.is_newline byte }
+    ensures { result ≡ parts.is_newline byte }
 {
     byte == b'\n'
 }
 
-fn is_in_line(byte: u8) -> bool
-    ensures { result ≡ specs.is_in_line byte }
-{
-    byte != b'\n'
-}
-
-/// Returns the bytes before the offset, or the whole text if the offset is past its end.
-fn before(text: &[u8], offset: usize) -> &[u8]
-    ensures { result.now ≡ specs.before text.now offset }
-{
-    &text[..offset.min(text.len())]
-}
-
-/// Returns the bytes from the offset on, or none if the offset is past the end of the text.
-fn from(text: &[u8], offset: usize) -> &[u8]
-    ensures { result.now ≡ specs.from text.now offset }
-{
-    &text[offset.min(text.len())..]
-}
-
 /// Returns the number of newlines.
 fn newlines(text: &[u8]) -> usize
-    ensures value { result ≡ count_by specs.is_newline text.now }
+    ensures value { result ≡ count_by parts.is_newline text.now }
     ensures within { result ≤ length text.now }
 {
     text.iter().filter(|byte| is_newline(**byte)).count()
@@ -63,21 +46,13 @@ fn newlines(text: &[u8]) -> usize
 
 /// Returns the number of bytes after the last newline.
 fn last_line_len(text: &[u8]) -> usize
-    ensures value { result ≡ suffix_len specs.is_in_line text.now }
+    ensures value { result ≡ suffix_len parts.is_in_line text.now }
     ensures within { result ≤ length text.now }
 {
     text.iter()
         .rev()
         .take_while(|byte| is_in_line(**byte))
         .count()
-}
-
-/// Returns the number of bytes before the first newline.
-fn first_line_len(text: &[u8]) -> usize
-    ensures value { result ≡ prefix_len specs.is_in_line text.now }
-    ensures within { result ≤ length text.now }
-{
-    text.iter().take_while(|byte| is_in_line(**byte)).count()
 }
 
 /// Returns the line and the column of the byte at the offset (own).
