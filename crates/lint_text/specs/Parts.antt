@@ -2,6 +2,7 @@
 use Rattle.std.specs.Prelude.{ℕ, ◌-◌, Bool, not, ◌&&◌, ◌||◌, ◌==◌, nat_le, List, [], length, take, drop, take_while, slice_range, if◌then◌else◌}
 use Rattle.std.specs.Char.{is_ascii_alphanumeric}
 use Rattle.std.specs.List.{prefix_len, suffix_len}
+use Rattle.text_cut.specs.Cuts.{is_blank, is_space}
 
 -- The byte is a newline, which ends its line. (own)
 abbrev pub is_newline : ℕ → Bool
@@ -15,17 +16,9 @@ is_in_line b = not (b == 10)
 abbrev pub is_word_byte : ℕ → Bool
 is_word_byte b = is_ascii_alphanumeric b || b == 95
 
--- A space or a tab. (own)
-abbrev pub is_blank : ℕ → Bool
-is_blank b = b == 32 || b == 9
-
--- A space, a tab or a newline. (own)
-abbrev pub is_space : ℕ → Bool
-is_space b = is_blank b || is_newline b
-
 -- No space, tab, newline or `;`, so a byte of a first word. (own)
 abbrev pub is_in_word : ℕ → Bool
-is_in_word b = not (is_space b || b == 59)
+is_in_word b = not (is_blank b || b == 59)
 
 -- The bytes before the offset, which are all if it is past the end. (own)
 abbrev pub before : List ℕ → ℕ → List ℕ
@@ -53,8 +46,8 @@ first_line text = take_while is_in_line text
 
 -- What is left of a text without the spaces and tabs at its front. (own)
 abbrev pub after_blanks : List ℕ → List ℕ
-after_blanks text = drop (prefix_len is_blank text) text
+after_blanks text = drop (prefix_len is_space text) text
 
 -- What is left of a text without the spaces, tabs and newlines at its end. (own)
 abbrev pub without_end_blanks : List ℕ → List ℕ
-without_end_blanks text = take (length text - suffix_len is_space text) text
+without_end_blanks text = take (length text - suffix_len is_blank text) text

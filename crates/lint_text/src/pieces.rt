@@ -11,7 +11,10 @@
 
 ghost use Rattle.std.specs.Prelude.{◌≡◌, ◌≤◌, length};
 ghost use Rattle.std.specs.List.{prefix_len, suffix_len};
+ghost use Rattle.text_cut.specs.Cuts.{is_blank, is_space};
 ghost use Rattle.lint_text.specs.Parts as specs;
+
+use text_cut::{is_blank, is_space};
 
 /// Returns the text from an offset on.
 pub fn from(text: &[u8], at: usize) -> &[u8]
@@ -45,25 +48,11 @@ pub fn is_word_byte(byte: u8) -> bool
     byte.is_ascii_alphanumeric() || byte == b'_'
 }
 
-/// Returns whether a byte is a space or a tab.
-fn is_blank(byte: u8) -> bool
-    ensures { result ≡ specs.is_blank byte }
-{
-    byte == b' ' || byte == b'\t'
-}
-
-/// Returns whether a byte is a space, a tab or a newline.
-fn is_space(byte: u8) -> bool
-    ensures { result ≡ specs.is_space byte }
-{
-    is_blank(byte) || byte == b'\n'
-}
-
 /// Returns whether a byte doesn't end a first word.
 fn is_in_word(byte: u8) -> bool
     ensures { result ≡ specs.is_in_word byte }
 {
-    !(is_space(byte) || byte == b';')
+    !(is_blank(byte) || byte == b';')
 }
 
 /// Returns whether a byte doesn't end its line.
@@ -88,10 +77,10 @@ fn first_word_len(text: &[u8]) -> usize
 }
 
 /// Returns the number of spaces and tabs that a text begins with.
-fn blanks_len(text: &[u8]) -> usize
-    ensures { result ≡ prefix_len specs.is_blank text.now }
+fn spaces_len(text: &[u8]) -> usize
+    ensures { result ≡ prefix_len is_space text.now }
 {
-    text.iter().take_while(|byte| is_blank(**byte)).count()
+    text.iter().take_while(|byte| is_space(**byte)).count()
 }
 
 /// Returns the number of bytes before the first newline.
@@ -104,12 +93,12 @@ pub(crate) fn first_line_len(text: &[u8]) -> usize
 
 /// Returns the number of spaces, tabs and newlines at the end of a text.
 fn end_blanks_len(text: &[u8]) -> usize
-    ensures value { result ≡ suffix_len specs.is_space text.now }
+    ensures value { result ≡ suffix_len is_blank text.now }
     ensures within { result ≤ length text.now }
 {
     text.iter()
         .rev()
-        .take_while(|byte| is_space(**byte))
+        .take_while(|byte| is_blank(**byte))
         .count()
 }
 
@@ -131,7 +120,7 @@ pub fn first_word(text: &[u8]) -> &[u8]
 pub fn after_blanks(text: &[u8]) -> &[u8]
     ensures { result.now ≡ specs.after_blanks text.now }
 {
-    from(text, blanks_len(text))
+    from(text, spaces_len(text))
 }
 
 /// Returns the text up to its first newline.
