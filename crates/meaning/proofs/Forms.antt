@@ -4,7 +4,7 @@ use Rattle.std.specs.Prelude.{◌&&◌, not, bytes_eq, Option, Some, None}
 use Rattle.deftable.specs.Table.{value_of}
 use Rattle.test_forms.specs.declared.form.Gives.{Gives}
 use Rattle.test_forms.specs.declared.form.Gives.TheVariants.{Nothing, Have, HaveOrNot, AddsLibrary, AddsValue}
-use Rattle.test_forms.specs.declared.form.TestForm.{TestForm}
+use Rattle.test_forms.specs.Form.{TestForm}
 use Rattle.meaning.specs.State.{State}
 use Rattle.meaning.specs.Forms.{defined_if, form_name, form_used, is_linked, with_given, with_library, with_library_if, with_linked}
 use Rattle.meaning.proofs.Values.{value_there}

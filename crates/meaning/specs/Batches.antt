@@ -5,7 +5,7 @@ use Rattle.std.specs.List.{list_any}
 use Rattle.crew_jobs.specs.declared.job.Job.{Job}
 use Rattle.crew_trait.specs.declared.reply.Reply.{Reply}
 use Rattle.deftable.specs.Table.{value_of}
-use Rattle.test_forms.specs.declared.form.TestForm.{TestForm}
+use Rattle.test_forms.specs.Form.{TestForm}
 use Rattle.test_forms.specs.declared.form.TryForm.{TryForm}
 use Rattle.meaning.specs.State.{State, with_child, with_variable, Goes_on, Completed, Stopped, Cut, Run, Ends, Asks, as_is}
 use Rattle.meaning.specs.Asking.{success, only_reply, after_child}

@@ -5,7 +5,7 @@ use Rattle.ac_tree.specs.declared.listed.Listed.{Listed}
 use Rattle.ac_tree.specs.declared.listed.Listed.TheVariants.{Header, Function, Declaration}
 use Rattle.ac_tree.specs.declared.listed.Sought.{Sought}
 use Rattle.ac_tree.specs.declared.listed.Sought.TheVariants.{ListEntry, «Type»}
-use Rattle.test_forms.specs.declared.form.TestForm.{TestForm}
+use Rattle.test_forms.specs.Form.{TestForm}
 use Rattle.test_forms.specs.Macros.{header_form, function_form, declaration_form, type_form, library_form, search_form}
 use Rattle.meaning.specs.Forms.{FormTest}
 

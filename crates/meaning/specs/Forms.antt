@@ -15,7 +15,7 @@ use Rattle.test_forms.specs.declared.form.Says.{Says}
 use Rattle.test_forms.specs.declared.form.Says.TheVariants.{Yes, AllButNo}
 use Rattle.test_forms.specs.declared.form.Gives.{Gives}
 use Rattle.test_forms.specs.declared.form.Gives.TheVariants.{Nothing, Have, HaveOrNot, AddsLibrary, AddsValue}
-use Rattle.test_forms.specs.declared.form.TestForm.{TestForm}
+use Rattle.test_forms.specs.Form.{TestForm}
 use Rattle.meaning.specs.State.{State, value_or_empty, with_variable, with_definition}
 use Rattle.meaning.specs.Asking.{Attempt}
 

@@ -13,7 +13,7 @@ use Rattle.deftable.specs.declared.note.Note.{Note}
 use Rattle.deftable.specs.declared.note.Stream.TheVariants.{Out}
 use Rattle.test_forms.specs.declared.form.Gives.{Gives}
 use Rattle.test_forms.specs.declared.form.Gives.TheVariants.{Nothing, Have, HaveOrNot, AddsLibrary, AddsValue}
-use Rattle.test_forms.specs.declared.form.TestForm.{TestForm}
+use Rattle.test_forms.specs.Form.{TestForm}
 use Rattle.meaning.specs.State.{piece, with_note, with_child, with_variable, State, How, Goes_on, Cut, Run, Ends, then_run, as_is}
 use Rattle.meaning.specs.Asking.{success, only_reply, without_compiler}
 use Rattle.meaning.specs.Tests.{guarded, checking, with_result, with_value, Row, tested_by, may_begin, tested}

@@ -5,7 +5,7 @@ use Rattle.deftable.specs.Table.{value_of, with_entry}
 use Rattle.meaning.specs.State.{State}
 use Rattle.test_forms.specs.declared.form.Gives.{Gives}
 use Rattle.test_forms.specs.declared.form.Gives.TheVariants.{Nothing, Have, HaveOrNot, AddsLibrary, AddsValue}
-use Rattle.test_forms.specs.declared.form.TestForm.{TestForm}
+use Rattle.test_forms.specs.Form.{TestForm}
 use Rattle.meaning.specs.Forms.{form_used, is_linked, says_found, with_given, with_library, with_library_if, with_linked}
 use Rattle.meaning.proofs.Forms.{defined_vars}
 use Rattle.meaning_laws.specs.Deeds.{is_added}

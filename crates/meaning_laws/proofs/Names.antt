@@ -8,7 +8,7 @@ use Rattle.deftable.specs.CacheName.{is_cache_name, has_cv}
 use Rattle.deftable.specs.ShellName.{starts_name, continues_name, IsShellName}
 use Rattle.m4quote.specs.Names.{sh_byte}
 use Rattle.m4quote.specs.Text.{is_word_byte}
-use Rattle.test_forms.specs.declared.form.TestForm.{TestForm}
+use Rattle.test_forms.specs.Form.{TestForm}
 use Rattle.meaning.specs.Forms.{form_name}
 use Rattle.ac_tree.specs.TestNames.{shell_part, program_name, path_name}
 

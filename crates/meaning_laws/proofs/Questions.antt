@@ -6,7 +6,7 @@ use Rattle.meaning.specs.State.{State, answered, How, Goes_on, Completed, then_r
 use Rattle.meaning.specs.Tests.{tested}
 use Rattle.test_forms.specs.declared.form.Says.{Says}
 use Rattle.test_forms.specs.declared.form.Says.TheVariants.{Yes, AllButNo}
-use Rattle.test_forms.specs.declared.form.TestForm.{TestForm}
+use Rattle.test_forms.specs.Form.{TestForm}
 use Rattle.meaning.specs.Forms.{form_name, form_used, is_linked, is_yes, says_found}
 use Rattle.meaning.specs.Rows.{Formed, row_of}
 use Rattle.meaning.proofs.Forms.{name_is_left}

@@ -11,7 +11,7 @@ use Rattle.shellword.specs.declared.part.Part.{Part}
 use Rattle.ac_tree.specs.declared.listed.Listed.{Listed}
 use Rattle.test_forms.specs.declared.form.Gives.{Gives}
 use Rattle.test_forms.specs.declared.form.Gives.TheVariants.{Nothing, Have, HaveOrNot, AddsLibrary, AddsValue}
-use Rattle.test_forms.specs.declared.form.TestForm.{TestForm}
+use Rattle.test_forms.specs.Form.{TestForm}
 use Rattle.test_forms.specs.declared.form.TryForm.{TryForm}
 use Rattle.meaning.specs.State.{State, piece, How, Goes_on, Stopped, Cut, Run, Ends, Asks}
 use Rattle.meaning.specs.Asking.{success, only_reply}

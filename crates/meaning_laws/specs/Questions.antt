@@ -4,7 +4,7 @@ use Rattle.deftable.specs.Table.{value_of}
 use Rattle.meaning.specs.State.{State, Scope, answered, How, Goes_on, Completed, Run, Ends, as_is}
 use Rattle.test_forms.specs.declared.form.Says.{Says}
 use Rattle.test_forms.specs.declared.form.Says.TheVariants.{Yes, AllButNo}
-use Rattle.test_forms.specs.declared.form.TestForm.{TestForm}
+use Rattle.test_forms.specs.Form.{TestForm}
 use Rattle.meaning.specs.Forms.{FormTest, form_name, form_used, says_found}
 use Rattle.meaning.specs.Rows.{Formed, row_of}
 use Rattle.meaning.specs.Meaning.{found_by}

@@ -17,7 +17,7 @@ use Rattle.shellword.specs.declared.part.Part.{Part}
 use Rattle.test_forms.specs.Macros.{library_form}
 use Rattle.test_forms.specs.declared.form.Gives.{Gives}
 use Rattle.test_forms.specs.declared.form.Gives.TheVariants as forms
-use Rattle.test_forms.specs.declared.form.TestForm.{TestForm}
+use Rattle.test_forms.specs.Form.{TestForm}
 use Rattle.meaning.specs.Forms.{symbol_part}
 use Rattle.meaning.specs.Entries.{listed_form, sought_form}
 use Rattle.plan.specs.Names.{DefinesAbout, DefinesBy, DefinesName, given_symbol, package_names}

@@ -11,7 +11,7 @@ use Rattle.ac_tree.specs.declared.tree.Subject.TheVariants.{Nothing, Word, Asked
 use Rattle.test_forms.specs.Macros.{library_form, search_form}
 use Rattle.test_forms.specs.declared.form.Gives.{Gives}
 use Rattle.test_forms.specs.declared.form.Gives.TheVariants as forms
-use Rattle.test_forms.specs.declared.form.TestForm.{TestForm}
+use Rattle.test_forms.specs.Form.{TestForm}
 use Rattle.meaning.specs.Forms.{symbol_part}
 use Rattle.meaning.specs.Entries.{listed_form, sought_form}
 use Rattle.meaning.specs.Rows.{TestKind, Program, Formed}

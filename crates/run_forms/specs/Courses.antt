@@ -6,7 +6,7 @@ use Rattle.meaning.specs.State.{State}
 use Rattle.meaning.specs.Asking.{Attempt}
 use Rattle.meaning.specs.Tests.{Row, by_attempts}
 use Rattle.meaning.specs.Forms.{FormTest, Table, form_attempts, form_name, form_used, may_start, value_in}
-use Rattle.test_forms.specs.declared.form.TestForm.{TestForm}
+use Rattle.test_forms.specs.Form.{TestForm}
 use Rattle.run_forms.specs.declared.course.FormCourse.{FormCourse}
 use Rattle.run_forms.specs.declared.opening.Opening.{Opening}
 

@@ -4,7 +4,7 @@ use Rattle.deftable.specs.Table.{value_of}
 use Rattle.meaning.specs.State.{State}
 use Rattle.meaning.specs.Rows.{Formed, row_of}
 use Rattle.meaning.specs.Forms.{FormTest, Table, form_name, form_used}
-use Rattle.test_forms.specs.declared.form.TestForm.{TestForm}
+use Rattle.test_forms.specs.Form.{TestForm}
 use Rattle.run_forms.specs.declared.course.FormCourse.{FormCourse}
 use Rattle.run_forms.specs.Courses.{attempts_in, bare_of, course_of, row_in}
 use Rattle.run_forms.specs.Ends.{known}

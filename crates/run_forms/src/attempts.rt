@@ -124,7 +124,7 @@ fn made(
     ensures { IfOk result (
         IsMade (attempt_of_try form.now.entry given.now store.now.vars store.now.defs from.now)) }
 {
-    let job = snippet_job(alloc, store, &from.snippet, form.entry.as_slice(), given, 0)?;
+    let job = snippet_job(alloc, store, &from.snippet, form.entry(), given, 0)?;
     let value = from.value.copy(alloc)?;
     Ok(Attempt {
         job,
@@ -145,7 +145,7 @@ pub fn attempt_at(
     ensures { IfOk result (IsAttempt course.now store.now place) }
 {
     let form = &course.form;
-    let Some(from) = form.tries.get(alloc, place)? else {
+    let Some(from) = form.try_at(alloc, place)? else {
         return Ok(None);
     };
     let attempt = made(alloc, store, form, &course.given, &from)?;
@@ -165,16 +165,9 @@ pub fn test_job(
     ensures { IfOk result (λ j.
         j ≡ test_job (record { form = form.now; given = given.now }) number store.now) }
 {
-    let Some(first) = form.tries.get(alloc, 0)? else {
+    let Some(first) = form.try_at(alloc, 0)? else {
         return Ok(None);
     };
     let given = value_in(alloc, store, given)?;
-    snippet_job(
-        alloc,
-        store,
-        &first.snippet,
-        form.entry.as_slice(),
-        &given,
-        number,
-    )
+    snippet_job(alloc, store, &first.snippet, form.entry(), &given, number)
 }

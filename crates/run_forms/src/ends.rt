@@ -16,7 +16,8 @@ use std::alloc::{AllocError, Global};
 pub fn begin_form(alloc: Global, store: &mut Store, course: &FormCourse) -> Result<(), AllocError>
     ensures { OnOk result (store.new ≡ checking course.now.form.message store.old) }
 {
-    begin_check(alloc, store, course.form.message.as_slice())
+    let message = course.form.message(alloc)?;
+    begin_check(alloc, store, message.as_slice())
 }
 
 /// Ends a test with a value: its name gets the value, the value is printed, and what is done with

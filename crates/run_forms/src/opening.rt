@@ -24,7 +24,8 @@ pub struct Opening {
 fn form_name(alloc: Global, form: &TestForm) -> Result<Bytes, AllocError>
     ensures { IfOk result (λ n. n ≡ form_name form.now) }
 {
-    let part = sh_name(alloc, form.key.as_slice())?;
+    let key = form.key(alloc)?;
+    let part = sh_name(alloc, key.as_slice())?;
     Bytes::concat(alloc, &[b"ac_cv_", part.as_slice()])
 }
 

@@ -169,6 +169,7 @@ pub fn use_value(
 ) -> Result<(), AllocError>
     ensures { OnOk result (store.new ≡ form_used form.now value.now store.old) }
 {
-    let found = is_found(&form.says, value);
-    give(alloc, store, &form.gives, found, value)
+    let found = is_found(&form.says(), value);
+    let gives = form.gives(alloc)?;
+    give(alloc, store, &gives, found, value)
 }

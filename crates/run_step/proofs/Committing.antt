@@ -20,7 +20,7 @@ use Rattle.meaning.specs.Tests.{guarded, checking, with_result, Row, may_begin, 
 use Rattle.plan.specs.Broken.{broken_all, guarded_all}
 use Rattle.meaning.proofs.Batches.{entries_are, has_job, lacks_in, lacks_job, ready_is}
 use Rattle.meaning.proofs.Values.{same_text, value_here, value_there, without_unset}
-use Rattle.test_forms.specs.declared.form.TestForm.{TestForm}
+use Rattle.test_forms.specs.Form.{TestForm}
 use Rattle.run_forms.specs.Courses.{bare_course}
 use Rattle.run_forms.specs.Ends.{heard_end}
 use Rattle.run_test.specs.Batched.{after_entries, at_once, batch_end, is_refused, known_end, refuses}

@@ -13,7 +13,7 @@ use Rattle.meaning.specs.Forms.{form_name}
 use Rattle.meaning.specs.Entries.{listed_form}
 use Rattle.meaning.specs.Tests.{checking}
 use Rattle.plan.specs.Broken.{broken_all}
-use Rattle.test_forms.specs.declared.form.TestForm.{TestForm}
+use Rattle.test_forms.specs.Form.{TestForm}
 use Rattle.run_forms.specs.Courses.{bare_course}
 use Rattle.run_test.specs.Batched.{known_end}
 use Rattle.run_test.specs.declared.wait.Waiting as waiting

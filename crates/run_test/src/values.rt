@@ -41,7 +41,7 @@ pub(crate) fn otherwise_of(course: &Course) -> Option<&[u8]>
 {
     match course {
         Course::Program { search, .. } => lent(&search.otherwise),
-        Course::Formed { course } => Some(course.form.otherwise.as_slice()),
+        Course::Formed { course } => Some(course.form.otherwise()),
     }
 }
 
@@ -90,7 +90,7 @@ pub(crate) fn answer(alloc: Global, about: &mut About, course: &Course, value: &
     match course {
         Course::Program { .. } => {}
         Course::Formed { course } => {
-            *about = About::answer(alloc, is_found(&course.form.says, value))
+            *about = About::answer(alloc, is_found(&course.form.says(), value))
         }
     }
 }

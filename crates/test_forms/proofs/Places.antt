@@ -24,16 +24,7 @@ mapped_past f [] (suc i) le = refl
 mapped_past f (x ∷ xs) zero le = absurd (omega (arith, le))
 mapped_past f (x ∷ xs) (suc i) le = mapped_past f xs i (omega (arith, le))
 
--- What is in the first of two lists, and after it.
-pub in_first : {A : Type 0} (xs ys : List A) (i : ℕ) (x : A) → Some x ≡ slice_get xs i → Some x ≡ slice_get (xs ++ ys) i
-in_first [] ys i x is = cc
-in_first (a ∷ xs) ys zero x is = is
-in_first (a ∷ xs) ys (suc i) x is = in_first xs ys i x is
-
-after_first : {A : Type 0} (xs ys : List A) (i : ℕ) → None ≡ slice_get xs i → slice_get ys (i - length xs) ≡ slice_get (xs ++ ys) i
-after_first [] ys i is = let e : i - 0 ≡ i = omega arith in ap (slice_get ys) e
-after_first (x ∷ xs) ys zero is = absurd cc
-after_first (x ∷ xs) ys (suc i) is = let e : suc i - suc (length xs) ≡ i - length xs = omega arith in ap (slice_get ys) e ∙ after_first xs ys i is
-
-pub in_second : {A : Type 0} (xs ys : List A) (i n : ℕ) (r : Option A) → None ≡ slice_get xs i → n ≡ i - length xs → r ≡ slice_get ys n → r ≡ slice_get (xs ++ ys) i
-in_second xs ys i n r is at found = found ∙ ap (slice_get ys) at ∙ after_first xs ys i is
+-- What is after the first.
+pub later : {A : Type 0} (x : A) (xs : List A) (i n : ℕ) (r : Option A) → (i ≡ 0 → ⊥) → n ≡ i - 1 → r ≡ slice_get xs n → r ≡ slice_get (x ∷ xs) i
+later x xs zero n r is_later at found = absurd (is_later refl)
+later x xs (suc i) n r is_later at found = found ∙ ap (slice_get xs) (omega (arith, at))

@@ -1,2 +1,3 @@
 pub mod Tries
+pub mod Form
 pub mod Macros

@@ -5,7 +5,9 @@ use Rattle.test_forms.specs.declared.form.TryForm.{TryForm}
 use Rattle.test_forms.specs.declared.form.Says.TheVariants.{Yes, AllButNo}
 use Rattle.test_forms.specs.declared.form.Gives.{Gives}
 use Rattle.test_forms.specs.declared.form.Gives.TheVariants.{Nothing, Have, HaveOrNot, AddsLibrary, AddsValue}
-use Rattle.test_forms.specs.declared.form.TestForm.{TestForm}
+use Rattle.test_forms.specs.declared.forms.FormKind.{FormKind}
+use Rattle.test_forms.specs.declared.forms.FormKind.TheVariants as kinds
+use Rattle.test_forms.specs.Form.{TestForm}
 pub use Rattle.test_forms.specs.Tries.{linked_try}
 
 -- What a test gives, if it gives anything. (own)
@@ -43,6 +45,10 @@ function_form function defines = record {
 abbrev pub declared_body : List ℕ → List ℕ
 declared_body name = codes "#ifndef " ++ name ++ codes "\n  (void) " ++ name ++ codes ";\n#endif"
 
+-- Its try. (own)
+abbrev pub declared_try : List ℕ → TryForm
+declared_try name = record { snippet = Body (declared_body name); ends_on = true; value = codes "yes" }
+
 -- A program that uses the name is compiled. `HAVE_DECL_` and the name is defined, as 1 if it is found and as 0 if it isn't.
 -- (Autoconf's manual, "Generic Declarations")
 abbrev pub declaration_form : List ℕ → Bool → TestForm
@@ -50,7 +56,7 @@ declaration_form name defines = record {
   entry = name;
   key = codes "have_decl_" ++ name;
   message = codes "whether " ++ name ++ codes " is declared";
-  tries = record { snippet = Body (declared_body name); ends_on = true; value = codes "yes" } ∷ [];
+  tries = declared_try name ∷ [];
   otherwise = codes "no";
   says = Yes;
   gives = given_if defines (HaveOrNot (codes "DECL_" ++ name));
@@ -106,3 +112,12 @@ search_form function libraries = record {
   says = AllButNo;
   gives = AddsValue;
 }
+
+-- The form of a macro's test, which looks for this and may define a name or add a library. (own)
+abbrev pub form_of : FormKind → List ℕ → Bool → TestForm
+form_of kinds.Header entry gives = header_form entry gives
+form_of kinds.Function entry gives = function_form entry gives
+form_of kinds.Declaration entry gives = declaration_form entry gives
+form_of kinds.«Type» entry gives = type_form entry gives
+form_of (kinds.Library library) entry gives = library_form library entry gives
+form_of (kinds.Search libraries) entry gives = search_form entry libraries

@@ -7,18 +7,19 @@
 //! header, has the value `yes` if that succeeds and `no` otherwise, and gives nothing.
 //!
 //! A form has no text that depends on the variables of a run. Its names may have any bytes: a key
-//! becomes a cached name, and a text that is defined becomes a symbol, when the test runs. A try
-//! keeps which program it compiles, and the program is made when the try's turn comes.
+//! becomes a cached name, and a text that is defined becomes a symbol, when the test runs. A form
+//! holds what its macro was given, and makes each text when it is asked for. A try keeps which
+//! program it compiles, and the program is made when the try's turn comes.
 //!
 //! A call that returns a `Result` fails only if memory runs out.
 //!
-//! Read `form`, which has the types, and then `specs/Macros` and `forms`.
+//! Read `form` and `specs/Form`, which have the types, and then `specs/Macros` and `forms`.
 #![tactic(auto)]
 
 pub mod form;
 pub mod forms;
 
-pub use form::{Gives, Says, Snippet, TestForm, Tries, TryForm};
+pub use form::{Gives, Says, Snippet, TryForm};
 pub use forms::{
-    declaration_form, function_form, header_form, library_form, search_form, type_form,
+    TestForm, declaration_form, function_form, header_form, library_form, search_form, type_form,
 };

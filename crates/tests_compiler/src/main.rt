@@ -73,7 +73,7 @@ fn tried(
     place: usize,
     includes: &[u8],
 ) -> Result<Bytes, AllocError> {
-    let Some(found) = form.tries.get(alloc, place)? else {
+    let Some(found) = form.try_at(alloc, place)? else {
         return Ok(Bytes::new(alloc));
     };
     match &found.snippet {
