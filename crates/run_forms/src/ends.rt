@@ -8,16 +8,17 @@ ghost use Rattle.run_forms.specs.Ends.{form_ended, heard_end, known};
 use crate::course::FormCourse;
 use crate::loan::Loan;
 use crate::values::use_value;
+use deftable::Stream;
 use run_state::Store;
-use run_state::pieces::{begin_check, break_test, end_check, end_known_check};
+use run_state::pieces::{break_test, end_check, end_known_check};
 use std::alloc::{AllocError, Global};
 
 /// Prints what a test checks.
 pub fn begin_form(alloc: Global, store: &mut Store, course: &FormCourse) -> Result<(), AllocError>
     ensures { OnOk result (store.new ≡ checking course.now.form.message store.old) }
 {
-    let message = course.form.message(alloc)?;
-    begin_check(alloc, store, message.as_slice())
+    let piece = course.form.message_between(alloc, b"checking ", b"... ")?;
+    store.put_piece(alloc, Stream::Out, piece)
 }
 
 /// Ends a test with a value: its name gets the value, the value is printed, and what is done with

@@ -24,9 +24,9 @@ pub struct Opening {
 fn form_name(alloc: Global, form: &TestForm) -> Result<Bytes, AllocError>
     ensures { IfOk result (λ n. n ≡ form_name form.now) }
 {
-    let key = form.key(alloc)?;
-    let part = sh_name(alloc, key.as_slice())?;
-    Bytes::concat(alloc, &[b"ac_cv_", part.as_slice()])
+    let text = form.key_after(alloc, b"ac_cv_")?;
+    let name = sh_name(alloc, text.as_slice())?;
+    Ok(Bytes::from_vec(name))
 }
 
 /// Returns the value of a text, if there is one.

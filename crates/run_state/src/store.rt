@@ -75,7 +75,13 @@ impl Store {
         &self.defs
     }
 
-    fn put_piece(&mut self, alloc: Global, stream: Stream, text: Bytes) -> Result<(), AllocError>
+    /// Adds a piece to the messages, and to the log.
+    pub fn put_piece(
+        &mut self,
+        alloc: Global,
+        stream: Stream,
+        text: Bytes,
+    ) -> Result<(), AllocError>
         ensures { OnOk result (self.new ≡ with_note stream text self.old) }
     {
         let copy = text.copy(alloc)?;

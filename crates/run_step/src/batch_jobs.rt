@@ -61,7 +61,7 @@ pub(crate) fn waiting_for(
 ) -> Result<Vec<Waiting>, AllocError>
     ensures { IfOk result (λ v. v.items ≡ waiting_for [] (forms_in listed entries.now) store.now) }
 {
-    let mut all = Vec::new(alloc);
+    let mut all = Vec::with_capacity(alloc, entries.len())?;
     for i in 0..entries.len() {
         let test = entry_course(alloc, listed, &entries[i])?;
         let asks = !is_known(store, all.as_slice(), test.name.as_slice());

@@ -1,6 +1,6 @@
 //! The form of each macro's test.
 
-ghost use Rattle.std.specs.Prelude.{◌≡◌, ◌∷◌, ◌+◌, ◌<◌, ◌^◌, [], IfOk, IfSome, codes, map, slice_get, true};
+ghost use Rattle.std.specs.Prelude.{◌≡◌, ◌∷◌, ◌++◌, ◌+◌, ◌<◌, ◌^◌, [], IfOk, IfSome, codes, map, slice_get, true};
 ghost use Rattle.test_forms.specs.Macros.{declared_try, declaration_form, form_of, function_form, header_form, library_form, search_form, search_tries, sized_try, type_form, type_tries};
 ghost use Rattle.test_forms.specs.Tries.{linked_try};
 ghost use Rattle.test_forms.specs.declared.form.Snippet.TheVariants.{Library};
@@ -237,6 +237,34 @@ fn only_at(found: TryForm, place: usize) -> Option<TryForm>
     if place == 0 { Some(found) } else { None }
 }
 
+/// Returns a text and an entry between two others.
+fn entry_between(
+    alloc: Global,
+    before: &[u8],
+    text: &[u8],
+    entry: &[u8],
+    after: &[u8],
+) -> Result<Bytes, AllocError>
+    ensures { IfOk result (λ t. t ≡ before.now ++ (text.now ++ entry.now) ++ after.now) }
+{
+    Bytes::concat(alloc, &[before, text, entry, after])
+}
+
+/// Returns an entry and the texts around it between two others.
+fn framed_between(
+    alloc: Global,
+    before: &[u8],
+    first: &[u8],
+    entry: &[u8],
+    last: &[u8],
+    after: &[u8],
+) -> Result<Bytes, AllocError>
+    ensures { IfOk result (λ t.
+        t ≡ before.now ++ (first.now ++ entry.now ++ last.now) ++ after.now) }
+{
+    Bytes::concat(alloc, &[before, first, entry, last, after])
+}
+
 impl TestForm {
     /// Returns what is looked for.
     pub fn entry(&self) -> &[u8]
@@ -245,40 +273,46 @@ impl TestForm {
         self.entry.as_slice()
     }
 
-    /// Returns what the cached name has after `ac_cv_`, with any bytes.
-    pub fn key(&self, alloc: Global) -> Result<Bytes, AllocError>
-        ensures { IfOk result (λ k. k ≡ self.now.key) }
+    /// Returns the key, after this text: what the cached name has after `ac_cv_`, with any bytes.
+    pub fn key_after(&self, alloc: Global, before: &[u8]) -> Result<Bytes, AllocError>
+        ensures { IfOk result (λ k. k ≡ before.now ++ self.now.key) }
     {
         let entry = self.entry.as_slice();
         match &self.kind {
-            FormKind::Header => Bytes::concat(alloc, &[b"header_", entry]),
-            FormKind::Function => Bytes::concat(alloc, &[b"func_", entry]),
-            FormKind::Declaration => Bytes::concat(alloc, &[b"have_decl_", entry]),
-            FormKind::Type => Bytes::concat(alloc, &[b"type_", entry]),
+            FormKind::Header => Bytes::concat(alloc, &[before, b"header_", entry]),
+            FormKind::Function => Bytes::concat(alloc, &[before, b"func_", entry]),
+            FormKind::Declaration => Bytes::concat(alloc, &[before, b"have_decl_", entry]),
+            FormKind::Type => Bytes::concat(alloc, &[before, b"type_", entry]),
             FormKind::Library { library } => {
-                Bytes::concat(alloc, &[b"lib_", library.as_slice(), b"_", entry])
+                Bytes::concat(alloc, &[before, b"lib_", library.as_slice(), b"_", entry])
             }
-            FormKind::Search { .. } => Bytes::concat(alloc, &[b"search_", entry]),
+            FormKind::Search { .. } => Bytes::concat(alloc, &[before, b"search_", entry]),
         }
     }
 
-    /// Returns what is printed after `checking `.
-    pub fn message(&self, alloc: Global) -> Result<Bytes, AllocError>
-        ensures { IfOk result (λ m. m ≡ self.now.message) }
+    /// Returns the message between these texts: what is printed after `checking `.
+    pub fn message_between(
+        &self,
+        alloc: Global,
+        before: &[u8],
+        after: &[u8],
+    ) -> Result<Bytes, AllocError>
+        ensures { IfOk result (λ m. m ≡ before.now ++ self.now.message ++ after.now) }
     {
         let entry = self.entry.as_slice();
         match &self.kind {
             FormKind::Header | FormKind::Function | FormKind::Type => {
-                Bytes::concat(alloc, &[b"for ", entry])
+                entry_between(alloc, before, b"for ", entry, after)
             }
             FormKind::Declaration => {
-                Bytes::concat(alloc, &[b"whether ", entry, b" is declared"])
+                framed_between(alloc, before, b"whether ", entry, b" is declared", after)
             }
             FormKind::Library { library } => {
-                Bytes::concat(alloc, &[b"for ", entry, b" in -l", library.as_slice()])
+                let library = library.as_slice();
+                Bytes::concat(alloc, &[before, b"for ", entry, b" in -l", library, after])
             }
             FormKind::Search { .. } => {
-                Bytes::concat(alloc, &[b"for library containing ", entry])
+                entry_between(alloc, before, b"for library containing ", entry, after)
             }
         }
     }
