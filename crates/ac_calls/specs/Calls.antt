@@ -14,18 +14,19 @@ use Rattle.ac_macros.specs.Arguments.{holds_statements}
 
 -- ---- a call
 
--- A call: the offset of its name, those after its name and after the call, its arguments, and whether the table of macros has its
--- name.
+-- A call: the offset of its name, those after its name and after the call, its arguments, whether the table of macros has its name, and
+-- the row that it has there.
 pub record MacroCall : Type 0 where
   pub start : ℕ
   pub name_end : ℕ
   pub end : ℕ
   pub args : List Extent
   pub is_of_profile : Bool
+  pub row : Option Row
 
 -- The pure value of a call.
 abbrev pub macro_call_of : CallAt → MacroCall
-macro_call_of c = record { start = c.start; name_end = c.name_end; end = c.end; args = c.args.items; is_of_profile = c.is_of_profile }
+macro_call_of c = record { start = c.start; name_end = c.name_end; end = c.end; args = c.args.items; is_of_profile = c.is_of_profile; row = c.row }
 
 -- Where an argument is.
 abbrev pub extent_of : Span → Extent
@@ -44,6 +45,7 @@ call_at name args at = record {
   end = end_after (at + length name) (map extent_of args);
   args = map extent_of args;
   is_of_profile = is_some (row_named name);
+  row = row_named name;
 }
 
 -- Each offset of the call is a number of the machine.

@@ -1,11 +1,11 @@
 //! A call, by its offsets in the text.
 
-ghost use Rattle.std.specs.Prelude.{◌≡◌, ◌+◌, ◌<◌, ◌≤◌, ◌^◌, length, map, IfOk, is_some};
+ghost use Rattle.std.specs.Prelude.{◌≡◌, ◌+◌, ◌<◌, ◌≤◌, ◌^◌, length, map, IfOk};
 ghost use Rattle.m4quote.specs.ItemValue.{span};
 ghost use Rattle.ac_macros.specs.Table.{row_named};
 ghost use Rattle.ac_calls.specs.Calls as specs;
 
-use ac_macros::table::row_named;
+use ac_macros::Row;
 use m4quote::Arg;
 use std::alloc::{AllocError, Global};
 
@@ -32,6 +32,8 @@ pub struct CallAt {
     pub args: Vec<Extent>,
     /// Whether the table of macros has the name.
     pub is_of_profile: bool,
+    /// The name's row in the table of macros, if it has one.
+    pub row: Option<Row>,
 }
 
 /// Returns where an argument is.
@@ -66,14 +68,16 @@ fn end_after(name_end: usize, args: &[Extent]) -> usize
     }
 }
 
-/// Returns a call of a macro with this name at offset `at`.
+/// Returns a call of a macro with this name, which has this row, at offset `at`.
 pub(crate) fn call_at(
     alloc: Global,
     name: &[u8],
+    row: Option<Row>,
     args: &[Arg<'_>],
     at: usize,
 ) -> Result<CallAt, AllocError>
-    requires { specs.IsPlaced name.now (map span args.now) at }
+    requires placed { specs.IsPlaced name.now (map span args.now) at }
+    requires row { row ≡ row_named name.now }
     ensures { IfOk result (λ c.
         specs.macro_call_of c ≡ specs.call_at name.now (map span args.now) at) }
 {
@@ -84,6 +88,7 @@ pub(crate) fn call_at(
         name_end,
         end: end_after(name_end, &extents),
         args: extents,
-        is_of_profile: row_named(name).is_some(),
+        is_of_profile: row.is_some(),
+        row,
     })
 }

@@ -153,9 +153,10 @@ fn find_in_call(
         ∷ specs.in_macro (specs.in_argument room) (row_named name.now)
         (map span args.now)) }
 {
-    let call = call_at(alloc, name, args, at)?;
+    let row = row_named(name);
+    let call = call_at(alloc, name, row, args, at)?;
     out.push(call)?;
-    find_in_macro(alloc, room, row_named(name), args, out)
+    find_in_macro(alloc, room, row, args, out)
 }
 
 /// Appends the calls of an item.

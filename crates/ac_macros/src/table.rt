@@ -1,6 +1,6 @@
 //! The table of macros: a row for each name.
 
-ghost use Rattle.std.specs.Prelude.{◌≡◌, map, length, IfOk};
+ghost use Rattle.std.specs.Prelude.{◌≡◌, bytes_eq, map, length, IfOk};
 ghost use Rattle.m4quote.specs.ItemValue.{span};
 ghost use Rattle.ac_macros.specs.Table as table;
 
@@ -91,13 +91,20 @@ pub fn rows() -> &'static [(&'static [u8], Named, usize, bool)]
     &TABLE
 }
 
+/// Returns whether two names are equal. Most are of different lengths, which is cheap to see.
+fn is_same(known: &[u8], name: &[u8]) -> bool
+    ensures { result ≡ bytes_eq known.now name.now }
+{
+    known.len() == name.len() && known == name
+}
+
 /// Returns the first row of the name.
 fn find(rows: &[(&[u8], Named, usize, bool)], name: &[u8]) -> Option<Row>
     ensures { result
         ≡ table.row_among name.now (map (λ e. (e.0.now, e.1, e.2, e.3)) rows.now) }
 {
     for row in rows {
-        if row.0 == name {
+        if is_same(row.0, name) {
             return Some(Row {
                 named: row.1,
                 least: row.2,

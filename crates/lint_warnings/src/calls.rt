@@ -56,6 +56,18 @@ fn is_held(row: &Row, written: &[u8]) -> bool {
     !is_quoted && (holds(written, row.2) || holds(written, row.3))
 }
 
+/// Warns if an argument of a call holds what a row of its macro says.
+fn warn_of_row(
+    alloc: Global,
+    call: NamedCall<'_>,
+    row: &Row,
+    out: &mut Vec<Finding>,
+) -> Result<(), AllocError> {
+    let argument = call.at.args.get(row.1).copied();
+    let is_wrong = is_held(row, text_at(call.text, argument));
+    warn_if(alloc, call.text, argument, is_wrong, row.5, out)
+}
+
 /// Warns if an argument of a call holds what one of the rows says.
 fn warn_of_rows(
     alloc: Global,
@@ -64,9 +76,9 @@ fn warn_of_rows(
     out: &mut Vec<Finding>,
 ) -> Result<(), AllocError> {
     for row in rows {
-        let argument = call.argument_at(&(row.0, row.1));
-        let is_wrong = argument.is_some() && is_held(row, text_at(call.text, argument));
-        warn_if(alloc, call.text, argument, is_wrong, row.5, out)?;
+        if call.is_of(row.0) {
+            warn_of_row(alloc, call, row, out)?;
+        }
     }
     Ok(())
 }

@@ -2,7 +2,6 @@
 
 use crate::rows::ArgumentPlace;
 use ac_calls::{CallAt, Extent};
-use ac_macros::table::row_named;
 use ac_macros::{ArgumentKind, Row, argument_kind};
 use lint_findings::{Finding, Span};
 use lint_table::{Key, warn_by_key};
@@ -73,11 +72,10 @@ pub(crate) struct NamedCall<'a> {
 impl<'a> NamedCall<'a> {
     /// Returns a call with its name.
     pub(crate) fn new(text: &'a [u8], call: &'a CallAt) -> NamedCall<'a> {
-        let name = name_of(text, call);
         NamedCall {
             text,
-            name,
-            row: row_named(name),
+            name: name_of(text, call),
+            row: call.row,
             at: call,
         }
     }
@@ -103,7 +101,7 @@ impl<'a> NamedCall<'a> {
     }
 
     /// Returns whether it is a call of the macro with this name.
-    fn is_of(self, name: &[u8]) -> bool {
+    pub(crate) fn is_of(self, name: &[u8]) -> bool {
         name.len() == self.name.len() && name == self.name
     }
 
