@@ -95,7 +95,7 @@ impl<L: Launcher + Drop> Children<L> {
     /// Returns the place of the first child that has ended, in the order in which they were
     /// started, or 0 if none has.
     ///
-    /// It looks once at each child, and waits for none.
+    /// It looks once at each child, unless there is one alone, and waits for none.
     pub(crate) fn place_of_ended(&mut self) -> usize
         requires { IsSomeBusy self.old.account.events }
         ensures within { result < length (slots_in_flight self.new.account.events) }
@@ -203,13 +203,17 @@ impl<L: Launcher + Drop> Crew for Children<L> {
     }
 }
 
-/// Returns the place of the first child that has ended, or 0 if none has.
+/// Returns the place of the first child that has ended, or 0 if none has. If there is one child
+/// alone, its place is 0 either way, and the system isn't asked.
 fn place_of_ended<P: OpenProcess + Drop>(table: &mut SlotTable<P>, slots: &VecDeque<usize>) -> usize
     requires not_empty { 0 < length slots.now.items }
     requires within { All (λ s. s < 16) slots.now.items }
     ensures within { result < length slots.now.items }
     ensures kept { table.new ≡ table.old }
 {
+    if slots.len() == 1 {
+        return 0;
+    }
     for place in 0..slots.len() {
         if table.has_ended(slots[place]) {
             return place;
