@@ -1,1 +1,3 @@
 mod Plain
+mod ShownLine
+mod Joined

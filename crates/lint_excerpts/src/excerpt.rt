@@ -1,6 +1,7 @@
 //! A finding with the line that it is in.
 
 ghost use Rattle.std.specs.Prelude.{◌≡◌, IfOk};
+ghost use Rattle.lint_excerpts.specs.Json.{word_of};
 ghost use Rattle.lint_excerpts.specs.Plain.{IsSafe};
 
 use crate::draft::Draft;
@@ -49,7 +50,10 @@ impl Colours {
 }
 
 /// Returns how a finding is called.
-pub(crate) fn word_of(severity: Severity) -> &'static [u8] {
+#[tactic(auto, unfolding(crate::specs::Json::word_of))]
+pub(crate) fn word_of(severity: Severity) -> &'static [u8]
+    ensures { result.now ≡ word_of severity }
+{
     match severity {
         Severity::Error => b"error".as_slice(),
         Severity::Warning => b"warning".as_slice(),

@@ -15,11 +15,12 @@
 //! ```
 //!
 //! A call fails only if memory runs out. It is proved that what is shown without colours has no
-//! control byte but tabs and newlines, so that no source can drive a terminal by it. What is shown
-//! is tested.
+//! control byte but tabs and newlines, so that no source can drive a terminal by it; and that a
+//! finding as JSON is the object that `specs/Json` says, if all of it is printable ASCII. What is
+//! shown besides is tested.
 //!
-//! Read `specs/Plain` and `draft`, on which texts are written, then `marked`, which shows a line and marks a part of
-//! it, and `excerpt` and `json`.
+//! Read `specs/Plain` and `draft`, on which texts are written, then `marked`, which shows a line
+//! and marks a part of it, `excerpt`, and `specs/Json` and `json`.
 #![tactic(auto)]
 
 mod draft;
