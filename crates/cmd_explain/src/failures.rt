@@ -11,7 +11,7 @@ use std::io::Write;
 
 /// What a compiler is called for.
 #[derive(Clone, Copy, PartialEq, Eq)]
-enum Kind {
+enum CallKind {
     Compile,
     Link,
     Preprocess,
@@ -56,15 +56,15 @@ fn has_pair(words: &[Bytes], first: &[u8], second: &[u8]) -> bool {
 }
 
 /// Returns what a compiler is called for, by its words and the name of its conftest.
-fn kind_of(words: &[Bytes], conftest: &[u8]) -> Kind {
+fn kind_of(words: &[Bytes], conftest: &[u8]) -> CallKind {
     let program = conftest.strip_suffix(b".c").unwrap_or(conftest);
     if has_pair(words, b"-o", program) {
-        return Kind::Link;
+        return CallKind::Link;
     }
     if words.iter().any(|word| word.as_slice() == b"-c".as_slice()) {
-        return Kind::Compile;
+        return CallKind::Compile;
     }
-    Kind::Preprocess
+    CallKind::Preprocess
 }
 
 /// Returns the exit status of an entry of a log that is an answer to a conftest.
@@ -79,7 +79,7 @@ fn answer_of(entry: &Entry) -> Option<u32> {
 }
 
 /// Returns whether an entry of a log is an answer to a conftest of this kind.
-fn is_of(entry: &Entry, kind: Kind) -> bool {
+fn is_of(entry: &Entry, kind: CallKind) -> bool {
     match (words_in(entry), conftest_in(entry)) {
         (Some(words), Some(conftest)) => {
             answer_of(entry).is_some() && kind_of(words, conftest) == kind
@@ -89,7 +89,7 @@ fn is_of(entry: &Entry, kind: Kind) -> bool {
 }
 
 /// Returns the count of a kind in a log.
-fn count_of(log: &[Entry], kind: Kind) -> Count {
+fn count_of(log: &[Entry], kind: CallKind) -> Count {
     let mut answered = 0usize;
     let mut passed = 0usize;
     for entry in log {
@@ -106,14 +106,14 @@ fn count_of(log: &[Entry], kind: Kind) -> Count {
 /// Returns the counts of a log.
 fn counts_of(log: &[Entry]) -> Counts {
     Counts {
-        compiles: count_of(log, Kind::Compile),
-        links: count_of(log, Kind::Link),
-        preprocesses: count_of(log, Kind::Preprocess),
+        compiles: count_of(log, CallKind::Compile),
+        links: count_of(log, CallKind::Link),
+        preprocesses: count_of(log, CallKind::Preprocess),
     }
 }
 
 /// Returns the place in a log of the first answer to a conftest of this kind, or of any kind.
-fn first_of(log: &[Entry], kind: Option<Kind>) -> Option<usize> {
+fn first_of(log: &[Entry], kind: Option<CallKind>) -> Option<usize> {
     for i in 0..log.len() {
         let is_first = match kind {
             Some(kind) => is_of(&log[i], kind),
@@ -287,14 +287,14 @@ fn none_words(alloc: Global, log: &[Entry], counts: &Counts) -> Result<Vec<u8>, 
 fn half_words(
     alloc: Global,
     log: &[Entry],
-    failed: Kind,
+    failed: CallKind,
     counts: (Count, Count),
     question: &[u8],
 ) -> Result<Vec<u8>, AllocError> {
     let (none, some) = counts;
     let (all, passed, others) = (none.answered, some.passed, some.answered);
     let front = match failed {
-        Kind::Link => format!(in alloc;
+        CallKind::Link => format!(in alloc;
             "none of {all} links passed, and {passed} of {others} compiles did: "
         )?,
         _ => format!(in alloc;
@@ -323,12 +323,12 @@ fn failure_words(
     }
     if links.answered >= MANY && links.passed == 0 && compiles.passed > 0 {
         let question = b"is LDFLAGS or LIBS wrong?";
-        let words = half_words(alloc, log, Kind::Link, (links, compiles), question)?;
+        let words = half_words(alloc, log, CallKind::Link, (links, compiles), question)?;
         return Ok(Some(words));
     }
     if compiles.answered >= MANY && compiles.passed == 0 && links.passed > 0 {
         let question = b"is CPPFLAGS wrong, or are the system's headers missing?";
-        let words = half_words(alloc, log, Kind::Compile, (compiles, links), question)?;
+        let words = half_words(alloc, log, CallKind::Compile, (compiles, links), question)?;
         return Ok(Some(words));
     }
     Ok(None)

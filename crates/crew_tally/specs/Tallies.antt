@@ -1,7 +1,7 @@
 -- How many checks a text has, counted byte by byte.
 use Rattle.std.specs.Prelude.{ℕ, ◌+◌, ◌-◌, ◌^◌, min, nat_lt, ◌==◌, Bool, false, List, fold, codes, slice_get, Option, Some, None, if◌then◌else◌}
-use Rattle.crew_tally.specs.declared.tally.Place.{Place}
-use Rattle.crew_tally.specs.declared.tally.Place.TheVariants.{Front, Check, Other}
+use Rattle.crew_tally.specs.declared.tally.LinePlace.{LinePlace}
+use Rattle.crew_tally.specs.declared.tally.LinePlace.TheVariants.{Front, Check, Other}
 use Rattle.crew_tally.specs.declared.tally.Tally.{Tally}
 
 -- The tally of an empty text. (own)
@@ -45,7 +45,7 @@ after_marked count t =
     else record t { cached = one_more t.cached; place = Other }
 
 -- The tally after a byte that ends no line, by the place. (own)
-abbrev pub after_inside : Place → ℕ → Tally → Tally
+abbrev pub after_inside : LinePlace → ℕ → Tally → Tally
 after_inside (Front count) byte t = after_front count byte t
 after_inside (Check count) byte t = after_marked (matched (codes "(cached) ") count byte) t
 after_inside Other byte t = t

@@ -11,7 +11,7 @@ const MARK: &[u8] = b"(cached) ";
 
 /// Where a text is in its last line.
 #[derive(Clone, Copy)]
-enum Place {
+enum LinePlace {
     /// So many bytes of the front of a line of a check.
     Front(usize),
     /// In a line of a check, after so many bytes of the mark.
@@ -25,7 +25,7 @@ enum Place {
 pub struct Tally {
     checks: u64,
     cached: u64,
-    place: Place,
+    place: LinePlace,
 }
 
 /// Returns whether a word has this byte after so many others.
@@ -58,7 +58,7 @@ impl Tally {
         Tally {
             checks: 0,
             cached: 0,
-            place: Place::Front(0),
+            place: LinePlace::Front(0),
         }
     }
 
@@ -82,15 +82,15 @@ impl Tally {
         ensures { self.new ≡ specs.after_front count byte self.old }
     {
         if !has_at(FRONT, count, byte) {
-            self.place = Place::Other;
+            self.place = LinePlace::Other;
             return;
         }
         if count + 1 < FRONT.len() {
-            self.place = Place::Front(count + 1);
+            self.place = LinePlace::Front(count + 1);
             return;
         }
         self.checks = self.checks.saturating_add(1);
-        self.place = Place::Check(0);
+        self.place = LinePlace::Check(0);
     }
 
     /// Counts a byte of a line of a check, after so many bytes of the mark.
@@ -100,11 +100,11 @@ impl Tally {
     {
         let count = matched(MARK, count, byte);
         if count < MARK.len() {
-            self.place = Place::Check(count);
+            self.place = LinePlace::Check(count);
             return;
         }
         self.cached = self.cached.saturating_add(1);
-        self.place = Place::Other;
+        self.place = LinePlace::Other;
     }
 
     /// Counts one more byte.
@@ -113,13 +113,13 @@ impl Tally {
         ensures { self.new ≡ specs.after_byte self.old byte }
     {
         if byte == b'\n' {
-            self.place = Place::Front(0);
+            self.place = LinePlace::Front(0);
             return;
         }
         match self.place {
-            Place::Front(count) => self.add_front(count, byte),
-            Place::Check(count) => self.add_rest(count, byte),
-            Place::Other => {}
+            LinePlace::Front(count) => self.add_front(count, byte),
+            LinePlace::Check(count) => self.add_rest(count, byte),
+            LinePlace::Other => {}
         }
     }
 

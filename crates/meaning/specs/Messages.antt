@@ -7,14 +7,14 @@ use Rattle.ac_tree.specs.declared.statement.Message.TheVariants.{Checking, Resul
 use Rattle.meaning.specs.State.{State, with_note}
 
 -- The stream to which a message is printed, and the texts before and after its own.
-pub record Form : Type 0 where
+pub record MessageForm : Type 0 where
   pub stream : Stream
   pub before : List ℕ
   pub after : List ℕ
 
 -- The form of each message: what is checked, and the results of a check; a notice; and a warning and an error, on standard
 -- error. (Autoconf's manual, "Printing Messages")
-abbrev pub form_of : Message → Form
+abbrev pub form_of : Message → MessageForm
 form_of Checking = record { stream = Out; before = codes "checking "; after = codes "... " }
 form_of Results = record { stream = Out; before = []; after = codes "\n" }
 form_of Notice = record { stream = Out; before = codes "configure: "; after = codes "\n" }

@@ -25,53 +25,53 @@ use Rattle.options_line.specs.declared.argument.Switch.TheVariants.{Quiet, NoCre
 use Rattle.options_line.specs.declared.directory.Directory.{Directory}
 use Rattle.options_line.specs.declared.fault.OptionFault.{OptionFault}
 use Rattle.options_line.specs.declared.fault.OptionFault.TheVariants.{MissingValue}
-use Rattle.options.specs.declared.reader.Reader.{Reader}
+use Rattle.options.specs.declared.reader.ReadArguments.{ReadArguments}
 use Rattle.options.specs.declared.settings.Settings.{Settings}
 
 -- ---- how a setting changes a reader
 
-abbrev after : List (List ℕ) → List (List ℕ) → Setting → Reader → Reader
+abbrev after : List (List ℕ) → List (List ℕ) → Setting → ReadArguments → ReadArguments
 after features packages (Variable name value) r = record r { vars = with_entry r.vars name value }
 after features packages (Choice i kind name value option) r = with_choice features packages i kind name value option r
 after features packages (Cache name) r = record r { cache_name = cache_named name }
 after features packages (SourceDirectory directory) r = r
 after features packages (Switched switch) r = with_switch switch r
 
-unfoldable after_all : List (List ℕ) → List (List ℕ) → List Setting → Reader → Reader
+unfoldable after_all : List (List ℕ) → List (List ℕ) → List Setting → ReadArguments → ReadArguments
 after_all features packages [] r = r
 after_all features packages (setting ∷ more) r = after_all features packages more (after features packages setting r)
 
-value_after : (features packages : List (List ℕ)) (target : Target) (value : List ℕ) (r : Reader) → with_value target value r ≡ after features packages (valued target value) r
+value_after : (features packages : List (List ℕ)) (target : Target) (value : List ℕ) (r : ReadArguments) → with_value target value r ≡ after features packages (valued target value) r
 value_after features packages (InstallDirectory directory) value r = refl
 value_after features packages Srcdir value r = refl
 value_after features packages CacheFile value r = refl
 
-said_after : (features packages : List (List ℕ)) (i : ℕ) (said : Argument) (r : Reader) → awaited_by said ≡ None
+said_after : (features packages : List (List ℕ)) (i : ℕ) (said : Argument) (r : ReadArguments) → awaited_by said ≡ None
     → with_said features packages i said r ≡ (alone i said >>= λ setting. Ok (after features packages setting r))
 said_after features packages i (OptionValue target value) r e = ap (λ next. Ok next) (value_after features packages target value r)
 said_after features packages i (OptionName target) r e = absurd (cc)
 said_after features packages i other r e = refl
 
-awaits_is : (features packages : List (List ℕ)) (i : ℕ) (said : Argument) (target : Target) (r : Reader) → awaited_by said ≡ Some target
+awaits_is : (features packages : List (List ℕ)) (i : ℕ) (said : Argument) (target : Target) (r : ReadArguments) → awaited_by said ≡ Some target
     → with_said features packages i said r ≡ Ok (record r { awaited = Some target })
 awaits_is features packages i (OptionName target) t r e = ap (λ a. Ok (record r { awaited = a })) e
 awaits_is features packages i other t r e = absurd (cc)
 
 -- No option needs a value.
-abbrev idle : Reader → Reader
+abbrev idle : ReadArguments → ReadArguments
 idle r = record r { awaited = None }
 
-idle_is : (r : Reader) → r.awaited ≡ None → idle r ≡ r
+idle_is : (r : ReadArguments) → r.awaited ≡ None → idle r ≡ r
 idle_is r e = ap (λ a. record r { awaited = a }) (sym e)
 
-awaits_still : (setting : Setting) (features packages : List (List ℕ)) (r : Reader) → (after features packages setting r).awaited ≡ r.awaited
+awaits_still : (setting : Setting) (features packages : List (List ℕ)) (r : ReadArguments) → (after features packages setting r).awaited ≡ r.awaited
 unfolding with_choice
 awaits_still (Switched Ignored) features packages r = refl
 awaits_still other features packages r = refl
 
 -- ---- the steps, and what the arguments give
 
-joined : (features packages : List (List ℕ)) (first : Setting) (r : Reader) (rest : Result (List Setting) OptionFault)
+joined : (features packages : List (List ℕ)) (first : Setting) (r : ReadArguments) (rest : Result (List Setting) OptionFault)
     → (rest >>= λ settings. Ok (after_all features packages settings (after features packages first r)))
     ≡ (and_then (Ok first) rest >>= λ settings. Ok (after_all features packages settings r))
 unfolding after_all
@@ -80,10 +80,10 @@ joined features packages first r (Err fault) = refl
 
 -- What is read after an argument.
 abbrev Step : List (List ℕ) → List (List ℕ) → List (List ℕ) → Type 0
-Step features packages more = (awaited : Option Target) (i : ℕ) (r : Reader) → r.awaited ≡ awaited
+Step features packages more = (awaited : Option Target) (i : ℕ) (r : ReadArguments) → r.awaited ≡ awaited
     → with_arguments features packages i r more ≡ (settings_from awaited i more >>= λ settings. Ok (after_all features packages settings (idle r)))
 
-after_setting : (features packages more : List (List ℕ)) (i : ℕ) (setting : Setting) (r : Reader) → r.awaited ≡ None → Step features packages more
+after_setting : (features packages more : List (List ℕ)) (i : ℕ) (setting : Setting) (r : ReadArguments) → r.awaited ≡ None → Step features packages more
     → with_arguments features packages i (after features packages setting r) more
     ≡ (and_then (Ok setting) (settings_from None i more) >>= λ settings. Ok (after_all features packages settings r))
 after_setting features packages more i setting r e step =
@@ -95,26 +95,26 @@ after_setting features packages more i setting r e step =
 end_steps : (features packages : List (List ℕ)) → Step features packages []
 unfolding with_arguments at_end settings_from after_all
 end_steps features packages None i r e =
-    ap (λ a. elim a as (λ a. Result Reader OptionFault) [ Some target ↦ Err (MissingValue i) | None ↦ Ok r ]) e ∙ ap (λ q. Ok q) (sym (idle_is r e))
+    ap (λ a. elim a as (λ a. Result ReadArguments OptionFault) [ Some target ↦ Err (MissingValue i) | None ↦ Ok r ]) e ∙ ap (λ q. Ok q) (sym (idle_is r e))
 end_steps features packages (Some target) i r e =
-    ap (λ a. elim a as (λ a. Result Reader OptionFault) [ Some target ↦ Err (MissingValue i) | None ↦ Ok r ]) e
+    ap (λ a. elim a as (λ a. Result ReadArguments OptionFault) [ Some target ↦ Err (MissingValue i) | None ↦ Ok r ]) e
 
-value_steps : (features packages : List (List ℕ)) (target : Target) (value : List ℕ) (more : List (List ℕ)) (i : ℕ) (r : Reader) → r.awaited ≡ Some target
+value_steps : (features packages : List (List ℕ)) (target : Target) (value : List ℕ) (more : List (List ℕ)) (i : ℕ) (r : ReadArguments) → r.awaited ≡ Some target
     → Step features packages more → with_arguments features packages i r (value ∷ more)
     ≡ (settings_from (Some target) i (value ∷ more) >>= λ settings. Ok (after_all features packages settings (idle r)))
 unfolding with_arguments with_argument settings_from
 value_steps features packages target value more i r e step =
-    ap (λ a. (elim a as (λ a. Result Reader OptionFault) [ Some t ↦ Ok (with_value t value (idle r)) | None ↦ with_said features packages (i + 1) (read_argument value) r ])
+    ap (λ a. (elim a as (λ a. Result ReadArguments OptionFault) [ Some t ↦ Ok (with_value t value (idle r)) | None ↦ with_said features packages (i + 1) (read_argument value) r ])
     >>= λ next. with_arguments features packages (i + 1) next more) e
     ∙ ap (λ next. with_arguments features packages (i + 1) next more) (value_after features packages target value (idle r))
     ∙ after_setting features packages more (i + 1) (valued target value) (idle r) refl step
 
 -- An argument that isn't the value of an option.
-word_steps : (features packages : List (List ℕ)) (word : List ℕ) (more : List (List ℕ)) (i : ℕ) (r : Reader) → r.awaited ≡ None → Step features packages more
+word_steps : (features packages : List (List ℕ)) (word : List ℕ) (more : List (List ℕ)) (i : ℕ) (r : ReadArguments) → r.awaited ≡ None → Step features packages more
     → with_arguments features packages i r (word ∷ more) ≡ (settings_from None i (word ∷ more) >>= λ settings. Ok (after_all features packages settings (idle r)))
 unfolding with_arguments with_argument settings_from
 word_steps features packages word more i r e step =
-    ap (λ a. (elim a as (λ a. Result Reader OptionFault) [ Some t ↦ Ok (with_value t word (idle r)) | None ↦ with_said features packages (i + 1) (read_argument word) r ])
+    ap (λ a. (elim a as (λ a. Result ReadArguments OptionFault) [ Some t ↦ Ok (with_value t word (idle r)) | None ↦ with_said features packages (i + 1) (read_argument word) r ])
     >>= λ next. with_arguments features packages (i + 1) next more) e
     ∙ at (awaited_by (read_argument word)) refl where
       alone_at : (first : Result Setting OptionFault) → ((first >>= λ setting. Ok (after features packages setting r)) >>= λ next. with_arguments features packages (i + 1) next more)
@@ -141,20 +141,20 @@ steps : (features packages arguments : List (List ℕ)) → Step features packag
 steps features packages [] = end_steps features packages
 steps features packages (word ∷ more) =
     λ awaited i r e. at awaited i r e (steps features packages more) where
-      at : (awaited : Option Target) (i : ℕ) (r : Reader) → r.awaited ≡ awaited → Step features packages more
+      at : (awaited : Option Target) (i : ℕ) (r : ReadArguments) → r.awaited ≡ awaited → Step features packages more
           → with_arguments features packages i r (word ∷ more) ≡ (settings_from awaited i (word ∷ more) >>= λ settings. Ok (after_all features packages settings (idle r)))
       at None i r e step = word_steps features packages word more i r e step
       at (Some target) i r e step = value_steps features packages target word more i r e step
 
 -- ---- how all settings change a reader
 
-choice_unrecognized : (t : Bool) (i : ℕ) (option : List ℕ) (r : Reader) (rest : List (ℕ × List ℕ))
+choice_unrecognized : (t : Bool) (i : ℕ) (option : List ℕ) (r : ReadArguments) (rest : List (ℕ × List ℕ))
     → (if t then r.unrecognized else r.unrecognized ++ (i, option) ∷ []) ++ rest ≡ r.unrecognized ++ ((if t then [] else (i, option) ∷ []) ++ rest)
 choice_unrecognized true i option r rest = refl
 choice_unrecognized false i option r rest = append_assoc r.unrecognized ((i, option) ∷ []) rest
 
 -- The reader with what all these settings say.
-unfoldable with_settings : List (List ℕ) → List (List ℕ) → List Setting → Reader → Reader
+unfoldable with_settings : List (List ℕ) → List (List ℕ) → List Setting → ReadArguments → ReadArguments
 with_settings features packages settings r = record r {
   vars = fold with_variable r.vars (flat_map variables_in settings);
   cache_name = last_of r.cache_name (flat_map caches_in settings);
@@ -165,7 +165,7 @@ with_settings features packages settings r = record r {
   unrecognized = r.unrecognized ++ flat_map (undeclared_in features packages) settings;
 }
 
-one_more : (setting : Setting) (more : List Setting) (features packages : List (List ℕ)) (r : Reader)
+one_more : (setting : Setting) (more : List Setting) (features packages : List (List ℕ)) (r : ReadArguments)
     → with_settings features packages more (after features packages setting r) ≡ with_settings features packages (setting ∷ more) r
 unfolding with_settings with_choice
 one_more (Choice i k n v o) more features packages r =
@@ -177,7 +177,7 @@ one_more (Switched Help) more features packages r = ap (λ b. record (with_setti
 one_more (Switched Version) more features packages r = ap (λ b. record (with_settings features packages (Switched Version ∷ more) r) { version = b }) (sym (or-true r.version))
 one_more other more features packages r = refl
 
-all_after : (settings : List Setting) (features packages : List (List ℕ)) (r : Reader) → after_all features packages settings r ≡ with_settings features packages settings r
+all_after : (settings : List Setting) (features packages : List (List ℕ)) (r : ReadArguments) → after_all features packages settings r ≡ with_settings features packages settings r
 unfolding after_all with_settings
 all_after [] features packages r = rw (or-false r.quiet, or-false r.no_create, or-false r.help, or-false r.version, append-nil r.unrecognized)
 all_after (setting ∷ more) features packages r = all_after more features packages (after features packages setting r) ∙ one_more setting more features packages r

@@ -18,7 +18,7 @@ use Rattle.options_line.specs.declared.argument.Target.TheVariants.{InstallDirec
 use Rattle.options_line.specs.declared.directory.Directory.{Directory}
 use Rattle.options_line.specs.declared.fault.OptionFault.{OptionFault}
 use Rattle.options_line.specs.declared.fault.OptionFault.TheVariants.{Unknown, BadFeature, BadVariable, MissingValue}
-use Rattle.options.specs.declared.reader.Reader.{Reader}
+use Rattle.options.specs.declared.reader.ReadArguments.{ReadArguments}
 use Rattle.options.specs.declared.settings.Settings.{Settings}
 
 -- ---- before the arguments
@@ -37,7 +37,7 @@ unfoldable pub vars_before : List (List ℕ × List ℕ) → List (List ℕ × L
 vars_before environment = fold with_default (fold with_environment [] environment) directories
 
 -- The reader before the first argument. (own)
-unfoldable pub reader_before : List (List ℕ × List ℕ) → Reader
+unfoldable pub reader_before : List (List ℕ × List ℕ) → ReadArguments
 reader_before environment = record {
   vars = vars_before environment;
   cache_name = None;
@@ -52,13 +52,13 @@ reader_before environment = record {
 -- ---- the arguments, from the left
 
 -- The reader after an option and its value; `srcdir_of` gives the directory of the source. (own)
-abbrev pub with_value : Target → List ℕ → Reader → Reader
+abbrev pub with_value : Target → List ℕ → ReadArguments → ReadArguments
 with_value (InstallDirectory directory) value r = record r { vars = with_entry r.vars (variable_of directory) value }
 with_value Srcdir value r = r
 with_value CacheFile value r = record r { cache_name = cache_named value }
 
 -- The reader after an option without a value. (own)
-abbrev pub with_switch : Switch → Reader → Reader
+abbrev pub with_switch : Switch → ReadArguments → ReadArguments
 with_switch ConfigCache r = record r { cache_name = Some (codes "config.cache") }
 with_switch Quiet r = record r { quiet = true }
 with_switch NoCreate r = record r { no_create = true }
@@ -67,14 +67,14 @@ with_switch Version r = record r { version = true }
 with_switch Ignored r = r
 
 -- The reader after a feature or a package of argument i: its variable is set, declared or not. (own)
-unfoldable pub with_choice : List (List ℕ) → List (List ℕ) → ℕ → OptionKind → List ℕ → List ℕ → List ℕ → Reader → Reader
+unfoldable pub with_choice : List (List ℕ) → List (List ℕ) → ℕ → OptionKind → List ℕ → List ℕ → List ℕ → ReadArguments → ReadArguments
 with_choice features packages i kind name value option r = record r {
   vars = with_entry r.vars (option_variable kind name) value;
   unrecognized = (if is_declared features packages (option_variable kind name) then r.unrecognized else r.unrecognized ++ (i, option) ∷ []);
 }
 
 -- The reader after argument i with this reading. (own)
-abbrev pub with_said : List (List ℕ) → List (List ℕ) → ℕ → Argument → Reader → Result Reader OptionFault
+abbrev pub with_said : List (List ℕ) → List (List ℕ) → ℕ → Argument → ReadArguments → Result ReadArguments OptionFault
 with_said features packages i (Flag switch) r = Ok (with_switch switch r)
 with_said features packages i (OptionValue target value) r = Ok (with_value target value r)
 with_said features packages i (OptionName target) r = Ok (record r { awaited = Some target })
@@ -85,18 +85,18 @@ with_said features packages i BadVariableName r = Err (BadVariable i)
 with_said features packages i Unrecognized r = Err (Unknown i)
 
 -- The reader after argument i, which is a value if the option before it needs one. (own)
-unfoldable pub with_argument : List (List ℕ) → List (List ℕ) → ℕ → List ℕ → Reader → Result Reader OptionFault
+unfoldable pub with_argument : List (List ℕ) → List (List ℕ) → ℕ → List ℕ → ReadArguments → Result ReadArguments OptionFault
 with_argument features packages i argument r = elim r.awaited [
   | Some target ↦ Ok (with_value target argument (record r { awaited = None }))
   | None ↦ with_said features packages i (read_argument argument) r
 ]
 
 -- The reader after all i arguments: no option still needs a value. (own)
-unfoldable pub at_end : ℕ → Reader → Result Reader OptionFault
+unfoldable pub at_end : ℕ → ReadArguments → Result ReadArguments OptionFault
 at_end i r = elim r.awaited [ Some target ↦ Err (MissingValue i) | None ↦ Ok r ]
 
 -- The reader after these arguments, which follow i others. (own)
-unfoldable pub with_arguments : List (List ℕ) → List (List ℕ) → ℕ → Reader → List (List ℕ) → Result Reader OptionFault
+unfoldable pub with_arguments : List (List ℕ) → List (List ℕ) → ℕ → ReadArguments → List (List ℕ) → Result ReadArguments OptionFault
 with_arguments features packages i r [] = at_end i r
 with_arguments features packages i r (argument ∷ more) =
     with_argument features packages (i + 1) argument r >>= λ next. with_arguments features packages (i + 1) next more
@@ -104,7 +104,7 @@ with_arguments features packages i r (argument ∷ more) =
 -- ---- after the arguments
 
 -- The settings after all arguments, with these notes. (own)
-unfoldable pub settings_with : List (List ℕ) → List (List ℕ) → Reader → List Note → Settings
+unfoldable pub settings_with : List (List ℕ) → List (List ℕ) → ReadArguments → List Note → Settings
 settings_with precious arguments r notes = record {
   vars = finished precious r.vars;
   notes = notes;
@@ -117,7 +117,7 @@ settings_with precious arguments r notes = record {
 }
 
 -- The settings after all arguments. (own)
-unfoldable pub settings_after : List (List ℕ) → List (List ℕ) → Reader → Result Settings OptionFault
+unfoldable pub settings_after : List (List ℕ) → List (List ℕ) → ReadArguments → Result Settings OptionFault
 settings_after precious arguments r =
     notes_of (checking_in r.vars) r.unrecognized >>= λ notes. Ok (settings_with precious arguments r notes)
 

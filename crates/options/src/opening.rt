@@ -7,7 +7,7 @@ ghost use Rattle.options_line.specs.Directories.{directories as all_directories}
 ghost use Rattle.options.specs.Opening as words;
 ghost use Rattle.options.specs.Stepwise as steps;
 
-use crate::reader::Reader;
+use crate::reader::ReadArguments;
 use crate::unrecognized::Unrecognized;
 use deftable::{Bytes, Vars, is_shell_name};
 use options_line::directory::{Directory, directories};
@@ -63,11 +63,14 @@ fn vars_before(alloc: Global, env: &[(Bytes, Bytes)]) -> Result<Vars, AllocError
 
 /// Returns the reader before the first argument.
 #[tactic(auto, unfolding(crate::specs::Stepwise::reader_before))]
-pub(crate) fn reader_before(alloc: Global, env: &[(Bytes, Bytes)]) -> Result<Reader, AllocError>
+pub(crate) fn reader_before(
+    alloc: Global,
+    env: &[(Bytes, Bytes)],
+) -> Result<ReadArguments, AllocError>
     ensures { IfOk result (λ r. r ≡ steps.reader_before env.now) }
 {
     let vars = vars_before(alloc, env)?;
-    Ok(Reader {
+    Ok(ReadArguments {
         vars,
         cache_name: None,
         quiet: false,

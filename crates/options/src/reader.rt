@@ -15,7 +15,7 @@ use std::alloc::{AllocError, Global};
 
 /// The result of the arguments that have been read.
 #[derive(Drop)]
-pub(crate) struct Reader {
+pub(crate) struct ReadArguments {
     pub(crate) vars: Vars,
     pub(crate) cache_name: Option<Bytes>,
     pub(crate) quiet: bool,
@@ -49,7 +49,7 @@ fn is_declared(features: &SubstList, packages: &SubstList, variable: &[u8]) -> b
         || variable == b"enable_option_checking".as_slice()
 }
 
-impl Reader {
+impl ReadArguments {
     fn set_value(&mut self, alloc: Global, target: Target, value: &[u8]) -> Result<(), AllocError>
         ensures { OnOk result (self.new ≡ words.with_value target value.now self.old) }
     {
@@ -157,7 +157,7 @@ impl Reader {
 
     /// Checks that no option still needs a value after argument `i`, the last one.
     #[tactic(auto, unfolding(crate::specs::Stepwise::at_end))]
-    fn end(self, i: u64) -> Result<Reader, OptionFault>
+    fn end(self, i: u64) -> Result<ReadArguments, OptionFault>
         ensures { Gives (λ r. r) result (words.at_end i self) }
     {
         match self.awaited {
@@ -173,7 +173,7 @@ impl Reader {
         features: &SubstList,
         packages: &SubstList,
         args: &[Bytes],
-    ) -> Result<Reader, OptionFault>
+    ) -> Result<ReadArguments, OptionFault>
         ensures { Gives (λ r. r) result
             (words.with_arguments features.now packages.now 0 self args.now) }
     {

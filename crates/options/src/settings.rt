@@ -11,7 +11,7 @@ ghost use Rattle.options_line.specs.declared.fault.OptionFault.TheVariants.{OutO
 ghost use Rattle.options.specs.declared.settings.Settings as settings;
 
 use crate::opening::{finish_vars, reader_before};
-use crate::reader::Reader;
+use crate::reader::ReadArguments;
 use crate::unrecognized::notes_of;
 use deftable::{Bytes, Notes, SubstList, Vars};
 use options_line::fault::OptionFault;
@@ -41,7 +41,7 @@ pub struct Settings {
 }
 
 /// Returns the settings after all arguments, once the variables are finished.
-fn settings_of(reader: Reader, notes: Notes, srcdir: Bytes) -> Settings
+fn settings_of(reader: ReadArguments, notes: Notes, srcdir: Bytes) -> Settings
     ensures { result
         ≡ record {
           vars = reader.vars;
@@ -54,7 +54,7 @@ fn settings_of(reader: Reader, notes: Notes, srcdir: Bytes) -> Settings
           version = reader.version;
         } }
 {
-    let Reader {
+    let ReadArguments {
         vars,
         cache_name,
         quiet,
@@ -95,7 +95,7 @@ fn settings_with(
     alloc: Global,
     precious: &SubstList,
     args: &[Bytes],
-    mut reader: Reader,
+    mut reader: ReadArguments,
     notes: Notes,
 ) -> Result<Settings, AllocError>
     ensures exact { IfOk result (λ s. s ≡ words.settings_with precious.now args.now reader notes) }
@@ -106,7 +106,7 @@ fn settings_with(
 }
 
 /// Returns the notes about options that are not declared.
-fn notes_after(alloc: Global, reader: &Reader) -> Result<Notes, OptionFault>
+fn notes_after(alloc: Global, reader: &ReadArguments) -> Result<Notes, OptionFault>
     ensures { Gives (λ notes. notes) result
         (notes_of (checking_in reader.now.vars) reader.now.unrecognized) }
 {
@@ -119,7 +119,7 @@ fn settings_after(
     alloc: Global,
     precious: &SubstList,
     args: &[Bytes],
-    reader: Reader,
+    reader: ReadArguments,
 ) -> Result<Settings, OptionFault>
     ensures exact { Gives (λ s. s) result (words.settings_after precious.now args.now reader) }
     ensures directory { IfOk result (λ s. s.srcdir ≡ srcdir_of args.now) }

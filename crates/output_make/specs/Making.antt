@@ -10,7 +10,7 @@ use Rattle.status_record.specs.declared.record.Record.{Record}
 use Rattle.template.specs.Fill.{filled}
 use Rattle.template.specs.Header.{headed}
 use Rattle.template.specs.Place.{place_of, configure_input_of, header_note_of}
-use Rattle.template.specs.declared.paths.Place.{Place}
+use Rattle.template.specs.declared.paths.FileDirectories.{FileDirectories}
 use Rattle.output_make.specs.Choice.{template_of, chosen}
 use Rattle.output_make.specs.Variables.{output_variables}
 
@@ -27,7 +27,7 @@ record_of_run vars defs names srcdir args files headers = record {
 }
 
 -- The table with the variables for the directories of a file. (Autoconf's manual, "Preset Output Variables")
-unfoldable pub with_place : List (List ℕ × List ℕ) → Place → List (List ℕ × List ℕ)
+unfoldable pub with_place : List (List ℕ × List ℕ) → FileDirectories → List (List ℕ × List ℕ)
 with_place table place =
     with_entry (with_entry (with_entry (with_entry table (codes "srcdir") place.srcdir) (codes "top_srcdir") place.top_srcdir)
     (codes "builddir") place.builddir) (codes "top_builddir") place.top_builddir

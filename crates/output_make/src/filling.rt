@@ -13,7 +13,9 @@ use output_list::Output;
 use output_put::{Artifact, Artifacts, Kind};
 use status_record::Record;
 use std::alloc::{AllocError, Global};
-use template::{Place, Table, configure_input, fill, fill_header, header_note, place_vars};
+use template::{
+    FileDirectories, Table, configure_input, fill, fill_header, header_note, place_vars,
+};
 
 /// Returns the table of these variables.
 fn table_of(alloc: Global, vars: &Defs) -> Result<Table, AllocError>
@@ -29,7 +31,7 @@ fn table_of(alloc: Global, vars: &Defs) -> Result<Table, AllocError>
 
 /// Adds the variables for the directories of a file.
 #[tactic(auto, unfolding(crate::specs::Making::with_place))]
-fn add_place(table: &mut Table, place: &Place) -> Result<(), AllocError>
+fn add_place(table: &mut Table, place: &FileDirectories) -> Result<(), AllocError>
     ensures { OnOk result (table.new ≡ words.with_place table.old place.now) }
 {
     table.set(b"srcdir", place.srcdir.as_slice())?;

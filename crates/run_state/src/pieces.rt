@@ -16,14 +16,14 @@ use std::alloc::{AllocError, Global};
 
 /// The stream to which a message is printed, and the texts before and after its own.
 #[derive(Drop)]
-struct Form {
+struct MessageForm {
     stream: Stream,
     before: &'static [u8],
     after: &'static [u8],
 }
 
 /// Returns the form of a message.
-fn form_of(message: Message) -> Form
+fn form_of(message: Message) -> MessageForm
     ensures { record {
       stream = result.stream;
       before = result.before.now;
@@ -32,27 +32,27 @@ fn form_of(message: Message) -> Form
         ≡ form_of message }
 {
     match message {
-        Message::Checking => Form {
+        Message::Checking => MessageForm {
             stream: Stream::Out,
             before: b"checking ",
             after: b"... ",
         },
-        Message::Results => Form {
+        Message::Results => MessageForm {
             stream: Stream::Out,
             before: b"",
             after: b"\n",
         },
-        Message::Notice => Form {
+        Message::Notice => MessageForm {
             stream: Stream::Out,
             before: b"configure: ",
             after: b"\n",
         },
-        Message::Warning => Form {
+        Message::Warning => MessageForm {
             stream: Stream::Err,
             before: b"configure: WARNING: ",
             after: b"\n",
         },
-        Message::Error => Form {
+        Message::Error => MessageForm {
             stream: Stream::Err,
             before: b"configure: error: ",
             after: b"\n",

@@ -11,8 +11,8 @@ use Rattle.shellword.specs.Scan.{word_front_of}
 use Rattle.shellword.proofs.Laws.{front_faults}
 use Rattle.shell_bare.specs.declared.fault.BareFault.{BareFault}
 use Rattle.shell_bare.specs.declared.fault.BareFault.TheVariants.{UnknownStatement, Shell, OutOfMemory}
-use Rattle.shell_bare.specs.declared.item.Stage.{Stage}
-use Rattle.shell_bare.specs.declared.item.Stage.TheVariants.{Opening, Assigned, Closed}
+use Rattle.shell_bare.specs.declared.item.ReadStage.{ReadStage}
+use Rattle.shell_bare.specs.declared.item.ReadStage.TheVariants.{Opening, Assigned, Closed}
 use Rattle.shell_bare.specs.Joining.{joined}
 use Rattle.shell_bare.specs.Text.{hash, colon, equals}
 use Rattle.shell_bare.specs.Faults.{IsReadingFault}
@@ -68,7 +68,7 @@ assignment-fault at text f e =
           ])
     ]
 
-shell_word-fault : (stage : Stage) (at b : ℕ) (bs : List ℕ) (f : BareFault) → shell_word_at stage at (b ∷ bs) ≡ Err f → IsReadingFault (at + length (b ∷ bs)) f
+shell_word-fault : (stage : ReadStage) (at b : ℕ) (bs : List ℕ) (f : BareFault) → shell_word_at stage at (b ∷ bs) ≡ Err f → IsReadingFault (at + length (b ∷ bs)) f
 shell_word-fault Closed at b bs f e = unknown-fault at (at + length (b ∷ bs)) f e (omega arith)
 shell_word-fault Assigned at b bs f e = assignment-fault at (b ∷ bs) f e
 shell_word-fault Opening at b bs f e =
@@ -78,7 +78,7 @@ shell_word-fault Opening at b bs f e =
     ]
 
 -- a space, an end of a statement and a comment have no error, so the error is of the shell word
-pub item-failed : (stage : Stage) (at b : ℕ) (bs : List ℕ) (f : BareFault) → item_of stage at (b ∷ bs) ≡ Err f → shell_word_at stage at (b ∷ bs) ≡ Err f
+pub item-failed : (stage : ReadStage) (at b : ℕ) (bs : List ℕ) (f : BareFault) → item_of stage at (b ∷ bs) ≡ Err f → shell_word_at stage at (b ∷ bs) ≡ Err f
 unfolding item_of
 item-failed stage at b bs f e =
     elim (chosen (is_space b) _ _ _ e) [
@@ -90,10 +90,10 @@ item-failed stage at b bs f e =
           ])
     ]
 
-item-fault : (stage : Stage) (at b : ℕ) (bs : List ℕ) (f : BareFault) → item_of stage at (b ∷ bs) ≡ Err f → IsReadingFault (at + length (b ∷ bs)) f
+item-fault : (stage : ReadStage) (at b : ℕ) (bs : List ℕ) (f : BareFault) → item_of stage at (b ∷ bs) ≡ Err f → IsReadingFault (at + length (b ∷ bs)) f
 item-fault stage at b bs f e = shell_word-fault stage at b bs f (item-failed stage at b bs f e)
 
-statements-fault : (k : ℕ) (stage : Stage) (at : ℕ) (text : List ℕ) (f : BareFault) → k ≤ length text → statements_from k stage at text ≡ Err f → IsReadingFault (at + length text) f
+statements-fault : (k : ℕ) (stage : ReadStage) (at : ℕ) (text : List ℕ) (f : BareFault) → k ≤ length text → statements_from k stage at text ≡ Err f → IsReadingFault (at + length text) f
 unfolding statements_from
 statements-fault zero stage at [] f h e = absurd (passed e)
 statements-fault (suc k) stage at [] f h e = absurd (omega arith)

@@ -13,8 +13,8 @@ use Rattle.shellword.specs.Scan.{word_front_of}
 use Rattle.shellword.specs.Word.{IsWordFront}
 use Rattle.shellword.proofs.Laws.{front_reading}
 use Rattle.shell_bare.specs.declared.item.Item.{Item}
-use Rattle.shell_bare.specs.declared.item.Stage.{Stage}
-use Rattle.shell_bare.specs.declared.item.Stage.TheVariants.{Opening, Assigned, Closed}
+use Rattle.shell_bare.specs.declared.item.ReadStage.{ReadStage}
+use Rattle.shell_bare.specs.declared.item.ReadStage.TheVariants.{Opening, Assigned, Closed}
 use Rattle.shell_bare.specs.Text.{hash, colon, equals}
 use Rattle.shell_bare.specs.Statements.{takes_assignments, assigns, item, nothing, IsItem, space, line_end, parted, comment, lone_colon, assignment}
 use Rattle.shell_bare.specs.Reading.{placed, value_at, assignment_at, shell_word_at, item_of}
@@ -64,23 +64,23 @@ assignment-read at name rest parts n form h =
     assignment-named at name rest form ∙ ap (λ r. r >>= λ w. Ok (item (Some (assigns name w.0)) (length name + 1 + w.1) Assigned)) (value-read (at + (length name + 1)) rest parts n h)
 
 -- if a name begins, nothing else does
-item_word : (stage : Stage) (at b : ℕ) (bs : List ℕ) → starts_name b ≡ true → item_of stage at (b ∷ bs) ≡ shell_word_at stage at (b ∷ bs)
+item_word : (stage : ReadStage) (at b : ℕ) (bs : List ℕ) → starts_name b ≡ true → item_of stage at (b ∷ bs) ≡ shell_word_at stage at (b ∷ bs)
 unfolding item_of
 item_word stage at b bs h =
     rw (not_first b 32 h refl, not_first b 9 h refl, not_first b newline h refl, not_first b semicolon h refl, not_first b hash h refl) refl
 
-word_assigns : (stage : Stage) (at b : ℕ) (bs : List ℕ) → takes_assignments stage ≡ true → starts_name b ≡ true → shell_word_at stage at (b ∷ bs) ≡ assignment_at at (b ∷ bs)
+word_assigns : (stage : ReadStage) (at b : ℕ) (bs : List ℕ) → takes_assignments stage ≡ true → starts_name b ≡ true → shell_word_at stage at (b ∷ bs) ≡ assignment_at at (b ∷ bs)
 word_assigns Opening at b bs takes h = rw (not_first b colon h refl) refl
 word_assigns Assigned at b bs takes h = refl
 word_assigns Closed at b bs takes h = absurd cc
 
-pub named-read : (stage : Stage) (at : ℕ) (name rest : List ℕ) → takes_assignments stage ≡ true → IsShellName name → item_of stage at (name ++ equals ∷ rest) ≡ assignment_at at (name ++ equals ∷ rest)
+pub named-read : (stage : ReadStage) (at : ℕ) (name rest : List ℕ) → takes_assignments stage ≡ true → IsShellName name → item_of stage at (name ++ equals ∷ rest) ≡ assignment_at at (name ++ equals ∷ rest)
 named-read stage at [] rest takes form = absurd cc
 named-read stage at (b ∷ bs) rest takes form =
     let start = (and_parts (starts_name b) (list_all continues_name bs) form).0 in
     item_word stage at b (bs ++ equals ∷ rest) start ∙ word_assigns stage at b (bs ++ equals ∷ rest) takes start
 
-pub item-read : {stage : Stage} {text : List ℕ} {i : Item} → IsItem stage text i → (at : ℕ) → item_of stage at text ≡ Ok i
+pub item-read : {stage : ReadStage} {text : List ℕ} {i : Item} → IsItem stage text i → (at : ℕ) → item_of stage at text ≡ Ok i
 unfolding item_of
 item-read (space h) at = rw h refl
 item-read line_end at = refl
@@ -102,7 +102,7 @@ pub begins : (b : ℕ) (text : List ℕ) → begins_with b text ≡ true → (re
 begins b [] h = absurd cc
 begins b (c ∷ cs) h = (cs, ap (λ (x : ℕ). x ∷ cs) (eqb-true c b h))
 
-named_item : (stage : Stage) (n : ℕ) (text rest : List ℕ) (parts : List Part) (k : ℕ) → n ≤ length text → drop n text ≡ equals ∷ rest → takes_assignments stage ≡ true
+named_item : (stage : ReadStage) (n : ℕ) (text rest : List ℕ) (parts : List Part) (k : ℕ) → n ≤ length text → drop n text ≡ equals ∷ rest → takes_assignments stage ≡ true
     → IsShellName (take n text) → IsWordFront rest parts k → IsItem stage text (item (Some (assigns (take n text) parts)) (n + 1 + k) Assigned)
 named_item stage n text rest parts k within following takes form h =
     let whole : take n text ++ equals ∷ rest ≡ text = ap (λ (t : List ℕ). take n text ++ t) (sym following) ∙ take-append-drop n text in
@@ -110,7 +110,7 @@ named_item stage n text rest parts k within following takes form h =
     subst (λ (t : List ℕ). IsItem stage t (item (Some (assigns (take n text) parts)) (n + 1 + k) Assigned)) whole
     (subst (λ (m : ℕ). IsItem stage (take n text ++ equals ∷ rest) (item (Some (assigns (take n text) parts)) (m + 1 + k) Assigned)) len (assignment takes form h))
 
-read-assignment : (stage : Stage) (at : ℕ) (text : List ℕ) (i : Item) → takes_assignments stage ≡ true → assignment_at at text ≡ Ok i → IsItem stage text i
+read-assignment : (stage : ReadStage) (at : ℕ) (text : List ℕ) (i : Item) → takes_assignments stage ≡ true → assignment_at at text ≡ Ok i → IsItem stage text i
 read-assignment stage at text i takes e =
     let n = prefix_len continues_name text in
     elim (chosen (begins_with equals (drop n text)) _ _ _ e) [
@@ -128,7 +128,7 @@ read-assignment stage at text i takes e =
           ])
     ]
 
-read-shell_word : (stage : Stage) (at b : ℕ) (bs : List ℕ) (i : Item) → shell_word_at stage at (b ∷ bs) ≡ Ok i → IsItem stage (b ∷ bs) i
+read-shell_word : (stage : ReadStage) (at b : ℕ) (bs : List ℕ) (i : Item) → shell_word_at stage at (b ∷ bs) ≡ Ok i → IsItem stage (b ∷ bs) i
 read-shell_word Closed at b bs i e = absurd (failed e)
 read-shell_word Assigned at b bs i e = read-assignment Assigned at (b ∷ bs) i refl e
 read-shell_word Opening at b bs i e =
@@ -141,14 +141,14 @@ read-shell_word Opening at b bs i e =
           ])
     ]
 
-end-item : (stage : Stage) (b : ℕ) (bs : List ℕ) → (b == newline || b == semicolon) ≡ true → IsItem stage (b ∷ bs) (nothing 1 Opening)
+end-item : (stage : ReadStage) (b : ℕ) (bs : List ℕ) → (b == newline || b == semicolon) ≡ true → IsItem stage (b ∷ bs) (nothing 1 Opening)
 end-item stage b bs h =
     elim (or_cases (b == newline) (b == semicolon) h) [
       | inl e ↦ subst (λ (x : ℕ). IsItem stage (x ∷ bs) (nothing 1 Opening)) (sym (eqb-true b newline e)) line_end
       | inr e ↦ subst (λ (x : ℕ). IsItem stage (x ∷ bs) (nothing 1 Opening)) (sym (eqb-true b semicolon e)) parted
     ]
 
-pub read-item : (stage : Stage) (at b : ℕ) (bs : List ℕ) (i : Item) → item_of stage at (b ∷ bs) ≡ Ok i → IsItem stage (b ∷ bs) i
+pub read-item : (stage : ReadStage) (at b : ℕ) (bs : List ℕ) (i : Item) → item_of stage at (b ∷ bs) ≡ Ok i → IsItem stage (b ∷ bs) i
 unfolding item_of
 read-item stage at b bs i e =
     elim (chosen (is_space b) _ _ _ e) [
@@ -166,7 +166,7 @@ read-item stage at b bs i e =
 
 -- ---- an item is as long as it may be
 
-pub item-len : {stage : Stage} {text : List ℕ} {i : Item} → IsItem stage text i → (0 < i.len) × (i.len ≤ length text)
+pub item-len : {stage : ReadStage} {text : List ℕ} {i : Item} → IsItem stage text i → (0 < i.len) × (i.len ≤ length text)
 item-len (space h) = (omega arith, omega arith)
 item-len line_end = (omega arith, omega arith)
 item-len parted = (omega arith, omega arith)

@@ -1,7 +1,7 @@
 -- The reading as a function, and what it reads.
 use Rattle.std.proofs.Common.{◌≡◌, ℕ, List, Ok, ◌↔◌, refl, ap, ◌∙◌, arith}
 use Rattle.shell_bare.specs.declared.assignments.Assignment.{Assignment}
-use Rattle.shell_bare.specs.declared.item.Stage.TheVariants.{Opening}
+use Rattle.shell_bare.specs.declared.item.ReadStage.TheVariants.{Opening}
 use Rattle.shell_bare.specs.Joining.{joined}
 use Rattle.shell_bare.specs.Statements.{IsBareText}
 use Rattle.shell_bare.specs.Reading.{statements_from, statements_of}

@@ -15,8 +15,8 @@ use Rattle.shell_bare.specs.declared.assignments.Assignment.{Assignment}
 use Rattle.shell_bare.specs.declared.fault.BareFault.{BareFault}
 use Rattle.shell_bare.specs.declared.fault.BareFault.TheVariants.{UnknownStatement, Shell, OutOfMemory}
 use Rattle.shell_bare.specs.declared.item.Item.{Item}
-use Rattle.shell_bare.specs.declared.item.Stage.{Stage}
-use Rattle.shell_bare.specs.declared.item.Stage.TheVariants.{Opening, Assigned, Closed}
+use Rattle.shell_bare.specs.declared.item.ReadStage.{ReadStage}
+use Rattle.shell_bare.specs.declared.item.ReadStage.TheVariants.{Opening, Assigned, Closed}
 use Rattle.shell_bare.specs.Joining.{joined}
 use Rattle.shell_bare.specs.Text.{colon, equals}
 use Rattle.shell_bare.specs.Gives.{Gives, Fails}
@@ -32,7 +32,7 @@ use Rattle.fallible.proofs.Pieces.{with_list}
 use Rattle.shell_bare.proofs.Scans.{item_first, item_failed}
 
 -- `NAME=` with a word that is rejected
-record RefusedWord (stage : Stage) (at : ℕ) (text : List ℕ) (f : BareFault) : Type 0 where
+record RefusedWord (stage : ReadStage) (at : ℕ) (text : List ℕ) (f : BareFault) : Type 0 where
   name : List ℕ
   value : List ℕ
   k : ℕ
@@ -40,7 +40,7 @@ record RefusedWord (stage : Stage) (at : ℕ) (text : List ℕ) (f : BareFault) 
   refused : word_front_of value ≡ Err (BadWord k)
   is : Shell (BadWord (at + (length name + 1) + k)) ≡ f
 
-abbrev Split : Stage → ℕ → List ℕ → BareFault → Type 0
+abbrev Split : ReadStage → ℕ → List ℕ → BareFault → Type 0
 Split stage at text f = (UnknownStatement at ≡ f) ⊎ RefusedWord stage at text f
 
 refused-value : (start : ℕ) (rest value : List ℕ) (f : BareFault) → rest ≡ value → value_at start rest ≡ Err f → (k : ℕ) × (word_front_of value ≡ Err (BadWord k)) × (Shell (BadWord (start + k)) ≡ f)
@@ -49,7 +49,7 @@ refused-value start rest value f same e =
     let q = front_faults rest p.0 p.1 in
     (q.0, subst (λ (t : List ℕ). word_front_of t ≡ Err (BadWord q.0)) same (subst (λ (g : ShellFault). word_front_of rest ≡ Err g) q.1 p.1), ap (word_fault start) (sym q.1) ∙ p.2)
 
-assignment-split : (stage : Stage) (at : ℕ) (text : List ℕ) (f : BareFault) → takes_assignments stage ≡ true → assignment_at at text ≡ Err f → Split stage at text f
+assignment-split : (stage : ReadStage) (at : ℕ) (text : List ℕ) (f : BareFault) → takes_assignments stage ≡ true → assignment_at at text ≡ Err f → Split stage at text f
 assignment-split stage at text f takes e =
     let n = prefix_len continues_name text in
     elim (chosen (begins_with equals (drop n text)) _ _ _ e) [
@@ -77,7 +77,7 @@ assignment-split stage at text f takes e =
           ])
     ]
 
-shell_word-split : (stage : Stage) (at b : ℕ) (bs : List ℕ) (f : BareFault) → shell_word_at stage at (b ∷ bs) ≡ Err f → Split stage at (b ∷ bs) f
+shell_word-split : (stage : ReadStage) (at b : ℕ) (bs : List ℕ) (f : BareFault) → shell_word_at stage at (b ∷ bs) ≡ Err f → Split stage at (b ∷ bs) f
 shell_word-split Closed at b bs f e = inl (err_is {A = Item} (UnknownStatement at) f e)
 shell_word-split Assigned at b bs f e = assignment-split Assigned at (b ∷ bs) f refl e
 shell_word-split Opening at b bs f e =
@@ -86,12 +86,12 @@ shell_word-split Opening at b bs f e =
       | inl h ↦ (elim (chosen (is_parted bs) _ _ _ h.1) [ inr k ↦ assignment-split Opening at (b ∷ bs) f refl k.1 | inl k ↦ absurd (passed k.1) ])
     ]
 
-item-split : (stage : Stage) (at b : ℕ) (bs : List ℕ) (f : BareFault) → item_of stage at (b ∷ bs) ≡ Err f → Split stage at (b ∷ bs) f
+item-split : (stage : ReadStage) (at b : ℕ) (bs : List ℕ) (f : BareFault) → item_of stage at (b ∷ bs) ≡ Err f → Split stage at (b ∷ bs) f
 item-split stage at b bs f e = shell_word-split stage at b bs f (item-failed stage at b bs f e)
 
 -- ---- the result of the reader at `NAME=`
 
-item-named : (stage : Stage) (at : ℕ) (text name value : List ℕ) → IsNamed stage text name value
+item-named : (stage : ReadStage) (at : ℕ) (text name value : List ℕ) → IsNamed stage text name value
     → item_of stage at text ≡ (value_at (at + (length name + 1)) value >>= λ w. Ok (item (Some (assigns name w.0)) (length name + 1 + w.1) Assigned))
 item-named stage at text name value h =
     ap (item_of stage at) (sym h.begins) ∙ named-read stage at name value h.takes h.form ∙ assignment-named at name value h.form
@@ -101,7 +101,7 @@ never_unknown start at (BadWord k) e = cc
 never_unknown start at words.OutOfMemory e = cc
 never_unknown start at g e = cc
 
-not-named : (stage : Stage) (at : ℕ) (text name value : List ℕ) → item_of stage at text ≡ Err (UnknownStatement at) → IsNamed stage text name value → ⊥
+not-named : (stage : ReadStage) (at : ℕ) (text name value : List ℕ) → item_of stage at text ≡ Err (UnknownStatement at) → IsNamed stage text name value → ⊥
 not-named stage at text name value e h =
     elim (bind_err (value_at (at + (length name + 1)) value) (λ w. Ok (item (Some (assigns name w.0)) (length name + 1 + w.1) Assigned)) (UnknownStatement at) (sym (item-named stage at text name value h) ∙ e)) [
       | inr w ↦ passed w.2
@@ -110,7 +110,7 @@ not-named stage at text name value e h =
 
 -- ---- the error of the reading function is the first
 
-item-refused : (stage : Stage) (at b : ℕ) (bs : List ℕ) (f : BareFault) → item_of stage at (b ∷ bs) ≡ Err f → IsFirstFault stage at (b ∷ bs) f
+item-refused : (stage : ReadStage) (at b : ℕ) (bs : List ℕ) (f : BareFault) → item_of stage at (b ∷ bs) ≡ Err f → IsFirstFault stage at (b ∷ bs) f
 item-refused stage at b bs f e =
     elim (item-split stage at b bs f e) [
       | inl is ↦
@@ -119,7 +119,7 @@ item-refused stage at b bs f e =
       | inr r ↦ subst (IsFirstFault stage at (b ∷ bs)) r.is (refused_word r.named ((front_refusal r.value r.k).0 r.refused))
     ]
 
-statements-refused : (k : ℕ) (stage : Stage) (at : ℕ) (text : List ℕ) (f : BareFault) → k ≤ length text → statements_from k stage at text ≡ Err f
+statements-refused : (k : ℕ) (stage : ReadStage) (at : ℕ) (text : List ℕ) (f : BareFault) → k ≤ length text → statements_from k stage at text ≡ Err f
     → IsFirstFault stage (at + k) (drop k text) f
 unfolding statements_from
 statements-refused zero stage at [] f h e = absurd (passed e)
@@ -153,7 +153,7 @@ statements-refused zero stage at (b ∷ bs) f h e =
 abbrev no_item : BareFault → Result Item BareFault
 no_item f = Err f
 
-refused-unknown : (stage : Stage) (at b : ℕ) (bs : List ℕ) (r : Result Item BareFault) → item_of stage at (b ∷ bs) ≡ r → ((i : Item) → IsItem stage (b ∷ bs) i → ⊥) → ((name value : List ℕ) → IsNamed stage (b ∷ bs) name value → ⊥)
+refused-unknown : (stage : ReadStage) (at b : ℕ) (bs : List ℕ) (r : Result Item BareFault) → item_of stage at (b ∷ bs) ≡ r → ((i : Item) → IsItem stage (b ∷ bs) i → ⊥) → ((name value : List ℕ) → IsNamed stage (b ∷ bs) name value → ⊥)
     → item_of stage at (b ∷ bs) ≡ no_item (UnknownStatement at)
 refused-unknown stage at b bs (Ok i) e no_item no_name = absurd (no_item i (read-item stage at b bs i e))
 refused-unknown stage at b bs (Err f) e no_item no_name =
@@ -162,11 +162,11 @@ refused-unknown stage at b bs (Err f) e no_item no_name =
       | inr r ↦ absurd (no_name r.name r.value r.named)
     ]
 
-named_some : (stage : Stage) (text name value : List ℕ) → IsNamed stage text name value → 0 < length text
+named_some : (stage : ReadStage) (text name value : List ℕ) → IsNamed stage text name value → 0 < length text
 named_some stage text [] value h = absurd (let e : false ≡ true = h.form in cc)
 named_some stage text (b ∷ bs) value h = subst (λ (t : List ℕ). 0 < length t) h.begins (omega arith)
 
-first-refused : {stage : Stage} {at : ℕ} {text : List ℕ} {f : BareFault} → IsFirstFault stage at text f → statements_from 0 stage at text ≡ Err f
+first-refused : {stage : ReadStage} {at : ℕ} {text : List ℕ} {f : BareFault} → IsFirstFault stage at text f → statements_from 0 stage at text ≡ Err f
 first-refused (unknown {stage} {at} {text} some no_item no_name) = by_text text some no_item no_name where
   by_text : (text : List ℕ) → 0 < length text → ((i : Item) → IsItem stage text i → ⊥) → ((name value : List ℕ) → IsNamed stage text name value → ⊥) → statements_from 0 stage at text ≡ Err (UnknownStatement at)
   by_text [] some no_item no_name = absurd (omega arith)

@@ -4,7 +4,7 @@ use Rattle.std.proofs.lemmas.List.{take_rest, drop-drop, drop_all, append-nil, l
 use Rattle.shell_bare.specs.declared.assignments.Assignment.{Assignment}
 use Rattle.shell_bare.specs.declared.fault.BareFault.{BareFault}
 use Rattle.shell_bare.specs.declared.item.Item.{Item}
-use Rattle.shell_bare.specs.declared.item.Stage.{Stage}
+use Rattle.shell_bare.specs.declared.item.ReadStage.{ReadStage}
 use Rattle.shell_bare.specs.Statements.{AreStatements, no_more, more}
 use Rattle.shell_bare.specs.Reading.{item_of, statements_from}
 use Rattle.fallible.specs.Reading.{◌>>=◌}
@@ -13,21 +13,21 @@ use Rattle.fallible.proofs.Pieces.{with_list, with_list-append, after_piece}
 use Rattle.shell_bare.proofs.Fronts.{item-read, read-item, item-len}
 
 -- from one item to the next
-pub item_first : (stage : Stage) (at : ℕ) (text : List ℕ) (i : Item) → 0 < length text → item_of stage at text ≡ Ok i → 0 < i.len → i.len ≤ length text
+pub item_first : (stage : ReadStage) (at : ℕ) (text : List ℕ) (i : Item) → 0 < length text → item_of stage at text ≡ Ok i → 0 < i.len → i.len ≤ length text
     → statements_from 0 stage at text ≡ with_list (option_to_list i.assignment) (statements_from 0 i.stage (at + i.len) (drop i.len text))
 unfolding statements_from
 item_first stage at [] i lt found some within = absurd (omega arith)
 item_first stage at (b ∷ bs) i lt found some within =
     rw (found, after_piece (λ k at text. statements_from k i.stage at text) (λ k at b bs. refl) i.len at b bs some within) refl
 
-pub item_failed : (stage : Stage) (at : ℕ) (text : List ℕ) (f : BareFault) → 0 < length text → item_of stage at text ≡ Err f → statements_from 0 stage at text ≡ Err f
+pub item_failed : (stage : ReadStage) (at : ℕ) (text : List ℕ) (f : BareFault) → 0 < length text → item_of stage at text ≡ Err f → statements_from 0 stage at text ≡ Err f
 unfolding statements_from
 item_failed stage at [] f lt found = absurd (omega arith)
 item_failed stage at (b ∷ bs) f lt found = rw found refl
 
 -- ---- what is in the text is read
 
-pub statements-read : {stage : Stage} {text : List ℕ} {list : List Assignment} → AreStatements stage text list → (at : ℕ) → statements_from 0 stage at text ≡ Ok list
+pub statements-read : {stage : ReadStage} {text : List ℕ} {list : List Assignment} → AreStatements stage text list → (at : ℕ) → statements_from 0 stage at text ≡ Ok list
 unfolding statements_from
 statements-read no_more at = refl
 statements-read (more {stage} {text} {i} {list} h rest) at =
@@ -37,7 +37,7 @@ statements-read (more {stage} {text} {i} {list} h rest) at =
 
 -- ---- what is read is in the text
 
-pub read-statements : (k : ℕ) (stage : Stage) (at : ℕ) (text : List ℕ) (list : List Assignment) → k ≤ length text → statements_from k stage at text ≡ Ok list
+pub read-statements : (k : ℕ) (stage : ReadStage) (at : ℕ) (text : List ℕ) (list : List Assignment) → k ≤ length text → statements_from k stage at text ≡ Ok list
     → AreStatements stage (drop k text) list
 unfolding statements_from
 read-statements zero stage at [] list h e = subst (AreStatements stage []) (ok_is [] list e) no_more
@@ -57,7 +57,7 @@ read-statements zero stage at (b ∷ bs) list h e =
 
 -- ---- the loop
 
-module _ (list : List Assignment) (stage : Stage) (at : ℕ) (text : List ℕ) (total : Result (List Assignment) BareFault) (so_far : with_list list (statements_from 0 stage at (drop at text)) ≡ total) where
+module _ (list : List Assignment) (stage : ReadStage) (at : ℕ) (text : List ℕ) (total : Result (List Assignment) BareFault) (so_far : with_list list (statements_from 0 stage at (drop at text)) ≡ total) where
   module _ (lt : at < length text) where
     abbrev here : List ℕ
     here = take (length text - at) (drop at text)

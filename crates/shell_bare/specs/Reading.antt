@@ -13,8 +13,8 @@ use Rattle.shell_bare.specs.declared.assignments.Assignment.{Assignment}
 use Rattle.shell_bare.specs.declared.fault.BareFault.{BareFault}
 use Rattle.shell_bare.specs.declared.fault.BareFault.TheVariants.{UnknownStatement, Shell, OutOfMemory}
 use Rattle.shell_bare.specs.declared.item.Item.{Item}
-use Rattle.shell_bare.specs.declared.item.Stage.{Stage}
-use Rattle.shell_bare.specs.declared.item.Stage.TheVariants.{Opening, Assigned, Closed}
+use Rattle.shell_bare.specs.declared.item.ReadStage.{ReadStage}
+use Rattle.shell_bare.specs.declared.item.ReadStage.TheVariants.{Opening, Assigned, Closed}
 use Rattle.shell_bare.specs.Joining.{joined}
 use Rattle.shell_bare.specs.Statements.{assigns, item, nothing}
 use Rattle.shell_bare.specs.Text.{hash, colon, equals, comment_len}
@@ -48,14 +48,14 @@ assignment_at at text =
     else Err (UnknownStatement at)
 
 -- The lone colon or the assignment at the front of a text.
-abbrev pub shell_word_at : Stage → ℕ → List ℕ → Result Item BareFault
+abbrev pub shell_word_at : ReadStage → ℕ → List ℕ → Result Item BareFault
 shell_word_at Closed at text = Err (UnknownStatement at)
 shell_word_at Assigned at text = assignment_at at text
 shell_word_at Opening at [] = assignment_at at []
 shell_word_at Opening at (b ∷ bs) = if b == colon then (if is_parted bs then Ok (nothing 1 Closed) else assignment_at at (b ∷ bs)) else assignment_at at (b ∷ bs)
 
 -- The item at the front of a text at offset `at`.
-unfoldable pub item_of : Stage → ℕ → List ℕ → Result Item BareFault
+unfoldable pub item_of : ReadStage → ℕ → List ℕ → Result Item BareFault
 item_of stage at [] = shell_word_at stage at []
 item_of stage at (b ∷ bs) =
     if is_space b then Ok (nothing 1 stage)
@@ -64,7 +64,7 @@ item_of stage at (b ∷ bs) =
     else shell_word_at stage at (b ∷ bs)))
 
 -- The assignments of a text without line continuations, at offset `at`, whose first `skip` bytes belong to the last item.
-unfoldable pub statements_from : ℕ → Stage → ℕ → List ℕ → Result (List Assignment) BareFault
+unfoldable pub statements_from : ℕ → ReadStage → ℕ → List ℕ → Result (List Assignment) BareFault
 statements_from skip stage at [] = Ok []
 statements_from (suc k) stage at (b ∷ bs) = statements_from k stage (at + 1) bs
 statements_from zero stage at (b ∷ bs) =

@@ -7,28 +7,28 @@ use Rattle.shell_bare.specs.declared.continuation.BareContext.TheVariants.{Start
 use Rattle.shell_bare.specs.declared.fault.BareFault.{BareFault}
 use Rattle.shell_bare.specs.declared.fault.BareFault.TheVariants.{UnknownStatement, Shell, OutOfMemory}
 use Rattle.shell_bare.specs.declared.item.Item.{Item}
-use Rattle.shell_bare.specs.declared.item.Stage.{Stage}
-use Rattle.shell_bare.specs.declared.item.Stage.TheVariants.{Opening}
+use Rattle.shell_bare.specs.declared.item.ReadStage.{ReadStage}
+use Rattle.shell_bare.specs.declared.item.ReadStage.TheVariants.{Opening}
 use Rattle.shell_bare.specs.Continuation.{IsJoined}
 use Rattle.shell_bare.specs.Statements.{takes_assignments, IsItem}
 use Rattle.shell_bare.specs.Text.{equals}
 
 -- A text begins with a name and `=`, at a stage that allows an assignment. (POSIX shell, 2.9.1)
-pub record IsNamed (stage : Stage) (text name value : List ℕ) : Type 0 where
+pub record IsNamed (stage : ReadStage) (text name value : List ℕ) : Type 0 where
   pub takes : takes_assignments stage ≡ true
   pub form : IsShellName name
   pub begins : name ++ equals ∷ value ≡ text
 
 -- The first error of a text without line continuations, at offset `at` and at this stage of a statement. (own)
-pub data IsFirstFault : Stage → ℕ → List ℕ → BareFault → Type 0 where
+pub data IsFirstFault : ReadStage → ℕ → List ℕ → BareFault → Type 0 where
   -- The text begins neither with an item nor with `NAME=`.
-  unknown : {stage : Stage} {at : ℕ} {text : List ℕ} → 0 < length text → ((i : Item) → IsItem stage text i → ⊥) → ((name value : List ℕ) → IsNamed stage text name value → ⊥)
+  unknown : {stage : ReadStage} {at : ℕ} {text : List ℕ} → 0 < length text → ((i : Item) → IsItem stage text i → ⊥) → ((name value : List ℕ) → IsNamed stage text name value → ⊥)
       → IsFirstFault stage at text (UnknownStatement at)
   -- No word is at the front of the text after `NAME=`.
-  refused_word : {stage : Stage} {at k : ℕ} {text name value : List ℕ} → IsNamed stage text name value → IsBadFront value k
+  refused_word : {stage : ReadStage} {at k : ℕ} {text name value : List ℕ} → IsNamed stage text name value → IsBadFront value k
       → IsFirstFault stage at text (Shell (BadWord (at + (length name + 1) + k)))
   -- The fault is after an item.
-  following : {stage : Stage} {at : ℕ} {text : List ℕ} {i : Item} {f : BareFault} → IsItem stage text i → IsFirstFault i.stage (at + i.len) (drop i.len text) f
+  following : {stage : ReadStage} {at : ℕ} {text : List ℕ} {i : Item} {f : BareFault} → IsItem stage text i → IsFirstFault i.stage (at + i.len) (drop i.len text) f
       → IsFirstFault stage at text f
 
 -- The first error of bare text. (own)

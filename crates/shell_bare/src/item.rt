@@ -18,7 +18,7 @@ use text_cut::is_space;
 
 /// The part of a statement that has been read.
 #[derive(Clone, Copy)]
-pub(crate) enum Stage {
+pub(crate) enum ReadStage {
     /// Only spaces and comments have been read.
     Opening,
     /// Assignments have been read.
@@ -33,7 +33,7 @@ pub(crate) enum Stage {
 pub(crate) struct Item {
     pub(crate) assignment: Option<Assignment>,
     pub(crate) len: usize,
-    pub(crate) stage: Stage,
+    pub(crate) stage: ReadStage,
 }
 
 /// Returns whether a lone colon may end before `rest`: `rest` is empty, or begins with a blank or
@@ -65,7 +65,7 @@ fn comment_len(text: &[u8]) -> usize
 }
 
 /// Returns an item without an assignment.
-fn nothing(len: usize, stage: Stage) -> Item
+fn nothing(len: usize, stage: ReadStage) -> Item
     ensures { result ≡ nothing len stage }
 {
     Item {
@@ -108,7 +108,7 @@ fn read_named(alloc: Global, at: usize, text: &[u8], len: usize) -> Result<Item,
     Ok(Item {
         assignment: Some(Assignment { name, value }),
         len: following + value_len,
-        stage: Stage::Assigned,
+        stage: ReadStage::Assigned,
     })
 }
 
@@ -128,15 +128,23 @@ fn read_assignment(alloc: Global, at: usize, text: &[u8]) -> Result<Item, BareFa
 }
 
 /// Reads the lone colon or the assignment at the front of `text`, which is at offset `at`.
-fn read_shell_word(alloc: Global, stage: Stage, at: usize, text: &[u8]) -> Result<Item, BareFault>
+fn read_shell_word(
+    alloc: Global,
+    stage: ReadStage,
+    at: usize,
+    text: &[u8],
+) -> Result<Item, BareFault>
     requires { at + length text.now < 2 ^ 64 }
     ensures value { Gives (λ i. i) result (specs.shell_word_at stage at text.now) }
     ensures fault { IfErr result (IsBareFault (at + length text.now)) }
     ensures within { IfOk result (λ i. (0 < i.len) × (i.len ≤ length text.now)) }
 {
     match (stage, text.split_first()) {
-        (Stage::Opening, Some((b':', rest))) if is_parted(rest) => Ok(nothing(1, Stage::Closed)),
-        (Stage::Closed, _) => Err(BareFault::UnknownStatement(at)),
+        (ReadStage::Opening, Some((b':', rest))) if is_parted(rest) => Ok(nothing(
+            1,
+            ReadStage::Closed,
+        )),
+        (ReadStage::Closed, _) => Err(BareFault::UnknownStatement(at)),
         _ => read_assignment(alloc, at, text),
     }
 }
@@ -145,7 +153,7 @@ fn read_shell_word(alloc: Global, stage: Stage, at: usize, text: &[u8]) -> Resul
 #[tactic(auto, unfolding(crate::specs::Reading::item_of))]
 pub(crate) fn read_item(
     alloc: Global,
-    stage: Stage,
+    stage: ReadStage,
     at: usize,
     text: &[u8],
 ) -> Result<Item, BareFault>
@@ -156,7 +164,7 @@ pub(crate) fn read_item(
 {
     match text.split_first() {
         Some((byte, _)) if is_space(*byte) => Ok(nothing(1, stage)),
-        Some((b'\n' | b';', _)) => Ok(nothing(1, Stage::Opening)),
+        Some((b'\n' | b';', _)) => Ok(nothing(1, ReadStage::Opening)),
         Some((b'#', rest)) => Ok(nothing(comment_len(rest) + 1, stage)),
         _ => read_shell_word(alloc, stage, at, text),
     }

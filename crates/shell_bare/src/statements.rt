@@ -8,12 +8,12 @@ ghost use Rattle.shell_bare.specs.Refused.{IsRefused};
 ghost use Rattle.shell_bare.specs.Statements.{IsBareText};
 ghost use Rattle.shell_bare.specs.declared.assignments.Assignment.{Assignment};
 ghost use Rattle.shell_bare.specs.declared.fault.BareFault.TheVariants.{OutOfMemory};
-ghost use Rattle.shell_bare.specs.declared.item.Stage.TheVariants.{Opening};
+ghost use Rattle.shell_bare.specs.declared.item.ReadStage.TheVariants.{Opening};
 
 use crate::assignments::{Assignment, Assignments};
 use crate::continuation::join_lines;
 use crate::fault::BareFault;
-use crate::item::{Stage, read_item};
+use crate::item::{ReadStage, read_item};
 use std::alloc::Global;
 
 fn push_assignment(
@@ -35,7 +35,7 @@ fn read_joined(alloc: Global, text: &[u8]) -> Result<Assignments, BareFault>
     ensures fault { IfErr result (IsBareFault (length text.now)) }
 {
     let mut list = Vec::new(alloc);
-    let mut stage = Stage::Opening;
+    let mut stage = ReadStage::Opening;
     let mut at = 0;
     while at < text.len() {
         let item = read_item(alloc, stage, at, &text[at..])?;

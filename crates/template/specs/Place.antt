@@ -2,7 +2,7 @@
 -- manual, "Preset Output Variables")
 use Rattle.std.specs.Prelude.{ℕ, zero, suc, ◌==◌, nat_eq, Bool, ◌||◌, List, ◌++◌, bytes_eq, codes, count_by, if◌then◌else◌}
 use Rattle.std.specs.List.{starts_with, before_last, after_last}
-use Rattle.template.specs.declared.paths.Place.{Place}
+use Rattle.template.specs.declared.paths.FileDirectories.{FileDirectories}
 
 -- The byte that separates the directories in a file's name. (own)
 abbrev pub is_slash : ℕ → Bool
@@ -51,7 +51,7 @@ sources_beside file srcdir =
 
 -- The four directory variables of a file, if `srcdir` is the top directory of the sources relative to that of the
 -- build. (Autoconf's manual, "Preset Output Variables")
-unfoldable pub place_of : List ℕ → List ℕ → Place
+unfoldable pub place_of : List ℕ → List ℕ → FileDirectories
 place_of file srcdir = record {
   srcdir = sources_beside file srcdir;
   top_srcdir = seen_from file srcdir;

@@ -34,6 +34,6 @@ pub mod table;
 
 pub use filling::{fill, has_one_filled_text};
 pub use header::{fill_header, has_one_header};
-pub use paths::{Place, configure_input, header_note, place_vars};
+pub use paths::{FileDirectories, configure_input, header_note, place_vars};
 pub use pieces::{Filler, pieces_join};
 pub use table::Table;

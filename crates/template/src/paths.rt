@@ -14,7 +14,7 @@ use std::alloc::{AllocError, Global};
 ///
 /// A relative name is relative to the directory of the output file.
 #[derive(Drop)]
-pub struct Place {
+pub struct FileDirectories {
     /// The source directory that corresponds to the directory of the output file.
     pub srcdir: Bytes,
     /// The top directory of the sources.
@@ -33,14 +33,14 @@ pub struct Place {
 /// of the build. No name is simplified: for `a/f` and `../s`, the top directory of the sources is
 /// `../../s`.
 #[tactic(auto, unfolding(crate::specs::Place::place_of))]
-pub fn place_vars(alloc: Global, file: &[u8], srcdir: &[u8]) -> Result<Place, AllocError>
+pub fn place_vars(alloc: Global, file: &[u8], srcdir: &[u8]) -> Result<FileDirectories, AllocError>
     ensures { IfOk result (λ place. place ≡ place_of file.now srcdir.now) }
 {
     let top_builddir = up(alloc, directory_count(file))?;
     let top_srcdir = seen_from(alloc, file, srcdir)?;
     let srcdir = sources_beside(alloc, file, srcdir)?;
     let builddir = Bytes::from_slice(alloc, b".")?;
-    Ok(Place {
+    Ok(FileDirectories {
         srcdir: Bytes::from_vec(srcdir),
         top_srcdir: Bytes::from_vec(top_srcdir),
         builddir,

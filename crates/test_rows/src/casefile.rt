@@ -11,7 +11,7 @@ use crate::texts::{put_repeated, put_unescaped};
 
 /// How the text of a section is written.
 #[derive(Clone, Copy)]
-enum Form {
+enum CaseForm {
     Plain,
     /// `--- NAME (escaped)`
     Escaped,
@@ -22,7 +22,7 @@ enum Form {
 #[derive(Clone, Copy)]
 pub struct Section<'a> {
     pub name: &'a [u8],
-    form: Form,
+    form: CaseForm,
     text: &'a [u8],
 }
 
@@ -50,11 +50,11 @@ pub fn next_section(sections: &[u8]) -> Option<(Section<'_>, &[u8])> {
     let (section, rest) = split_before(sections.strip_prefix(b"\n--- ")?, b"\n--- ");
     let (header, text) = cut(section, b"\n");
     let (name, form) = if let Some(name) = header.strip_suffix(b" (escaped)") {
-        (name, Form::Escaped)
+        (name, CaseForm::Escaped)
     } else if let Some(name) = header.strip_suffix(b" (repeated)") {
-        (name, Form::Repeated)
+        (name, CaseForm::Repeated)
     } else {
-        (header, Form::Plain)
+        (header, CaseForm::Plain)
     };
     Some((Section { name, form, text }, rest))
 }
@@ -76,9 +76,9 @@ impl<'a> Section<'a> {
     /// Puts the text that is meant.
     pub fn put(&self, page: &mut Page) {
         match self.form {
-            Form::Plain => page.put(self.text),
-            Form::Escaped => put_unescaped(page, self.text, 0),
-            Form::Repeated => put_repeated(page, self.text),
+            CaseForm::Plain => page.put(self.text),
+            CaseForm::Escaped => put_unescaped(page, self.text, 0),
+            CaseForm::Repeated => put_repeated(page, self.text),
         }
     }
 

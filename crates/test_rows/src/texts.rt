@@ -5,7 +5,7 @@ use crate::table::cut;
 
 /// Where in an escape a text is.
 #[derive(Clone, Copy)]
-enum Place {
+enum EscapePlace {
     Outside,
     /// After a backslash.
     Escape,
@@ -40,22 +40,24 @@ fn put_escape(page: &mut Page, byte: u8, number: usize) {
 }
 
 /// Puts what a byte means in its place, and returns the place after it.
-fn put_next(page: &mut Page, place: Place, byte: u8, number: usize) -> Place {
+fn put_next(page: &mut Page, place: EscapePlace, byte: u8, number: usize) -> EscapePlace {
     match place {
-        Place::Outside if byte == b'\\' => return Place::Escape,
-        Place::Outside => page.put_byte(byte),
-        Place::Escape if byte == b'x' => return Place::High,
-        Place::Escape => put_escape(page, byte, number),
-        Place::High => return Place::Low(digit_value(byte)),
-        Place::Low(high) => page.put_byte(high.wrapping_mul(16).wrapping_add(digit_value(byte))),
+        EscapePlace::Outside if byte == b'\\' => return EscapePlace::Escape,
+        EscapePlace::Outside => page.put_byte(byte),
+        EscapePlace::Escape if byte == b'x' => return EscapePlace::High,
+        EscapePlace::Escape => put_escape(page, byte, number),
+        EscapePlace::High => return EscapePlace::Low(digit_value(byte)),
+        EscapePlace::Low(high) => page.put_byte(
+            high.wrapping_mul(16).wrapping_add(digit_value(byte)),
+        ),
     }
-    Place::Outside
+    EscapePlace::Outside
 }
 
 /// Puts a text whose escapes are read: `\n`, `\t`, `\0`, `\\`, `\xHH`, `\#` for the number, and a
 /// backslash at the end of a line, which joins it with the next.
 pub fn put_unescaped(page: &mut Page, text: &[u8], number: usize) {
-    let mut place = Place::Outside;
+    let mut place = EscapePlace::Outside;
     for byte in text {
         place = put_next(page, place, *byte, number);
     }

@@ -2,7 +2,7 @@
 
 use deftable::is_shell_name;
 use std::test::Fail;
-use template::{Place, Table, configure_input, fill, has_one_filled_text, place_vars};
+use template::{FileDirectories, Table, configure_input, fill, has_one_filled_text, place_vars};
 use test_rows::{Page, RowCall, cut, try_rows};
 
 /// `fill`, the value of VAR and a template: what it makes if also A is `1` and B is empty. `repeat`
@@ -162,7 +162,7 @@ made a/out a/b/out.in => a/out.  Generated from out.in by configure.
 made out in => out.  Generated from in by configure.
 ";
 
-fn put_place(page: &mut Page, place: &Place) {
+fn put_place(page: &mut Page, place: &FileDirectories) {
     page.put(place.srcdir.as_slice());
     page.put(b" ");
     page.put(place.top_srcdir.as_slice());

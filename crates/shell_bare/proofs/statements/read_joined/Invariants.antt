@@ -1,5 +1,5 @@
 use Rattle.std.proofs.Common.{◌≡◌, ◌-◌, ◌≤◌, length, drop}
-use Rattle.shell_bare.specs.declared.item.Stage.TheVariants.{Opening}
+use Rattle.shell_bare.specs.declared.item.ReadStage.TheVariants.{Opening}
 use Rattle.shell_bare.specs.Reading.{statements_from}
 use Rattle.fallible.proofs.Pieces.{with_list}
 use Rattle.shell_bare.proofs.statements.read_joined.Given as goal

@@ -1,7 +1,7 @@
 use Rattle.std.proofs.Common.{sym, ◌∙◌}
 use Rattle.std.proofs.lemmas.Result.{err_from_is_err_and}
 use Rattle.options.proofs.Readings.{argument_read, argument_fails, arguments_end, gives_along}
-use Rattle.options.proofs.reader.Reader.read_all.Goals as goal
+use Rattle.options.proofs.reader.ReadArguments.read_all.Goals as goal
 
 pub returns-in_err-read : goal.returns-in_err-read
 returns-in_err-read c =
