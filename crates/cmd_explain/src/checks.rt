@@ -44,7 +44,7 @@ pub(crate) fn open_check(log: &[Entry]) -> Option<&[u8]> {
 }
 
 /// Returns the place in a log of the child of this number, which is 1 for the first.
-pub(crate) fn place_of(log: &[Entry], number: u64) -> Option<usize> {
+pub(crate) fn index_of_child(log: &[Entry], number: u64) -> Option<usize> {
     let mut children = 0u64;
     for i in 0..log.len() {
         if let Entry::Child { .. } = &log[i] {

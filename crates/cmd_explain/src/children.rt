@@ -2,7 +2,7 @@
 
 ghost use Rattle.std.specs.Prelude.{◌≡◌, false};
 
-use crate::checks::{conftest_in, open_check, place_of, put_command, put_cut, words_in};
+use crate::checks::{conftest_in, index_of_child, open_check, put_command, put_cut, words_in};
 use crate::lines::put_words;
 use crate::shortages::names_shortage;
 use crew_refusals::{Causes, shown};
@@ -81,7 +81,7 @@ fn child_words(
     let front = format!(in alloc; "child {number}")?;
     let mut words = Vec::from_slice(alloc, front.as_bytes())?;
     let mut conftest = None;
-    if let Some(place) = place_of(log, number) {
+    if let Some(place) = index_of_child(log, number) {
         if place < log.len() {
             let child = &log[place];
             put_place(alloc, &mut words, &log[..place], child)?;
@@ -166,7 +166,7 @@ pub fn explain_cut<C: Causes, E: Write>(
     if is_asked {
         if let Some(cause) = crew.cause(number) {
             put_made(alloc, child_words(alloc, number, log, cause), errors);
-            if let Some(place) = place_of(log, number) {
+            if let Some(place) = index_of_child(log, number) {
                 if place < log.len() {
                     put_program(alloc, &log[place], cause, errors);
                 }

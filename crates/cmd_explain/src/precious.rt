@@ -88,7 +88,7 @@ fn of_cache(
 }
 
 /// Returns the place of the variable among those of the source, which is 1 for the first.
-fn place_of(fault: PreciousFault) -> u64 {
+fn number_of(fault: PreciousFault) -> u64 {
     match fault {
         PreciousFault::WasSet(place)
         | PreciousFault::WasUnset(place)
@@ -104,6 +104,6 @@ pub(crate) fn of_precious(
     given: &Given<'_>,
     fault: PreciousFault,
 ) -> Result<Words, AllocError> {
-    let name = numbered(given.source.precious().names(), place_of(fault));
+    let name = numbered(given.source.precious().names(), number_of(fault));
     of_cache(alloc, given.settings, given.cache, name)
 }

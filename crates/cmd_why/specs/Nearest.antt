@@ -53,9 +53,9 @@ distance_to word message =
     if nat_lt 128 (length (core_of message)) || nat_lt 128 (length word) then None else if_near word (map compared (core_of message))
 
 -- How many of these are first, and no further than this. (own)
-abbrev pub place_of : ℕ → List Near → ℕ
-place_of distance [] = 0
-place_of distance (near ∷ more) = if nat_lt distance near.distance then 0 else suc (place_of distance more)
+abbrev pub rank_of : ℕ → List Near → ℕ
+rank_of distance [] = 0
+rank_of distance (near ∷ more) = if nat_lt distance near.distance then 0 else suc (rank_of distance more)
 
 -- A check with this message is among these. (own)
 abbrev pub has_message : List ℕ → List Near → Bool
@@ -65,7 +65,7 @@ has_message message (near ∷ more) = if bytes_eq near.message message then true
 -- One more in a list that is in order of distance. (own)
 abbrev pub placed : List Near → Near → List Near
 placed nearest near =
-    take (place_of near.distance nearest) nearest ++ near ∷ drop (place_of near.distance nearest) nearest
+    take (rank_of near.distance nearest) nearest ++ near ∷ drop (rank_of near.distance nearest) nearest
 
 -- The nearest five of these and one more, unless its message is there. (own)
 unfoldable pub with_near : List Near → Near → List Near

@@ -102,8 +102,8 @@ fn distance_to(alloc: Global, word: &[u8], message: &[u8]) -> Result<Option<usiz
 }
 
 /// Returns how many of these are first, and no further than this.
-fn place_of(nearest: &[Near<'_>], distance: usize) -> usize
-    ensures place { result ≡ specs.place_of distance (map near_seen nearest.now) }
+fn rank_of(nearest: &[Near<'_>], distance: usize) -> usize
+    ensures place { result ≡ specs.rank_of distance (map near_seen nearest.now) }
     ensures within { result ≤ length nearest.now }
 {
     let mut place = 0usize;
@@ -158,7 +158,7 @@ fn add_near<'a>(nearest: &mut Vec<Near<'a>>, near: Near<'a>) -> Result<(), Alloc
     if has_message(nearest, near.message) {
         return Ok(());
     }
-    let place = place_of(nearest.as_slice(), near.distance);
+    let place = rank_of(nearest.as_slice(), near.distance);
     insert_near(nearest, place, near)
 }
 

@@ -63,9 +63,9 @@ unfoldable pub after_start : ℕ → Job → Scripted → Scripted
 after_start slot job m = started_with m.replies slot job m
 
 -- The index of the child in a slot, or of the oldest child if the slot has none or none is given. (own)
-abbrev pub place_of : Option ℕ → List Child → ℕ
-place_of None children = 0
-place_of (Some slot) children = unwrap_or (position (λ child. child.slot == slot) children) 0
+abbrev pub place_in_flight : Option ℕ → List Child → ℕ
+place_in_flight None children = 0
+place_in_flight (Some slot) children = unwrap_or (position (λ child. child.slot == slot) children) 0
 
 -- The first slot of a list, if any. (own)
 abbrev pub first_of : List ℕ → Option ℕ
@@ -81,7 +81,7 @@ others_of (slot ∷ rest) = rest
 abbrev pub place : Order → List Child → ℕ
 place Oldest children = 0
 place Youngest children = length children - 1
-place (Slots slots) children = place_of (first_of slots) children
+place (Slots slots) children = place_in_flight (first_of slots) children
 
 -- The order after an end, which removes the first slot of a list. (own)
 abbrev pub order_after : Order → Order

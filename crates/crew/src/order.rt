@@ -63,14 +63,14 @@ pub(crate) fn next_place(order: &mut Order, children: &[Flight]) -> usize
         Order::Youngest => children.len() - 1,
         Order::Slots(slots) => {
             let slot = slots.take_first();
-            place_of(slot, children)
+            place_in_flight(slot, children)
         }
     }
 }
 
-fn place_of(slot: Option<usize>, children: &[Flight]) -> usize
+fn place_in_flight(slot: Option<usize>, children: &[Flight]) -> usize
     requires { 0 < length children.now }
-    ensures place { result ≡ scripted.place_of slot children.now }
+    ensures place { result ≡ scripted.place_in_flight slot children.now }
     ensures within { result < length children.now }
 {
     match slot {

@@ -68,7 +68,7 @@ use Rattle.status_record.specs.declared.record.Record.{Record}
 use Rattle.output_list.specs.Path.{is_path}
 use Rattle.template.specs.Fill.{before_at, filled, filled_after, key_at_front}
 use Rattle.template.specs.Header.{directive_after, directive_of, headed_line, keyword_at, name_after, name_at, newline_of, rest_after as text_after}
-use Rattle.template.specs.Place.{configure_input_of, header_note_of, place_of, seen_from, sources_beside, up}
+use Rattle.template.specs.Place.{configure_input_of, header_note_of, directories_of, seen_from, sources_beside, up}
 use Rattle.text_cut.specs.Cuts.{parts, parts_by}
 
 -- ---- the settings and the start
@@ -203,14 +203,14 @@ abbrev handed : List Artifact
 handed = disks.handed cache_text (record_text recorded) makefile_text header_text_made (log_of report.log)
 
 handed_is : artifacts the.source start templates report ≡ handed
-unfolding on_records artifacts_of made made_file made_header file_table with_place place_of seen_from sources_beside up configure_input_of header_note_of before_at key_at_front filled_after directive_after directive_of headed_line keyword_at name_after name_at newline_of text_after lines_from line_len
+unfolding on_records artifacts_of made made_file made_header file_table with_place directories_of seen_from sources_beside up configure_input_of header_note_of before_at key_at_front filled_after directive_after directive_of headed_line keyword_at name_after name_at newline_of text_after lines_from line_len
 handed_is = refl
 
 makes : RemakesAgree → Remakes the.source start templates report
 makes law = law the.source start templates report refl reads_back
 
 remakes : remade (record_text recorded) templates [] ≡ Ok the.outputs
-unfolding on_records remade made_again present made made_file made_header file_table with_place place_of seen_from sources_beside up configure_input_of header_note_of before_at key_at_front filled_after directive_after directive_of headed_line keyword_at name_after name_at newline_of text_after lines_from line_len
+unfolding on_records remade made_again present made made_file made_header file_table with_place directories_of seen_from sources_beside up configure_input_of header_note_of before_at key_at_front filled_after directive_after directive_of headed_line keyword_at name_after name_at newline_of text_after lines_from line_len
 remakes = ap (λ r. named of_record r >>= λ r. made_again r templates []) reads_back
 
 -- ---- what is read

@@ -9,7 +9,7 @@ use Rattle.output_put.specs.declared.artifact.Artifact.{Artifact}
 use Rattle.status_record.specs.declared.record.Record.{Record}
 use Rattle.template.specs.Fill.{filled}
 use Rattle.template.specs.Header.{headed}
-use Rattle.template.specs.Place.{place_of, configure_input_of, header_note_of}
+use Rattle.template.specs.Place.{directories_of, configure_input_of, header_note_of}
 use Rattle.template.specs.declared.paths.FileDirectories.{FileDirectories}
 use Rattle.output_make.specs.Choice.{template_of, chosen}
 use Rattle.output_make.specs.Variables.{output_variables}
@@ -36,7 +36,7 @@ with_place table place =
 -- (Autoconf's manual, "Preset Output Variables")
 unfoldable pub file_table : Record → Output → List (List ℕ × List ℕ)
 file_table r o =
-    with_place (with_entry r.vars (codes "configure_input") (configure_input_of o.name o.template)) (place_of o.name r.srcdir)
+    with_place (with_entry r.vars (codes "configure_input") (configure_input_of o.name o.template)) (directories_of o.name r.srcdir)
 
 -- The file that is made of this template. (Autoconf's manual, "Configuration Files")
 abbrev pub file_of : Record → List ℕ → Output → Artifact

@@ -4,7 +4,7 @@ ghost use Rattle.std.specs.Prelude.{◌≡◌, [], ◌∷◌, ◌++◌, map, cod
 ghost use Rattle.deftable.specs.Table.{with_entry};
 ghost use Rattle.output_make.specs.Choice.{chosen};
 ghost use Rattle.output_make.specs.Making as words;
-ghost use Rattle.template.specs.Place.{configure_input_of, place_of};
+ghost use Rattle.template.specs.Place.{configure_input_of, directories_of};
 
 use crate::choosing::{is_chosen, template_of, text_of};
 use crate::lookup::Templates;
@@ -58,7 +58,7 @@ fn add_own(alloc: Global, table: &mut Table, file: &Output, srcdir: &[u8]) -> Re
         ≡ words.with_place (
         with_entry table.old (codes "configure_input") (
         configure_input_of file.now.name
-        file.now.template)) (place_of file.now.name srcdir.now)) }
+        file.now.template)) (directories_of file.now.name srcdir.now)) }
 {
     add_input(alloc, table, file)?;
     let place = place_vars(alloc, file.name.as_slice(), srcdir)?;

@@ -18,12 +18,12 @@ abbrev pub row_of : List ℕ → ℕ
 row_of k = slice_index k 0 % 64
 
 -- The bit of a text in its row, by its last byte and its length. (own)
-abbrev pub place_of : List ℕ → ℕ
-place_of k = (slice_index k (length k - 1) + length k) % 64
+abbrev pub end_slot : List ℕ → ℕ
+end_slot k = (slice_index k (length k - 1) + length k) % 64
 
 -- The sieve accepts the text: its bit is set. (own)
 unfoldable pub Passes : List ℕ → List ℕ → Type 0
-Passes rows k = bit_at (slice_index rows (row_of k)) (place_of k) ≡ 1
+Passes rows k = bit_at (slice_index rows (row_of k)) (end_slot k) ≡ 1
 
 -- The sieve accepts each key. (own)
 abbrev pub AllPass : List ℕ → List (List ℕ × List ℕ) → Type 0

@@ -51,8 +51,8 @@ sources_beside file srcdir =
 
 -- The four directory variables of a file, if `srcdir` is the top directory of the sources relative to that of the
 -- build. (Autoconf's manual, "Preset Output Variables")
-unfoldable pub place_of : List ℕ → List ℕ → FileDirectories
-place_of file srcdir = record {
+unfoldable pub directories_of : List ℕ → List ℕ → FileDirectories
+directories_of file srcdir = record {
   srcdir = sources_beside file srcdir;
   top_srcdir = seen_from file srcdir;
   builddir = codes ".";

@@ -3,7 +3,7 @@
 
 ghost use Rattle.std.specs.Prelude.{◌≡◌, ◌++◌, ◌<◌, IfOk, codes};
 ghost use Rattle.template.specs.Place as words;
-ghost use Rattle.template.specs.Place.{place_of, configure_input_of, header_note_of};
+ghost use Rattle.template.specs.Place.{directories_of, configure_input_of, header_note_of};
 
 use deftable::Bytes;
 use memchr::memrchr;
@@ -32,9 +32,9 @@ pub struct FileDirectories {
 /// `srcdir` is the top directory of the sources, either absolute or relative to the top directory
 /// of the build. No name is simplified: for `a/f` and `../s`, the top directory of the sources is
 /// `../../s`.
-#[tactic(auto, unfolding(crate::specs::Place::place_of))]
+#[tactic(auto, unfolding(crate::specs::Place::directories_of))]
 pub fn place_vars(alloc: Global, file: &[u8], srcdir: &[u8]) -> Result<FileDirectories, AllocError>
-    ensures { IfOk result (λ place. place ≡ place_of file.now srcdir.now) }
+    ensures { IfOk result (λ place. place ≡ directories_of file.now srcdir.now) }
 {
     let top_builddir = up(alloc, directory_count(file))?;
     let top_srcdir = seen_from(alloc, file, srcdir)?;

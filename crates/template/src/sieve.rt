@@ -30,7 +30,7 @@ impl Sieve {
         ensures kept { (other : List ℕ) → Passes self.old other → Passes self.new other }
     {
         let row = row_of(text);
-        self.rows[row] |= 1 << place_of(text);
+        self.rows[row] |= 1 << end_slot(text);
     }
 
     /// Returns whether the text may be one of those that were added.
@@ -39,7 +39,7 @@ impl Sieve {
     pub(crate) fn lets_through(&self, text: &[u8]) -> bool
         ensures { IsTrue result ↔ Passes self.now text.now }
     {
-        (self.rows[row_of(text)] >> place_of(text)) & 1 != 0
+        (self.rows[row_of(text)] >> end_slot(text)) & 1 != 0
     }
 }
 
@@ -55,8 +55,8 @@ fn row_of(text: &[u8]) -> usize
 }
 
 #[inline(always)]
-fn place_of(text: &[u8]) -> usize
-    ensures place { result ≡ keys.place_of text.now }
+fn end_slot(text: &[u8]) -> usize
+    ensures place { result ≡ keys.end_slot text.now }
     ensures small { result < 64 }
 {
     match text.last() {

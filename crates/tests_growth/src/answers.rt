@@ -7,7 +7,7 @@ use engine::{Artifact, Fault, Kind, Outcome, RemakeFault, Report};
 
 /// What is found of a call.
 #[derive(Clone, Copy, PartialEq, Eq)]
-pub enum Found {
+pub enum Verdict {
     /// It answers what it does with ample memory, and hands all of it over.
     Whole,
     /// It answers that memory ran out, and nothing is handed over.
@@ -251,34 +251,34 @@ fn is_front(handed: &[Artifact], artifacts: &[RightThing]) -> bool {
     true
 }
 
-fn found_of_puts(is_all: bool, is_right: bool, otherwise: Found) -> Found {
+fn found_of_puts(is_all: bool, is_right: bool, otherwise: Verdict) -> Verdict {
     match (is_right, is_all) {
-        (false, _) => Found::Wrong,
-        (true, true) => Found::Whole,
+        (false, _) => Verdict::Wrong,
+        (true, true) => Verdict::Whole,
         (true, false) => otherwise,
     }
 }
 
 /// Returns what is found of an answer and of what was handed over.
-pub fn found_of(told: Told, handed: &[Artifact], right: &Right) -> Found {
+pub fn found_of(told: Told, handed: &[Artifact], right: &Right) -> Verdict {
     let count = handed.len() as u64;
     let is_all = handed.len() == right.artifacts.len();
     let is_right = is_front(handed, right.artifacts);
     match told {
         Told::Right(puts) => {
             let is_right = is_right && right.refused == 0 && puts == count;
-            found_of_puts(is_all, is_right, Found::Wrong)
+            found_of_puts(is_all, is_right, Verdict::Wrong)
         }
         Told::PutRefused(number) => {
             let is_right = is_right && number == count.saturating_add(1);
             found_of_puts(
                 is_all && number == right.refused,
                 is_right,
-                Found::PutRefused,
+                Verdict::PutRefused,
             )
         }
-        Told::OutOfMemory if handed.is_empty() => Found::OutOfMemory,
-        _ => Found::Wrong,
+        Told::OutOfMemory if handed.is_empty() => Verdict::OutOfMemory,
+        _ => Verdict::Wrong,
     }
 }
 

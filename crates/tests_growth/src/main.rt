@@ -21,7 +21,7 @@ mod rows;
 mod runs;
 mod wanted;
 
-use answers::Found;
+use answers::Verdict;
 use records::{found_of_record, found_of_remake};
 use rows::{
     CACHED_RUN, HEADER_RUN, LIST_RUN, OUTPUTS_RUN, RECORD, REMAKE, UNKNOWN_TAG, VALUE_OF_A,
@@ -40,10 +40,10 @@ const RUNS: [(&str, Run); 5] = [
 ];
 
 /// Returns the name of the first run that has no whole answer, and what is found of it.
-fn first_run(alloc: Global) -> Option<(&'static str, Found)> {
+fn first_run(alloc: Global) -> Option<(&'static str, Verdict)> {
     for (name, run) in &RUNS {
         let found = found_of_run(alloc, run);
-        if found != Found::Whole {
+        if found != Verdict::Whole {
             return Some((*name, found));
         }
     }
@@ -51,21 +51,21 @@ fn first_run(alloc: Global) -> Option<(&'static str, Found)> {
 }
 
 /// Returns the same of the records.
-fn first_record(alloc: Global) -> Option<(&'static str, Found)> {
+fn first_record(alloc: Global) -> Option<(&'static str, Verdict)> {
     let found = [
         ("remake", found_of_remake(alloc, &REMAKE)),
         ("tag", found_of_remake(alloc, &UNKNOWN_TAG)),
         ("record", found_of_record(alloc, RECORD, VALUE_OF_A)),
     ];
     for (name, found) in found {
-        if found != Found::Whole {
+        if found != Verdict::Whole {
             return Some((name, found));
         }
     }
     None
 }
 
-fn first(alloc: Global) -> Option<(&'static str, Found)> {
+fn first(alloc: Global) -> Option<(&'static str, Verdict)> {
     match first_run(alloc) {
         Some(found) => Some(found),
         None => first_record(alloc),
@@ -74,11 +74,11 @@ fn first(alloc: Global) -> Option<(&'static str, Found)> {
 
 fn main(rt: HostRuntime) -> ExitCode {
     let status = match first(rt.alloc()) {
-        None | Some((_, Found::Whole)) => 0,
-        Some((_, Found::OutOfMemory)) => 3,
-        Some((_, Found::PutRefused)) => 4,
-        Some((_, Found::NotCalled)) => 2,
-        Some((name, Found::Wrong)) => {
+        None | Some((_, Verdict::Whole)) => 0,
+        Some((_, Verdict::OutOfMemory)) => 3,
+        Some((_, Verdict::PutRefused)) => 4,
+        Some((_, Verdict::NotCalled)) => 2,
+        Some((name, Verdict::Wrong)) => {
             let _ = println!(rt; "{name}");
             0
         }

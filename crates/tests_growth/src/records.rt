@@ -2,7 +2,7 @@
 
 ghost use Rattle.std.specs.Prelude.{◌≡◌};
 
-use crate::answers::{Found, Right, Told, found_of, told_of};
+use crate::answers::{Right, Told, Verdict, found_of, told_of};
 use crate::given::{Pair, joined, pairs_of, texts_of};
 use deftable::Bytes;
 use engine::{MemoryOutputs, Outputs, remake};
@@ -41,14 +41,14 @@ fn found_given(
     text: &[u8],
     templates: &[(Bytes, Bytes)],
     tags: &[Bytes],
-) -> Found {
+) -> Verdict {
     let mut outputs = MemoryOutputs::new(alloc, call.right.refused);
     let told = told_over(alloc, call, text, templates, tags, &mut outputs);
     found_of(told, outputs.handed(), &call.right)
 }
 
 /// Returns what is found of outputs that are made again.
-pub fn found_of_remake(alloc: Global, call: &Remake) -> Found {
+pub fn found_of_remake(alloc: Global, call: &Remake) -> Verdict {
     let text = joined(alloc, call.text);
     let templates = pairs_of(alloc, call.templates);
     let tags = texts_of(alloc, call.tag);
@@ -60,24 +60,24 @@ pub fn found_of_remake(alloc: Global, call: &Remake) -> Found {
             templates.as_slice(),
             tags.as_slice(),
         ),
-        _ => Found::NotCalled,
+        _ => Verdict::NotCalled,
     }
 }
 
 /// Returns what is found of a record that is read and written again. Its variable A has this value.
-pub fn found_of_record(alloc: Global, text: &[u8], value: &[u8]) -> Found {
+pub fn found_of_record(alloc: Global, text: &[u8], value: &[u8]) -> Verdict {
     let record = match read_record(alloc, text) {
         Ok(record) => record,
-        Err(RecordFault::OutOfMemory) => return Found::OutOfMemory,
-        Err(_) => return Found::Wrong,
+        Err(RecordFault::OutOfMemory) => return Verdict::OutOfMemory,
+        Err(_) => return Verdict::Wrong,
     };
     let is_right = record
         .vars
         .get(b"A")
         .is_some_and(|found| found.as_slice() == value);
     match write_record(alloc, &record) {
-        Ok(written) if is_right && written.as_slice() == text => Found::Whole,
-        Ok(_) => Found::Wrong,
-        Err(_) => Found::OutOfMemory,
+        Ok(written) if is_right && written.as_slice() == text => Verdict::Whole,
+        Ok(_) => Verdict::Wrong,
+        Err(_) => Verdict::OutOfMemory,
     }
 }

@@ -3,7 +3,7 @@
 ghost use Rattle.std.specs.Prelude.{◌≡◌, ◌+◌, ◌^◌, ◌≤◌, []};
 ghost use Rattle.engine.specs.Configured.{IsWindow, MayRun};
 
-use crate::answers::{Found, Right, Told, found_of, told_of, told_with};
+use crate::answers::{Right, Told, Verdict, found_of, told_of, told_with};
 use crate::given::{Pair, pairs_of, replies_of, texts_of};
 use crew::{Crew, MemoryCrew, Order};
 use deftable::Bytes;
@@ -116,18 +116,18 @@ fn told_with_crew<O: Outputs>(
     }
 }
 
-fn found_given(alloc: Global, run: &Run, given: &Given) -> Found {
+fn found_given(alloc: Global, run: &Run, given: &Given) -> Verdict {
     let mut outputs = MemoryOutputs::new(alloc, run.right.refused);
     match told_with_crew(alloc, run, given, &mut outputs) {
         Some(told) => found_of(told, outputs.handed(), &run.right),
-        None => Found::NotCalled,
+        None => Verdict::NotCalled,
     }
 }
 
 /// Returns what is found of a run.
-pub fn found_of_run(alloc: Global, run: &Run) -> Found {
+pub fn found_of_run(alloc: Global, run: &Run) -> Verdict {
     match &given_of(alloc, run) {
         Ok(given) => found_given(alloc, run, given),
-        Err(_) => Found::NotCalled,
+        Err(_) => Verdict::NotCalled,
     }
 }
