@@ -1,10 +1,12 @@
 -- What a reader has found if it succeeds.
 use Rattle.std.proofs.Common.{◌≡◌, ◌∙◌, ap, sym, subst, ℕ, List, [], ◌∷◌, ◌++◌, map, Result, Ok, Err, Option, Some, None}
 use Rattle.std.specs.Prelude.{Bool, IfOk, IfSome, IsTrue, codes}
+use Rattle.std.proofs.lemmas.List.{map_push}
 use Rattle.m4quote.specs.ItemValue.{ItemValue}
 use Rattle.m4quote.specs.Spelling.{IsSpelling}
 use Rattle.port_compounds.specs.Cases as cases
 use Rattle.port_compounds.specs.Guards as guards
+use Rattle.port_compounds.specs.Ifs as ifs
 use Rattle.port_compounds.specs.Places.{IsWord}
 
 -- What follows from what a `true` says holds of the `true`.
@@ -29,38 +31,28 @@ pub called_by : {V : Type 0} (view : V → List ItemValue) (text : List ℕ) (it
     → guards.AreOneCommand (view given) → guards.IsOneCommand text
 called_by view text items given same reads are = guards.IsOneCommand.called (view items) reads (subst (λ i. guards.AreOneCommand (view i)) same are)
 
+-- The parts of a statement after `&&`.
+pub and_with : (text : List ℕ) (start end : ℕ) (test done : List ℕ) → guards.IsJoined text start (codes "&&") end test done
+    → guards.AreGuardParts text start end (test ∷ done ∷ [])
+and_with text start end test done is = guards.AreGuardParts.and is
+
+-- The parts of a statement after `||`, with nothing between them.
+pub or_with : (text : List ℕ) (start end : ℕ) (test empty done : List ℕ) → empty ≡ [] → guards.IsJoined text start (codes "||") end test done
+    → guards.AreGuardParts text start end (test ∷ empty ∷ done ∷ [])
+or_with text start end test empty done none is = subst (λ e. guards.AreGuardParts text start end (test ∷ e ∷ done ∷ [])) (sym none) (guards.AreGuardParts.or is)
+
 -- What is said of a `Some` holds of what is in it.
-of_some : {V : Type 0} (P : V → Type 0) (o : Option V) (v : V) → o ≡ Some v → IfSome o P → P v
+pub of_some : {V : Type 0} (P : V → Type 0) (o : Option V) (v : V) → o ≡ Some v → IfSome o P → P v
 of_some P o v is p = subst (λ o. IfSome o P) is p
 
--- A condition and a statement with a joint between them.
-joined : {V : Type 0} (view : V → List ℕ) (text : List ℕ) (start at after end : ℕ) (joint : List ℕ) (first last : Option V) (test done : V)
-    → first ≡ Some test → last ≡ Some done → IfSome first (λ v. guards.IsConditionBefore text start at (view v)) → IsWord text at joint after
-    → IfSome last (λ v. guards.IsStatementAfter text after end (view v)) → guards.IsJoined text start joint end (view test) (view done)
-joined view text start at after end joint first last test done is_first is_last tests word does =
+-- The condition and the body of a branch.
+pub branch_added : {V : Type 0} (view : V → List ℕ) (text : List ℕ) (start at after end : ℕ) (old mid new : List V) (test done : V)
+    → ifs.IsCondition text start at (view test) → IsWord text at (codes "then") after → ifs.IsBody text after end (view done) → mid ≡ old ++ test ∷ [] → new ≡ mid ++ done ∷ []
+    → ifs.AddsBranch text start end (map view old) (map view new)
+branch_added view text start at after end old mid new test done tests word does one two =
     record {
-      at = at;
-      after = after;
-      tests = of_some (λ v. guards.IsConditionBefore text start at (view v)) first test is_first tests;
-      joins = word;
-      does = of_some (λ v. guards.IsStatementAfter text after end (view v)) last done is_last does;
+      condition = view test;
+      body = view done;
+      branch = record { at_then = at; after_then = after; tests = tests; word = word; does = does };
+      added = ap (map view) two ∙ map_push view mid done ∙ ap (λ m. m ++ view done ∷ []) (ap (map view) one ∙ map_push view old test);
     }
-
--- The parts of a statement after `&&`.
-pub and_pushed : {V : Type 0} (view : V → List ℕ) (text : List ℕ) (start at after end : ℕ) (old mid new : List V) (first last : Option V) (test done : V) → old ≡ []
-    → first ≡ Some test → last ≡ Some done → mid ≡ old ++ test ∷ [] → new ≡ mid ++ done ∷ [] → IfSome first (λ v. guards.IsConditionBefore text start at (view v))
-    → IsWord text at (codes "&&") after → IfSome last (λ v. guards.IsStatementAfter text after end (view v)) → guards.AreGuardParts text start end (map view new)
-and_pushed view text start at after end old mid new first last test done none is_first is_last one two tests word does =
-    subst (λ n. guards.AreGuardParts text start end (map view n)) (sym (two ∙ ap (λ m. m ++ done ∷ []) (one ∙ ap (λ o. o ++ test ∷ []) none)))
-    (guards.AreGuardParts.and (joined view text start at after end (codes "&&") first last test done is_first is_last tests word does))
-
--- The parts of a statement after `||`.
-pub or_pushed : {V : Type 0} (view : V → List ℕ) (text : List ℕ) (start at after end : ℕ) (old mid more new : List V) (first last : Option V) (test empty done : V)
-    → old ≡ [] → first ≡ Some test → last ≡ Some done → mid ≡ old ++ test ∷ [] → more ≡ mid ++ empty ∷ [] → new ≡ more ++ done ∷ [] → view empty ≡ []
-    → IfSome first (λ v. guards.IsConditionBefore text start at (view v)) → IsWord text at (codes "||") after
-    → IfSome last (λ v. guards.IsStatementAfter text after end (view v)) → guards.AreGuardParts text start end (map view new)
-or_pushed view text start at after end old mid more new first last test empty done none is_first is_last one two three nothing tests word does =
-    subst (λ n. guards.AreGuardParts text start end (map view n))
-    (sym (three ∙ ap (λ m. m ++ done ∷ []) (two ∙ ap (λ m. m ++ empty ∷ []) (one ∙ ap (λ o. o ++ test ∷ []) none))))
-    (subst (λ e. guards.AreGuardParts text start end (view test ∷ e ∷ view done ∷ [])) (sym nothing)
-    (guards.AreGuardParts.or (joined view text start at after end (codes "||") first last test done is_first is_last tests word does)))

@@ -1,7 +1,7 @@
 -- The `case` of a shell between two offsets of a text, and its parts: its word, the patterns and the body of each branch, and the body of
 -- a last branch whose pattern is `*`. (POSIX shell, 2.9.4.3 "Case Conditional Construct")
 use Rattle.std.specs.Prelude.{◌≡◌, ◌⊎◌, ℕ, ◌+◌, ◌<◌, ◌≤◌, true, List, [], ◌∷◌, ◌++◌, slice_range, slice_index, codes}
-use Rattle.port_compounds.specs.Parts.{HasPlainEnd, IsAtLineStart, IsBeforeSemicolon, IsNotEscaped, IsPlainLine, IsStatement}
+use Rattle.port_compounds.specs.Parts.{EndsLast, HasPlainEnd, IsAtLineStart, IsBodyOf, IsNotEscaped, IsPlainLine, IsStatement}
 use Rattle.port_compounds.specs.Places.{is_blank_or_return, AreBlank, AreSpaces, IsWord}
 
 -- ---- the word
@@ -51,19 +51,6 @@ pub record IsBeforeSpaces (text : List ℕ) (from to end : ℕ) : Type 0 where
 -- A body before `;;` ends in the newline of its last line, or before spaces.
 abbrev pub EndsBefore : List ℕ → ℕ → ℕ → ℕ → Type 0
 EndsBefore text from to end = ((to ≡ end) × IsAtLineStart text from to) ⊎ IsBeforeSpaces text from to end
-
--- A body before `esac` ends in the newline of its last line, or before a `;`.
-abbrev pub EndsLast : List ℕ → ℕ → ℕ → ℕ → Type 0
-EndsLast text from to end = ((to ≡ end) × IsAtLineStart text from to) ⊎ IsBeforeSemicolon text from to end
-
--- Between two offsets is this body, which ends so.
-pub record IsBodyOf (Ends : List ℕ → ℕ → ℕ → ℕ → Type 0) (text : List ℕ) (start end : ℕ) (body : List ℕ) : Type 0 where
-  pub from : ℕ
-  pub to : ℕ
-  pub order : (start ≤ from) × (from ≤ to) × (to ≤ end)
-  pub before : AreSpaces text start from
-  pub ends : Ends text from to end
-  pub is : body ≡ slice_range text from to
 
 -- ---- branches
 

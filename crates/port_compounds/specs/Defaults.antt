@@ -1,5 +1,5 @@
 -- An assignment to a variable of its own value, or of a word if that is empty. (POSIX shell, 2.6.2 "Parameter Expansion")
-use Rattle.std.specs.Prelude.{◌≡◌, ◌⊎◌, ℕ, true, List, [], ◌∷◌, ◌++◌, slice_range, codes}
+use Rattle.std.specs.Prelude.{◌≡◌, ℕ, true, List, [], ◌∷◌, ◌++◌, slice_range, codes}
 use Rattle.std.specs.List.{list_all}
 use Rattle.port_compounds.specs.Parts.{IsPlainLine}
 use Rattle.port_compounds.specs.Places.{BeginsStatement, EndsStatement}

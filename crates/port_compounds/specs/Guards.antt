@@ -28,11 +28,11 @@ BeginsName text at = (at ≡ 0) ⊎ (may_begin_name (slice_index text (at - 1)) 
 
 -- At this offset is `set`, and an option may follow it. With a letter or `_` before it, it is the end of another word. (POSIX shell, 2.14 "set")
 abbrev pub IsSetAt : List ℕ → ℕ → Type 0
-IsSetAt text at = (slice_range text at (at + 3) ≡ codes "set") × BeginsName text at × IsBeforeOption text (at + 3)
+IsSetAt text at = IsWord text at (codes "set") (at + 3) × BeginsName text at × IsBeforeOption text (at + 3)
 
 -- At this offset is `$?`, the status of a command, or a shell may be asked to end at one. (POSIX shell, 2.5.2 "Special Parameters")
 unfoldable pub IsStatusAt : List ℕ → ℕ → Type 0
-IsStatusAt text at = (slice_range text at (at + 2) ≡ codes "$?") ⊎ IsSetAt text at
+IsStatusAt text at = IsWord text at (codes "$?") (at + 2) ⊎ IsSetAt text at
 
 -- The text has this at some place.
 abbrev pub ReadsStatus : List ℕ → Type 0

@@ -1,9 +1,9 @@
 -- The `if` of a shell between two offsets of a text, and its parts: the first condition, the first body, the next condition, the next
 -- body and so on, and the body after `else`. (POSIX shell, 2.9.4.1 "The if Conditional Construct")
-use Rattle.std.specs.Prelude.{◌≡◌, ◌⊎◌, ℕ, ◌<◌, ◌≤◌, true, List, [], ◌∷◌, ◌++◌, slice_range, slice_index, codes}
+use Rattle.std.specs.Prelude.{◌≡◌, ℕ, ◌<◌, ◌≤◌, true, List, [], ◌∷◌, ◌++◌, slice_range, slice_index, codes}
 use Rattle.m4quote.specs.ItemValue.{bare}
 use Rattle.m4quote.specs.Spelling.{IsSpelling}
-use Rattle.port_compounds.specs.Parts.{IsListEnd, IsAtLineStart, IsBeforeSemicolon, IsStatement}
+use Rattle.port_compounds.specs.Parts.{EndsLast, IsBodyOf, IsListEnd, IsStatement}
 use Rattle.port_compounds.specs.Places.{HasNoHash, is_blank_or_return, AreBlank, IsWord}
 
 -- Between two offsets is a condition, which ends before a `;` or a newline. It has no `#`. (own)
@@ -21,19 +21,9 @@ pub record IsCondition (text : List ℕ) (start end : ℕ) (condition : List ℕ
   pub is : condition ≡ slice_range text from to
   pub plain : IsSpelling 0 condition (bare condition 0 ∷ [])
 
--- Between two offsets is a body, after at least one blank. It ends in the newline of its last line, or a `;` follows it. (own)
-pub record IsBodyAt (text : List ℕ) (start end from to : ℕ) : Type 0 where
-  pub order : (start ≤ from) × (from ≤ to) × (to ≤ end)
-  pub begins : is_blank_or_return (slice_index text start) ≡ true
-  pub before : AreBlank text start from
-  pub after : ((to ≡ end) × IsAtLineStart text from to) ⊎ IsBeforeSemicolon text from to end
-
--- Between these offsets is this body.
-pub record IsBody (text : List ℕ) (start end : ℕ) (body : List ℕ) : Type 0 where
-  pub from : ℕ
-  pub to : ℕ
-  pub place : IsBodyAt text start end from to
-  pub is : body ≡ slice_range text from to
+-- Between these offsets is this body, after at least one blank. It ends in the newline of its last line, or a `;` follows it. (own)
+abbrev pub IsBody : List ℕ → ℕ → ℕ → List ℕ → Type 0
+IsBody text start end body = (is_blank_or_return (slice_index text start) ≡ true) × IsBodyOf EndsLast text start end body
 
 -- Between these offsets are a condition, `then`, and a body, which are these parts.
 pub record IsBranch (text : List ℕ) (start end : ℕ) (condition body : List ℕ) : Type 0 where

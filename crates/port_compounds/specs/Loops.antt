@@ -1,9 +1,9 @@
 -- The `for` of a shell between two offsets of a text, and what takes its place: its body once for each word, after an assignment of the
 -- word. (POSIX shell, 2.9.4.2 "The for Loop")
-use Rattle.std.specs.Prelude.{◌≡◌, ◌⊎◌, ℕ, ◌+◌, ◌<◌, ◌≤◌, ◌==◌, ◌||◌, Bool, true, List, [], ◌∷◌, ◌++◌, length, slice_range, slice_index, codes}
+use Rattle.std.specs.Prelude.{◌≡◌, ◌⊎◌, ℕ, ◌<◌, ◌≤◌, ◌==◌, ◌||◌, Bool, true, List, [], ◌∷◌, ◌++◌, length, slice_range, slice_index, codes}
 use Rattle.std.specs.List.{flat_map, list_all}
 use Rattle.port_compounds.specs.Parts.{HasPlainEnd, IsListEnd, IsPlainLine, IsStatement}
-use Rattle.port_compounds.specs.Places.{is_space_or_return, AreBlank, AreSpaces, IsWord}
+use Rattle.port_compounds.specs.Places.{is_space_or_return, AreBlank, AreSpaces, Has, IsWord}
 use Rattle.port_compounds.specs.Words.{IsConstant, IsVariable}
 
 -- Between these offsets are `for`, this name, and `in`.
@@ -42,10 +42,6 @@ pub record IsBody (text : List ℕ) (start end : ℕ) (body : List ℕ) : Type 0
   pub after : IsListEnd text to end
   pub is : body ≡ slice_range text from to
   pub last : HasPlainEnd body
-
--- The text has this word at some place. (own)
-abbrev pub Has : List ℕ → List ℕ → Type 0
-Has word text = (at : ℕ) × (at < length text) × IsWord text at word (at + length word)
 
 -- What the body does may be done outside a loop, and m4 may expand it more than once: it has no `break` and no `continue`, and calls no
 -- macro that names outputs, options or programs. (own)
@@ -99,8 +95,8 @@ abbrev pub turns : List ℕ → List ℕ → List ℕ → List (List ℕ) → Li
 turns indent name body [] = []
 turns indent name body (word ∷ words) = turn name body word ++ flat_map (further indent name body) words
 
--- This takes the place of the `for` between these offsets.
-pub record IsWrittenOut (text : List ℕ) (start end : ℕ) (put : List ℕ) : Type 0 where
+-- These are the turns of the `for` between these offsets.
+pub record AreTurns (text : List ℕ) (start end : ℕ) (put : List ℕ) : Type 0 where
   pub name : List ℕ
   pub words : List (List ℕ)
   pub body : List ℕ
@@ -108,3 +104,9 @@ pub record IsWrittenOut (text : List ℕ) (start end : ℕ) (put : List ℕ) : T
   pub is : IsFor text start end name words body
   pub blank : list_all is_space_or_return indent ≡ true
   pub made : put ≡ turns indent name body words
+
+-- This takes the place of the `for` between these offsets. It has no `_cv_`, as the names of cache variables do: a check of such a name is made
+-- once, unless the name is unset between two of them, and no text that acrun accepts does that. (GNU Autoconf's manual, "Cache Variable Names")
+pub record IsWrittenOut (text : List ℕ) (start end : ℕ) (put : List ℕ) : Type 0 where
+  pub are : AreTurns text start end put
+  pub no_cache : Has (codes "_cv_") put → ⊥

@@ -64,6 +64,19 @@ pub record IsBeforeSemicolon (text : List ℕ) (from to end : ℕ) : Type 0 wher
   pub after : IsSemicolon text to end
   pub last : HasPlainEnd (slice_range text from to)
 
+-- The last body before `fi` or `esac`, or the one before another keyword of an `if`, ends in the newline of its last line, or before a `;`.
+abbrev pub EndsLast : List ℕ → ℕ → ℕ → ℕ → Type 0
+EndsLast text from to end = ((to ≡ end) × IsAtLineStart text from to) ⊎ IsBeforeSemicolon text from to end
+
+-- Between two offsets is this body, which ends so.
+pub record IsBodyOf (Ends : List ℕ → ℕ → ℕ → ℕ → Type 0) (text : List ℕ) (start end : ℕ) (body : List ℕ) : Type 0 where
+  pub from : ℕ
+  pub to : ℕ
+  pub order : (start ≤ from) × (from ≤ to) × (to ≤ end)
+  pub before : AreSpaces text start from
+  pub ends : Ends text from to end
+  pub is : body ≡ slice_range text from to
+
 -- The text is on one line, and has no `#`. m4 finds neither a macro nor `dnl` in it. (own)
 pub record IsPlainLine (part : List ℕ) : Type 0 where
   pub one_line : list_any is_newline part ≡ false

@@ -25,9 +25,13 @@ is_hash b = b == 35
 abbrev pub HasNoHash : List ℕ → Type 0
 HasNoHash text = list_any is_hash text ≡ false
 
+-- The text has this word at some place.
+abbrev pub Has : List ℕ → List ℕ → Type 0
+Has word text = (at : ℕ) × (at < length text) × IsWord text at word (at + length word)
+
 -- The text has `dnl` at some place.
 abbrev pub HasDnl : List ℕ → Type 0
-HasDnl text = (at : ℕ) × (slice_range text at (at + 3) ≡ codes "dnl")
+HasDnl text = Has (codes "dnl") text
 
 -- The line that ends at this newline has no `dnl` from `start` on, so m4 keeps the newline.
 pub record KeepsNewline (text : List ℕ) (start newline : ℕ) : Type 0 where
@@ -41,7 +45,7 @@ pub record IsDnlLine (text : List ℕ) (line : ℕ) : Type 0 where
   pub at : ℕ
   pub order : line ≤ at
   pub spaces : AreSpaces text line at
-  pub word : slice_range text at (at + 3) ≡ codes "dnl"
+  pub word : IsWord text at (codes "dnl") (at + 3)
 
 -- The line between these offsets begins no comment of a shell: m4 drops it, or it has no `#`.
 pub record AddsNoComment (text : List ℕ) (line newline : ℕ) : Type 0 where

@@ -4,9 +4,22 @@ ghost use Rattle.std.specs.Prelude.{◌≡◌, [], map, IfOk, IfSome, IsTrue};
 ghost use Rattle.port_compounds.specs.Ifs as specs;
 
 use crate::cut::{IfBranch, IfCut};
-use crate::parts::{body, condition};
-use crate::places::{is_statement, is_word};
+use crate::parts::{condition, unclosed_body};
+use crate::places::{is_blank_at, is_statement, is_word};
 use std::alloc::{AllocError, Global};
+
+/// Returns the body between two offsets, which begins with a blank, if there is one.
+fn body(text: &[u8], start: usize, end: usize) -> Option<&[u8]>
+    ensures { IfSome result (λ b. specs.IsBody text.now start end b.now) }
+{
+    if !is_blank_at(text, start) {
+        return None;
+    }
+    match unclosed_body(text, start, end) {
+        Some(found) => Some(found),
+        None => None,
+    }
+}
 
 /// Appends the body between two offsets. Returns whether there is one.
 fn push_body<'a>(
@@ -177,25 +190,6 @@ fn push_default<'a>(
     push_else(text, start, at, cut.at_fi, out)
 }
 
-/// Appends the parts of an `if`. Returns whether it has them.
-fn push_all<'a>(
-    alloc: Global,
-    text: &'a [u8],
-    cut: &IfCut,
-    out: &mut Vec<&'a [u8]>,
-) -> Result<bool, AllocError>
-    requires { out.old.items ≡ [] }
-    ensures { IfOk result (λ b.
-        IsTrue b
-        → specs.AreAllBranches text.now cut.now.start cut.now.at_fi
-        (map (λ p. p.now) out.new.items)) }
-{
-    match push_branches(alloc, text, cut.start, cut.branches.as_slice(), out)? {
-        Some(at) => push_default(text, cut.start, at, cut, out),
-        None => Ok(false),
-    }
-}
-
 /// Returns the parts of an `if`: each condition and its body, and the body after `else`. If the
 /// offsets are not those of an `if` that is a statement of its own, returns `None`.
 ///
@@ -214,7 +208,10 @@ pub fn if_parts<'a>(
         return Ok(None);
     }
     let mut out = Vec::new(alloc);
-    if push_all(alloc, text, cut, &mut out)? {
+    let Some(at) = push_branches(alloc, text, cut.start, cut.branches.as_slice(), &mut out)? else {
+        return Ok(None);
+    };
+    if push_default(text, cut.start, at, cut, &mut out)? {
         Ok(Some(out))
     } else {
         Ok(None)

@@ -1,17 +1,17 @@
 //! The parts of a `case`.
 
 ghost use Rattle.std.specs.Prelude.{◌≡◌, ◌≤◌, ◌<◌, ◌+◌, ◌++◌, ◌∷◌, [], ◌⊎◌, map, length, true, false, slice_index, slice_range, codes, IfOk, IfSome, IsTrue, OnOk};
-ghost use Rattle.port_compounds.specs.Parts.{IsNotEscaped};
-ghost use Rattle.port_compounds.specs.Places.{AreBlank, AreSpaces, is_blank_or_return};
+ghost use Rattle.port_compounds.specs.Parts.{IsBodyOf, IsNotEscaped};
+ghost use Rattle.port_compounds.specs.Places.{AreBlank, AreSpaces};
 ghost use Rattle.port_compounds.specs.Cases as specs;
 
 use crate::cut::{CaseBranch, CaseCut};
 use crate::parts::{
-    after_blanks, before_blanks, ends_in_line, ends_in_semicolon, has_plain_end,
-    is_after_backslash, is_plain_line, semicolon_start,
+    after_blanks, before_blanks, ends_in_line, has_plain_end, is_after_backslash, is_plain_line,
+    unclosed_body,
 };
 use crate::places::{
-    after_spaces, are_blank, are_spaces, before_spaces, is_blank_or_return, is_statement, is_word,
+    after_spaces, are_blank, are_spaces, before_spaces, is_blank_at, is_statement, is_word,
 };
 use std::alloc::{AllocError, Global};
 
@@ -55,13 +55,6 @@ fn subject<'a>(
     } else {
         Ok(None)
     }
-}
-
-/// Returns whether a blank is at an offset.
-fn is_blank_at(text: &[u8], at: usize) -> bool
-    ensures { IsTrue result → is_blank_or_return (slice_index text.now at) ≡ true }
-{
-    at < text.len() && is_blank_or_return(text[at])
 }
 
 /// Returns the word of a `case`, whose `in` is at an offset, if there is one.
@@ -192,7 +185,7 @@ fn is_body_before(text: &[u8], start: usize, from: usize, to: usize, end: usize)
 
 /// Returns the body before `;;` between two offsets, if there is one.
 fn body_before(text: &[u8], start: usize, end: usize) -> Option<&[u8]>
-    ensures { IfSome result (λ b. specs.IsBodyOf specs.EndsBefore text.now start end b.now) }
+    ensures { IfSome result (λ b. IsBodyOf specs.EndsBefore text.now start end b.now) }
 {
     let from = after_spaces(text, start);
     let to = if ends_in_line(text, from, end) {
@@ -215,37 +208,6 @@ fn closed_body(text: &[u8], start: usize, at: usize, end: usize) -> Option<&[u8]
         return None;
     }
     body_before(text, start, at)
-}
-
-/// Returns whether a last body may be between two offsets, which are within two others.
-fn is_last(text: &[u8], start: usize, from: usize, to: usize, end: usize) -> bool
-    ensures { IsTrue result
-        → (((start ≤ from) × (from ≤ to) × (to ≤ end)) × (end ≤ length text.now))
-        × (AreSpaces text.now start from × specs.EndsLast text.now from to end) }
-{
-    start <= from
-        && from <= to
-        && to <= end
-        && end <= text.len()
-        && are_spaces(&text[start..from])
-        && (to == end && ends_in_line(text, from, to) || ends_in_semicolon(text, from, to, end))
-}
-
-/// Returns the body between two offsets that has no `;;` after it, if there is one.
-fn unclosed_body(text: &[u8], start: usize, end: usize) -> Option<&[u8]>
-    ensures { IfSome result (λ b. specs.IsBodyOf specs.EndsLast text.now start end b.now) }
-{
-    let from = after_spaces(text, start);
-    let to = if ends_in_line(text, from, end) {
-        end
-    } else {
-        semicolon_start(text, from, end)
-    };
-    if is_last(text, start, from, to, end) {
-        Some(&text[from..to])
-    } else {
-        None
-    }
 }
 
 /// Returns whether blanks alone are between two offsets.
@@ -407,24 +369,6 @@ fn push_head<'a>(
     Ok(Some(end))
 }
 
-/// Appends the parts of a last branch of a `case`, which is at an offset. Returns whether it has
-/// them.
-fn push_end<'a>(
-    alloc: Global,
-    text: &'a [u8],
-    start: usize,
-    at: usize,
-    branch: CaseBranch,
-    at_esac: usize,
-    out: &mut Vec<&'a [u8]>,
-) -> Result<bool, AllocError>
-    requires { specs.AreBranches text.now start at (map (λ p. p.now) out.old.items) }
-    ensures { IfOk result (λ b.
-        IsTrue b → specs.AreAllBranches text.now start at_esac (map (λ p. p.now) out.new.items)) }
-{
-    push_last(alloc, text, at, branch, at_esac, out)
-}
-
 /// Appends the parts of the branches of a `case` that begin at an offset. Returns whether it has
 /// them.
 fn push_branches<'a>(
@@ -448,27 +392,8 @@ fn push_branches<'a>(
     match push_more(alloc, text, cut.start, at, branches, out)? {
         Some(end) => {
             let last = cut.branches[count - 1];
-            push_end(alloc, text, cut.start, end, last, cut.at_esac, out)
+            push_last(alloc, text, end, last, cut.at_esac, out)
         }
-        None => Ok(false),
-    }
-}
-
-/// Appends the parts of a `case`. Returns whether it has them.
-fn push_all<'a>(
-    alloc: Global,
-    text: &'a [u8],
-    cut: &CaseCut,
-    out: &mut Vec<&'a [u8]>,
-) -> Result<bool, AllocError>
-    requires { out.old.items ≡ [] }
-    ensures { IfOk result (λ b.
-        IsTrue b
-        → specs.AreAllBranches text.now cut.now.start cut.now.at_esac
-        (map (λ p. p.now) out.new.items)) }
-{
-    match push_head(alloc, text, cut.start, cut.at_in, out)? {
-        Some(at) => push_branches(alloc, text, cut, at, out),
         None => Ok(false),
     }
 }
@@ -493,7 +418,10 @@ pub fn case_parts<'a>(
         return Ok(None);
     }
     let mut out = Vec::new(alloc);
-    if push_all(alloc, text, cut, &mut out)? {
+    let Some(at) = push_head(alloc, text, cut.start, cut.at_in, &mut out)? else {
+        return Ok(None);
+    };
+    if push_branches(alloc, text, cut, at, &mut out)? {
         Ok(Some(out))
     } else {
         Ok(None)

@@ -162,84 +162,85 @@ fn statement_after<'a>(
     }
 }
 
-/// Appends the parts of a statement after `&&`. Returns whether it has them.
-fn push_and<'a>(
+/// Returns the condition and the statement that this joint is between, if there are both.
+fn joined<'a>(
     alloc: Global,
     text: &'a [u8],
     cut: GuardCut,
-    out: &mut Vec<&'a [u8]>,
-) -> Result<bool, AllocError>
-    requires { out.old.items ≡ [] }
-    ensures { IfOk result (λ b.
-        IsTrue b
-        → specs.AreGuardParts text.now cut.start cut.end (map (λ p. p.now) out.new.items)) }
+    joint: &[u8],
+) -> Result<Option<(&'a [u8], &'a [u8])>, AllocError>
+    ensures { IfOk result (λ o.
+        IfSome o (λ p. specs.IsJoined text.now cut.start joint.now cut.end p.0.now p.1.now)) }
 {
     let after = cut.at_joint.saturating_add(2);
-    if !is_word(text, cut.at_joint, b"&&", after) {
-        return Ok(false);
+    if !is_word(text, cut.at_joint, joint, after) {
+        return Ok(None);
     }
     let Some(test) = condition_before(alloc, text, cut.start, cut.at_joint)? else {
-        return Ok(false);
+        return Ok(None);
     };
     let Some(done) = statement_after(alloc, text, after, cut.end)? else {
-        return Ok(false);
+        return Ok(None);
     };
-    out.push(test)?;
-    out.push(done)?;
-    Ok(true)
+    Ok(Some((test, done)))
 }
 
-/// Returns a text of no bytes.
-fn nothing(text: &[u8]) -> &[u8]
-    ensures { result.now ≡ [] }
+/// Returns the parts of a statement after `&&`.
+#[tactic(auto, using(crate::proofs::Steps::and_with))]
+fn and_parts<'a>(
+    alloc: Global,
+    text: &[u8],
+    cut: GuardCut,
+    test: &'a [u8],
+    done: &'a [u8],
+) -> Result<Vec<&'a [u8]>, AllocError>
+    requires { specs.IsJoined text.now cut.start (codes "&&") cut.end test.now done.now }
+    ensures { IfOk result (λ v.
+        specs.AreGuardParts text.now cut.start cut.end (map (λ p. p.now) v.items)) }
 {
-    &text[..0]
+    let _ = text;
+    let _ = cut;
+    let parts = Vec::from_slice(alloc, &[test, done])?;
+    Ok(parts)
 }
 
-/// Appends the parts of a statement after `||`. Returns whether it has them.
-fn push_or<'a>(
+/// Returns the parts of a statement after `||`, with nothing between them.
+#[tactic(auto, using(crate::proofs::Steps::or_with))]
+fn or_parts<'a>(
+    alloc: Global,
+    text: &[u8],
+    cut: GuardCut,
+    test: &'a [u8],
+    nothing: &'a [u8],
+    done: &'a [u8],
+) -> Result<Vec<&'a [u8]>, AllocError>
+    requires nothing { nothing.now ≡ [] }
+    requires joined { specs.IsJoined text.now cut.start (codes "||") cut.end test.now done.now }
+    ensures { IfOk result (λ v.
+        specs.AreGuardParts text.now cut.start cut.end (map (λ p. p.now) v.items)) }
+{
+    let _ = text;
+    let _ = cut;
+    let parts = Vec::from_slice(alloc, &[test, nothing, done])?;
+    Ok(parts)
+}
+
+/// Returns the parts of a statement after `&&` or `||`, if it has them.
+fn parts_of<'a>(
     alloc: Global,
     text: &'a [u8],
     cut: GuardCut,
-    out: &mut Vec<&'a [u8]>,
-) -> Result<bool, AllocError>
-    requires { out.old.items ≡ [] }
-    ensures { IfOk result (λ b.
-        IsTrue b
-        → specs.AreGuardParts text.now cut.start cut.end (map (λ p. p.now) out.new.items)) }
+) -> Result<Option<Vec<&'a [u8]>>, AllocError>
+    ensures { IfOk result (λ o.
+        IfSome o (λ v.
+        specs.AreGuardParts text.now cut.start cut.end (map (λ p. p.now) v.items))) }
 {
-    let after = cut.at_joint.saturating_add(2);
-    if !is_word(text, cut.at_joint, b"||", after) {
-        return Ok(false);
+    if let Some((test, done)) = joined(alloc, text, cut, b"&&")? {
+        return Ok(Some(and_parts(alloc, text, cut, test, done)?));
     }
-    let Some(test) = condition_before(alloc, text, cut.start, cut.at_joint)? else {
-        return Ok(false);
-    };
-    let Some(done) = statement_after(alloc, text, after, cut.end)? else {
-        return Ok(false);
-    };
-    out.push(test)?;
-    out.push(nothing(text))?;
-    out.push(done)?;
-    Ok(true)
-}
-
-/// Appends the parts of a statement that a condition guards. Returns whether it has them.
-fn push_parts<'a>(
-    alloc: Global,
-    text: &'a [u8],
-    cut: GuardCut,
-    out: &mut Vec<&'a [u8]>,
-) -> Result<bool, AllocError>
-    requires { out.old.items ≡ [] }
-    ensures { IfOk result (λ b.
-        IsTrue b
-        → specs.AreGuardParts text.now cut.start cut.end (map (λ p. p.now) out.new.items)) }
-{
-    if text.get(cut.at_joint) == Some(&b'&') {
-        push_and(alloc, text, cut, out)
-    } else {
-        push_or(alloc, text, cut, out)
+    match joined(alloc, text, cut, b"||")? {
+        Some((test, done)) => Ok(Some(or_parts(alloc, text, cut, test, &text[..0], done)?)),
+        None => Ok(None),
     }
 }
 
@@ -269,10 +270,8 @@ pub fn guard_parts<'a>(
     if !is_own(text, cut.start, cut.end) {
         return Ok(None);
     }
-    let mut out = Vec::new(alloc);
-    if push_parts(alloc, text, cut, &mut out)? {
-        Ok(Some(out))
-    } else {
-        Ok(None)
+    match parts_of(alloc, text, cut)? {
+        Some(parts) => Ok(Some(parts)),
+        None => Ok(None),
     }
 }

@@ -37,7 +37,7 @@ pub use cases::case_parts;
 pub use cut::{CaseBranch, CaseCut, DefaultOf, ForCut, GuardCut, IfBranch, IfCut};
 pub use defaults::{assignment_of, default_of, empty_test};
 pub use guards::guard_parts;
-pub use lines::has_dnl;
+pub use lines::{has, has_dnl};
 pub use loops::loop_turns;
 pub use parts::is_list_end;
 pub use places::{are_blank, are_spaces, begins_statement, is_word};

@@ -13,25 +13,32 @@ pub(crate) fn has_hash(text: &[u8]) -> bool
     text.iter().any(|byte| *byte == b'#')
 }
 
-/// Returns whether an offset is that of `dnl`.
-fn is_dnl_at(text: &[u8], at: usize) -> bool
+/// Returns whether a word is at an offset.
+pub(crate) fn has_at(text: &[u8], at: usize, word: &[u8]) -> bool
     requires { at ≤ length text.now }
-    ensures { result ≡ false → slice_range text.now at (at + 3) ≡ codes "dnl" → ⊥ }
+    ensures yes { IsTrue result → specs.IsWord text.now at word.now (at + length word.now) }
+    ensures no { result ≡ false → specs.IsWord text.now at word.now (at + length word.now) → ⊥ }
 {
-    let rest = &text[at..];
-    rest.len() >= 3 && &rest[..3] == b"dnl".as_slice()
+    word.len() <= text.len() - at && &text[at..at + word.len()] == word
+}
+
+/// Returns whether a text has a word at some place.
+pub fn has(text: &[u8], word: &[u8]) -> bool
+    ensures { result ≡ false → specs.Has word.now text.now → ⊥ }
+{
+    for i in 0..text.len() {
+        if has_at(text, i, word) {
+            return true;
+        }
+    }
+    false
 }
 
 /// Returns whether the text has `dnl` at some place.
 pub fn has_dnl(text: &[u8]) -> bool
     ensures { result ≡ false → specs.HasDnl text.now → ⊥ }
 {
-    for i in 0..text.len() {
-        if is_dnl_at(text, i) {
-            return true;
-        }
-    }
-    false
+    has(text, b"dnl")
 }
 
 /// Returns the offset after the last newline between two offsets, or the first offset.
@@ -76,15 +83,7 @@ pub(crate) fn has_no_hash(text: &[u8], start: usize, end: usize) -> bool
 fn is_dnl_line_at(text: &[u8], line: usize, at: usize) -> bool
     ensures { IsTrue result → specs.IsDnlLine text.now line }
 {
-    line <= at && at <= text.len() && are_spaces(&text[line..at]) && has_dnl_at(text, at)
-}
-
-/// Returns whether `dnl` is at an offset.
-fn has_dnl_at(text: &[u8], at: usize) -> bool
-    requires { at ≤ length text.now }
-    ensures { IsTrue result → slice_range text.now at (at + 3) ≡ codes "dnl" }
-{
-    text.len() - at >= 3 && &text[at..at + 3] == b"dnl".as_slice()
+    line <= at && at <= text.len() && are_spaces(&text[line..at]) && has_at(text, at, b"dnl")
 }
 
 /// Returns whether the line at an offset begins with `dnl`.

@@ -8,7 +8,7 @@ ghost use Rattle.port_compounds.specs.Words.{IsConstant, IsVariable};
 ghost use Rattle.port_compounds.specs.Loops as specs;
 
 use crate::cut::ForCut;
-use crate::lines::line_start;
+use crate::lines::{has, line_start};
 use crate::parts::{after_blanks, condition_end, has_plain_end, is_list_end, is_plain_line};
 use crate::places::{after_spaces, are_blank, are_spaces, before_spaces, is_statement, is_word};
 use crate::words::{is_constant, is_value, is_variable};
@@ -188,51 +188,17 @@ fn body(text: &[u8], start: usize, end: usize) -> Option<&[u8]>
     }
 }
 
-/// Returns whether a word is at an offset.
-fn has_at(text: &[u8], at: usize, word: &[u8]) -> bool
-    requires { at ≤ length text.now }
-    ensures { result ≡ false → IsWord text.now at word.now (at + length word.now) → ⊥ }
-{
-    word.len() <= text.len() - at && &text[at..at + word.len()] == word
-}
-
-/// Returns whether a text has a word at some place.
-fn has(text: &[u8], word: &[u8]) -> bool
-    ensures { result ≡ false → specs.Has word.now text.now → ⊥ }
-{
-    for i in 0..text.len() {
-        if has_at(text, i, word) {
-            return true;
-        }
-    }
-    false
-}
-
-/// Returns whether a text has a word that means something only in a loop, or reads a status.
-fn has_jump(text: &[u8]) -> bool
-    ensures { result ≡ false
-        → (specs.Has (codes "break") text.now → ⊥)
-        × ((specs.Has (codes "continue") text.now → ⊥)
-        × (specs.Has (codes "$?") text.now → ⊥)) }
-{
-    has(text, b"break") || has(text, b"continue") || has(text, b"$?")
-}
-
-/// Returns whether a text has the front of a macro that is not to be expanded twice.
-fn has_single(text: &[u8]) -> bool
-    ensures { result ≡ false
-        → (specs.Has (codes "AC_CONFIG_") text.now → ⊥)
-        × ((specs.Has (codes "AC_ARG_") text.now → ⊥)
-        × (specs.Has (codes "AC_PROG_") text.now → ⊥)) }
-{
-    has(text, b"AC_CONFIG_") || has(text, b"AC_ARG_") || has(text, b"AC_PROG_")
-}
-
 /// Returns whether a body may be repeated outside a loop.
 fn may_be_repeated(body: &[u8]) -> bool
     ensures { IsTrue result → specs.MayBeRepeated body.now }
 {
-    body.len() <= BODY && !has_jump(body) && !has_single(body)
+    body.len() <= BODY
+        && !has(body, b"break")
+        && !has(body, b"continue")
+        && !has(body, b"AC_CONFIG_")
+        && !has(body, b"AC_ARG_")
+        && !has(body, b"AC_PROG_")
+        && !has(body, b"$?")
 }
 
 /// Returns the body between two offsets, if there is one that may be repeated.
@@ -395,13 +361,26 @@ fn turns_of(
     name: &[u8],
     words: &[&[u8]],
     body: &[u8],
-) -> Result<Option<Vec<u8>>, AllocError>
+) -> Result<Vec<u8>, AllocError>
     requires { specs.IsFor text.now cut.start cut.end name.now (map (λ p. p.now) words.now) body.now }
-    ensures { IfOk result (λ o.
-        IfSome o (λ v. specs.IsWrittenOut text.now cut.start cut.end v.items)) }
+    ensures { IfOk result (λ v. specs.AreTurns text.now cut.start cut.end v.items) }
 {
     let out = turns(alloc, indent_at(text, cut.start), name, body, words)?;
-    Ok(Some(out))
+    Ok(out)
+}
+
+/// Returns the turns of a `for`, unless they name a cache variable.
+fn without_cache(text: &[u8], cut: ForCut, put: Vec<u8>) -> Option<Vec<u8>>
+    requires { specs.AreTurns text.now cut.start cut.end put.items }
+    ensures { IfSome result (λ v. specs.IsWrittenOut text.now cut.start cut.end v.items) }
+{
+    let _ = text;
+    let _ = cut;
+    if has(put.as_slice(), b"_cv_") {
+        None
+    } else {
+        Some(put)
+    }
 }
 
 /// Returns whether m4 finds nothing in the text between two offsets, which is on one line.
@@ -439,7 +418,10 @@ fn turns_with(
         return Ok(None);
     }
     match repeated_body(text, after_do, cut.at_done) {
-        Some(body) => turns_of(alloc, text, cut, name, words, body),
+        Some(body) => {
+            let put = turns_of(alloc, text, cut, name, words, body)?;
+            Ok(without_cache(text, cut, put))
+        }
         None => Ok(None),
     }
 }
@@ -468,7 +450,8 @@ fn turns_named(
 
 /// Returns what takes the place of a `for` over words that are written there: for each of them an
 /// assignment to its variable, and its body. If the offsets are not those of such a `for` that is a
-/// statement of its own, or if its body can't be repeated, returns `None`.
+/// statement of its own, if its body can't be repeated, or if a cache variable is named, returns
+/// `None`.
 ///
 /// # Errors
 ///

@@ -283,23 +283,23 @@ pub(crate) fn semicolon_start(text: &[u8], start: usize, end: usize) -> usize {
     before_spaces(text, start, to)
 }
 
-/// Returns whether a body is between two offsets, which are within two others.
-fn is_body(text: &[u8], start: usize, end: usize, from: usize, to: usize) -> bool
-    ensures { IsTrue result → ifs.IsBodyAt text.now start end from to × (end ≤ length text.now) }
+/// Returns whether a last body may be between two offsets, which are within two others.
+fn is_last(text: &[u8], start: usize, from: usize, to: usize, end: usize) -> bool
+    ensures { IsTrue result
+        → (((start ≤ from) × (from ≤ to) × (to ≤ end)) × (end ≤ length text.now))
+        × (AreSpaces text.now start from × specs.EndsLast text.now from to end) }
 {
     start <= from
         && from <= to
         && to <= end
         && end <= text.len()
-        && start < end
-        && is_blank_or_return(text[start])
-        && are_blank(&text[start..from])
+        && are_spaces(&text[start..from])
         && (to == end && ends_in_line(text, from, to) || ends_in_semicolon(text, from, to, end))
 }
 
-/// Returns the body between two offsets, if there is one.
-pub(crate) fn body(text: &[u8], start: usize, end: usize) -> Option<&[u8]>
-    ensures { IfSome result (λ b. ifs.IsBody text.now start end b.now × (end ≤ length text.now)) }
+/// Returns the body between two offsets that has no `;;` after it, if there is one.
+pub(crate) fn unclosed_body(text: &[u8], start: usize, end: usize) -> Option<&[u8]>
+    ensures { IfSome result (λ b. specs.IsBodyOf specs.EndsLast text.now start end b.now) }
 {
     let from = after_spaces(text, start);
     let to = if ends_in_line(text, from, end) {
@@ -307,7 +307,7 @@ pub(crate) fn body(text: &[u8], start: usize, end: usize) -> Option<&[u8]>
     } else {
         semicolon_start(text, from, end)
     };
-    if is_body(text, start, end, from, to) {
+    if is_last(text, start, from, to, end) {
         Some(&text[from..to])
     } else {
         None

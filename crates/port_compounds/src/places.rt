@@ -8,6 +8,13 @@ ghost use Rattle.port_compounds.specs.Places as specs;
 use crate::lines::ends_comment;
 pub(crate) use text_cut::{is_blank_or_return, is_space_or_return};
 
+/// Returns whether a blank is at an offset.
+pub(crate) fn is_blank_at(text: &[u8], at: usize) -> bool
+    ensures { IsTrue result → specs.is_blank_or_return (slice_index text.now at) ≡ true }
+{
+    at < text.len() && is_blank_or_return(text[at])
+}
+
 /// Returns whether there are blanks and newlines alone.
 pub fn are_blank(text: &[u8]) -> bool
     ensures { result ≡ list_all specs.is_blank_or_return text.now }

@@ -1,8 +1,9 @@
 //! Whether a text reads the status of a command.
 
-ghost use Rattle.std.specs.Prelude.{◌≡◌, ◌≤◌, ◌+◌, false, length, slice_range, codes};
+ghost use Rattle.std.specs.Prelude.{◌≡◌, ◌≤◌, ◌+◌, false, length};
 ghost use Rattle.port_compounds.specs.Guards as specs;
 
+use crate::lines::has_at;
 use crate::places::is_blank_or_return;
 
 /// Returns whether an option may begin with the byte, or the byte may be before one.
@@ -10,24 +11,6 @@ fn may_begin_option(byte: u8) -> bool
     ensures { result ≡ specs.may_begin_option byte }
 {
     byte == b'-' || byte == b'\\' || is_blank_or_return(byte)
-}
-
-/// Returns whether `$?` is at an offset.
-fn is_parameter_at(text: &[u8], at: usize) -> bool
-    requires { at ≤ length text.now }
-    ensures { result ≡ false → slice_range text.now at (at + 2) ≡ codes "$?" → ⊥ }
-{
-    let rest = &text[at..];
-    rest.len() >= 2 && &rest[..2] == b"$?".as_slice()
-}
-
-/// Returns whether `set` is at an offset.
-fn is_set_word_at(text: &[u8], at: usize) -> bool
-    requires { at ≤ length text.now }
-    ensures { result ≡ false → slice_range text.now at (at + 3) ≡ codes "set" → ⊥ }
-{
-    let rest = &text[at..];
-    rest.len() >= 3 && &rest[..3] == b"set".as_slice()
 }
 
 /// Returns whether a blank is at an offset, and an option may begin after it.
@@ -58,7 +41,7 @@ fn is_set_at(text: &[u8], at: usize) -> bool
     requires { at ≤ length text.now }
     ensures { result ≡ false → specs.IsSetAt text.now at → ⊥ }
 {
-    is_set_word_at(text, at)
+    has_at(text, at, b"set")
         && begins_name(text, at)
         && is_before_option(text, at.saturating_add(3))
 }
@@ -70,7 +53,7 @@ fn is_status_at(text: &[u8], at: usize) -> bool
     requires { at ≤ length text.now }
     ensures { result ≡ false → specs.IsStatusAt text.now at → ⊥ }
 {
-    is_parameter_at(text, at) || is_set_at(text, at)
+    has_at(text, at, b"$?") || is_set_at(text, at)
 }
 
 /// Returns whether a text reads the status of a command at some place, or may ask a shell to end at

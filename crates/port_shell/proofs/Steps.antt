@@ -26,7 +26,7 @@ pass_bound idioms text at out (specs.IsPass.cased end parts note put before is n
 pass_bound idioms text at out (specs.IsPass.guarded end parts texts note put before is unread become notes puts) = guard_bound text end is.ends
 pass_bound idioms text at out (specs.IsPass.spread end note put before is notes) = guard_bound text end is.is.ends
 pass_bound idioms text at out (specs.IsPass.defaulted end name word note put before is notes puts) = guard_bound text end is.ends
-pass_bound idioms text at out (specs.IsPass.repeated end note put before is accepted notes) = is.is.statement.word.0
+pass_bound idioms text at out (specs.IsPass.repeated end note put before is accepted notes) = is.are.is.statement.word.0
 pass_bound idioms text at out (specs.IsPass.tested start to put before is order become) = order.2
 pass_bound idioms text at out (specs.IsPass.respelled from to put indent all before is order spelled blank) = order.2
 pass_bound idioms text at out (specs.IsPass.asked from to put call indent all before is order may asks blank) = order.2

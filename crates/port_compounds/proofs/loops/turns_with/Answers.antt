@@ -1,5 +1,4 @@
 use Rattle.std.proofs.Common.{refl}
-use Rattle.port_compounds.specs.Loops as specs
 use Rattle.port_compounds.proofs.loops.turns_with.Goals as goal
 
 pub turns_of-requires : goal.turns_of-requires

@@ -1,4 +1,4 @@
-use Rattle.std.proofs.Common.{◌≡◌, ℕ, ◌<◌}
+use Rattle.std.proofs.Common.{ℕ, ◌<◌}
 use Rattle.port_compounds.specs.Guards.{IsStatusAt}
 use Rattle.port_compounds.proofs.status.reads_status.Given as goal
 
