@@ -108,30 +108,34 @@ pub record MayAskAt (text : List ℕ) (start : ℕ) : Type 0 where
 unfoldable pub asked_so : List ℕ → List ℕ → List ℕ
 asked_so indent call = (codes "dnl acrun: in place of a test of a file: a program asks, whose answer is no in a cross build and if the word is empty" ++ 10 ∷ indent) ++ (call ++ 10 ∷ indent)
 
--- One pass over a text has read so much of it, and written this. Everything is copied, but an `if` may become the call of AS_IF with the
--- same conditions and bodies in the same order, and a `case` that of AS_CASE with the same word, patterns and bodies.
--- `NAME=${NAME:-WORD}` may become the call of AS_IF that assigns the word if the variable is empty.
--- An assignment with `&&` and a command after it may become the same on two lines. A `for` may become its turns, if acrun accepts them.
--- If the text reads no status of a command, a statement after `&&` or `||` may become the call of AS_IF with its condition and itself. In a
--- condition, `-a` and `-o` of `test` may become `&&` and `||`. If all idioms are wanted, a comment may be right before the call, and in a
--- condition of an `if`, of AS_IF or of a guarded statement `==`, `-eq` and `-ne` may be spelled otherwise, with a comment right before the
--- statement. In such a condition the answer of a program may also come in the place of a test of a file, with a comment and the call that
+-- Between these offsets is a statement with these parts, as AS_IF takes them: an `if`, or, if the text reads no status of a command, a
+-- statement after `&&` or `||` and its condition.
+pub data IsChoice (text : List ℕ) (start end : ℕ) (parts : List (List ℕ)) : Type 0 where
+  branches : IsIf text start end parts → IsChoice text start end parts
+  guard : IsGuarded text start end parts → (ReadsStatus text → ⊥) → IsChoice text start end parts
+
+-- This may be put in the place of a statement between these offsets. Of an `if` and of a statement that a condition guards it is the call of
+-- AS_IF with the same conditions and bodies in the same order, but in a condition `-a` and `-o` of `test` may become `&&` and `||`. Of a `case` it
+-- is the call of AS_CASE with the same word, patterns and bodies. Of an assignment with `&&` and a command after it, it is the same on two lines.
+-- Of `NAME=${NAME:-WORD}` it is the call of AS_IF that assigns the word if the variable is empty. Of a `for` it is its turns, if acrun accepts them.
+pub data MayPut (text : List ℕ) (start end : ℕ) (put : List ℕ) : Type 0 where
+  chosen : (parts texts : List (List ℕ)) → IsChoice text start end parts → AllBecome parts texts → IsPut (codes "AS_IF") texts put → MayPut text start end put
+  cased : (parts : List (List ℕ)) → IsCase text start end parts → IsPut (codes "AS_CASE") parts put → MayPut text start end put
+  spread : IsOnTwoLines text start end put → MayPut text start end put
+  defaulted : (name word : List ℕ) → IsDefaulting text start end name word → IsPut (codes "AS_IF") (empty_test name ∷ assignment name word ∷ []) put
+      → MayPut text start end put
+  repeated : IsWrittenOut text start end put → IsAccepted (source_with put) → MayPut text start end put
+
+-- One pass over a text has read so much of it, and written this. Everything is copied, but what may be put in the place of a statement may be
+-- written there. In a condition, `-a` and `-o` of `test` may become `&&` and `||`. If all idioms are wanted, a comment may be right before what is
+-- put, and in a condition of an `if`, of AS_IF or of a guarded statement `==`, `-eq` and `-ne` may be spelled otherwise, with a comment right before
+-- the statement. In such a condition the answer of a program may also come in the place of a test of a file, with a comment and the call that
 -- asks right before the statement.
 pub data IsPass (idioms : Idioms) (text : List ℕ) : ℕ → List ℕ → Type 0 where
   begun : IsPass idioms text 0 []
   copied : {at : ℕ} {out : List ℕ} (next : ℕ) → IsPass idioms text at out → at ≤ next → next ≤ length text → IsPass idioms text next (out ++ slice_range text at next)
-  chosen : {at : ℕ} {out : List ℕ} (end : ℕ) (parts texts : List (List ℕ)) (note put : List ℕ) → IsPass idioms text at out → IsIf text at end parts
-      → AllBecome parts texts → IsNote idioms note → IsPut (codes "AS_IF") texts put → IsPass idioms text end (out ++ (note ++ put))
-  cased : {at : ℕ} {out : List ℕ} (end : ℕ) (parts : List (List ℕ)) (note put : List ℕ) → IsPass idioms text at out → IsCase text at end parts
-      → IsNote idioms note → IsPut (codes "AS_CASE") parts put → IsPass idioms text end (out ++ (note ++ put))
-  guarded : {at : ℕ} {out : List ℕ} (end : ℕ) (parts texts : List (List ℕ)) (note put : List ℕ) → IsPass idioms text at out → IsGuarded text at end parts
-      → (ReadsStatus text → ⊥) → AllBecome parts texts → IsNote idioms note → IsPut (codes "AS_IF") texts put → IsPass idioms text end (out ++ (note ++ put))
-  spread : {at : ℕ} {out : List ℕ} (end : ℕ) (note put : List ℕ) → IsPass idioms text at out → IsOnTwoLines text at end put
-      → IsNote idioms note → IsPass idioms text end (out ++ (note ++ put))
-  defaulted : {at : ℕ} {out : List ℕ} (end : ℕ) (name word note put : List ℕ) → IsPass idioms text at out → IsDefaulting text at end name word
-      → IsNote idioms note → IsPut (codes "AS_IF") (empty_test name ∷ assignment name word ∷ []) put → IsPass idioms text end (out ++ (note ++ put))
-  repeated : {at : ℕ} {out : List ℕ} (end : ℕ) (note put : List ℕ) → IsPass idioms text at out → IsWrittenOut text at end put
-      → IsAccepted (source_with put) → IsNote idioms note → IsPass idioms text end (out ++ (note ++ put))
+  changed : {at : ℕ} {out : List ℕ} (end : ℕ) (note put : List ℕ) → IsPass idioms text at out → MayPut text at end put → IsNote idioms note
+      → IsPass idioms text end (out ++ (note ++ put))
   tested : {from : ℕ} {out : List ℕ} (start to : ℕ) (put : List ℕ) → IsPass idioms text from out → IsTestAt text start from to → AreOrdered text start from to
       → Becomes (slice_range text from to) put → IsPass idioms text to (out ++ put)
   respelled : {start : ℕ} {out : List ℕ} (from to : ℕ) (put indent : List ℕ) → idioms ≡ All → IsPass idioms text start out → IsTestAt text start from to → AreOrdered text start from to
@@ -139,10 +143,6 @@ pub data IsPass (idioms : Idioms) (text : List ℕ) : ℕ → List ℕ → Type 
   asked : {start : ℕ} {out : List ℕ} (from to : ℕ) (put call indent : List ℕ) → idioms ≡ All → IsPass idioms text start out → IsTestAt text start from to → AreOrdered text start from to
       → MayAskAt text start → IsAsked (slice_range text from to) put call → list_all is_space_or_return indent ≡ true
       → IsPass idioms text to (out ++ (asked_so indent call ++ (slice_range text start from ++ put)))
-
--- A pass that has read the text up to `start` may put this, after a note, in the place of what is between the offsets.
-unfoldable pub MayPut : List ℕ → ℕ → ℕ → List ℕ → Type 0
-MayPut text start end put = (idioms : Idioms) (out note : List ℕ) → IsPass idioms text start out → IsNote idioms note → IsPass idioms text end (out ++ (note ++ put))
 
 -- The one text becomes the other by passes, each of which reads what the one before it wrote.
 pub data IsFormed (idioms : Idioms) : List ℕ → List ℕ → Type 0 where

@@ -1,144 +1,17 @@
 //! The compound statements that are open in a list of statements.
 
-use crate::cut::{Around, Cut, Kept};
-use crate::shell::{Sign, Word};
+use crate::compound::{Beginning, Compound, ConstructKind, OpenPart};
+use crate::cut::{Kept, Obstacle, StatementCut};
+use crate::shell::{ShellWord, Sign};
 use lint_text::from;
-use port_compounds::{CaseBranch, CaseCut, ForCut, GuardCut, IfBranch, IfCut};
+use port_compounds::{CaseBranch, GuardCut};
 use std::alloc::{AllocError, Global};
-
-/// What a compound statement is.
-#[derive(Clone, Copy, PartialEq, Eq)]
-enum Kind {
-    /// `if`.
-    If,
-    /// `case`.
-    Case,
-    /// `for`.
-    For,
-    /// `while`, `until` or `select`.
-    Loop,
-    /// Braces.
-    Group,
-    /// Parentheses.
-    Paren,
-}
-
-/// How far a compound statement was read.
-#[derive(Clone, Copy, PartialEq, Eq)]
-enum Stage {
-    /// The condition of an `if`, the word of a `case`, or what is before `do`.
-    Head,
-    /// The patterns of a `case`.
-    Patterns,
-    /// A list of statements that is done.
-    Body,
-    /// The list after `else`.
-    Default,
-}
-
-/// A compound statement that is open.
-#[derive(Drop)]
-struct Compound {
-    kind: Kind,
-    stage: Stage,
-    /// Whether it is a statement of a list that calls may be put in.
-    is_in_list: bool,
-    /// Whether it may be rewritten.
-    is_allowed: bool,
-    /// What is around it that keeps a statement from being rewritten.
-    outer: Option<Around>,
-    /// The same, or what is at its words.
-    around: Option<Around>,
-    /// The offset of the first loop, brace or parenthesis in it.
-    at_other: Option<usize>,
-    /// The offset of its first byte.
-    start: usize,
-    /// The branches of an `if` so far, and the one that was begun.
-    branches: Vec<IfBranch>,
-    branch: IfBranch,
-    at_else: Option<usize>,
-    /// Whether the word of a `case` was read, or a word in parentheses.
-    has_subject: bool,
-    /// Whether the parenthesis is right after a word, as that of a function or of a macro.
-    is_after_word: bool,
-    at_in: usize,
-    /// How many words of a `for` were read before its `do`, and the offset of that.
-    words: usize,
-    at_do: usize,
-    /// Whether each word of a `for` is one that is written there.
-    is_written: bool,
-    /// Whether `break` or `continue` is in it, but in no loop in it.
-    has_jump: bool,
-    /// How many statements that may be rewritten were found before it.
-    found_before: usize,
-    /// The branches of a `case` so far, and the parenthesis after the patterns of the one that was
-    /// begun.
-    cases: Vec<CaseBranch>,
-    at_close: usize,
-}
-
-impl Compound {
-    /// Returns whether the statements of the list that is read are ones that calls may be put in.
-    fn is_list(&self) -> bool {
-        let is_done = self.stage == Stage::Body || self.stage == Stage::Default;
-        self.is_in_list
-            && is_done
-            && (matches!(self.kind, Kind::If | Kind::Case) || self.is_written)
-    }
-
-    /// Returns what a statement has around it that is in this one, if that keeps it from being
-    /// rewritten.
-    fn around_inner(&self) -> Option<Around> {
-        match self.kind {
-            Kind::If | Kind::Case if self.stage == Stage::Head => Some(Around::Condition),
-            Kind::If | Kind::Case => self.outer,
-            Kind::For if self.is_written && self.stage == Stage::Body => self.outer,
-            Kind::For | Kind::Loop | Kind::Group | Kind::Paren => Some(Around::Other(self.start)),
-        }
-    }
-
-    /// Notes that a statement of this kind begins in it. Of a `for` it is known at its end what it is.
-    fn take_in(&mut self, kind: Kind, start: usize) {
-        self.is_allowed = false;
-        if matches!(kind, Kind::Loop | Kind::Group | Kind::Paren) {
-            self.note_other(start);
-        }
-    }
-
-    /// Notes that something is in it that stays, whatever is in that.
-    fn note_other(&mut self, start: usize) {
-        if self.at_other.is_none() {
-            self.at_other = Some(start);
-        }
-    }
-
-    /// Notes whether a word of it is in brackets.
-    fn read_quotes(&mut self, is_quoted: bool) {
-        self.is_allowed &= !is_quoted;
-        if is_quoted && self.around.is_none() {
-            self.around = Some(Around::Brackets);
-        }
-    }
-}
-
-/// What may begin at a place.
-#[derive(Clone, Copy, PartialEq, Eq)]
-enum Front {
-    /// A further word of a command.
-    Further,
-    /// A statement.
-    Statement,
-    /// A statement, after a call on the line.
-    AfterCall,
-    /// A command that is joined to another one, or the first of a condition.
-    Joined,
-}
 
 /// The compound statements that are open, and those that were found.
 #[derive(Drop)]
 pub(crate) struct Compounds {
     open: Vec<Compound>,
-    front: Front,
+    front: Beginning,
     /// Whether words and operators can't be told apart from here on.
     is_lost: bool,
     /// Whether the body of a function follows.
@@ -150,7 +23,7 @@ pub(crate) struct Compounds {
     /// Whether it begins with an assignment, and with one that has a value of its own in it.
     is_assigned: bool,
     is_default: bool,
-    found: Vec<Cut>,
+    found: Vec<StatementCut>,
     /// The statements that aren't rewritten, whatever their parts are.
     kept: Vec<Kept>,
 }
@@ -179,26 +52,12 @@ fn is_defaulting(word: &[u8]) -> bool {
     word.contains(&b'{') && word.contains(&b':')
 }
 
-/// Returns whether a word is no more and no less than what is written there.
-fn is_written(word: &[u8]) -> bool {
-    !word.iter().any(|byte| b"$`*?\\".contains(byte))
-}
-
-/// Returns a branch of an `if` that begins at an offset.
-fn branch_at(start: usize) -> IfBranch {
-    IfBranch {
-        start,
-        at_then: 0,
-        end: 0,
-    }
-}
-
 impl Compounds {
     /// Returns the start of a list.
     pub(crate) fn new(alloc: Global) -> Compounds {
         Compounds {
             open: Vec::new(alloc),
-            front: Front::Statement,
+            front: Beginning::Statement,
             is_lost: false,
             is_function: false,
             semicolon: None,
@@ -212,14 +71,14 @@ impl Compounds {
 
     /// Ends the list, and returns the statements that may be rewritten, and those that aren't,
     /// whatever their parts are.
-    pub(crate) fn into_found(mut self) -> Result<(Vec<Cut>, Vec<Kept>), AllocError> {
+    pub(crate) fn into_found(mut self) -> Result<(Vec<StatementCut>, Vec<Kept>), AllocError> {
         self.end_guard()?;
         let Compounds { found, kept, .. } = self;
         Ok((found, kept))
     }
 
     /// Returns what is around a statement that begins here, if that keeps it from being rewritten.
-    fn outer(&self) -> Option<Around> {
+    fn outer(&self) -> Option<Obstacle> {
         match self.open.last() {
             Some(last) => last.around_inner(),
             None => None,
@@ -228,17 +87,17 @@ impl Compounds {
 
     /// Returns what is before a statement that begins here, or at its first word, if that keeps it
     /// from being rewritten.
-    fn at_words(&self, is_quoted: bool) -> Option<Around> {
+    fn at_words(&self, is_quoted: bool) -> Option<Obstacle> {
         if is_quoted {
-            return Some(Around::Brackets);
+            return Some(Obstacle::Brackets);
         }
         if self.is_function {
-            return Some(Around::Function);
+            return Some(Obstacle::Function);
         }
         match self.front {
-            Front::Statement => None,
-            Front::AfterCall => Some(Around::Call),
-            Front::Joined | Front::Further => Some(Around::Command),
+            Beginning::Statement => None,
+            Beginning::AfterCall => Some(Obstacle::Call),
+            Beginning::Joined | Beginning::Further => Some(Obstacle::Command),
         }
     }
 
@@ -247,13 +106,13 @@ impl Compounds {
     fn end_guard(&mut self) -> Result<(), AllocError> {
         if let Some(guard) = self.guard {
             if guard.at_joint == 0 && self.is_default {
-                self.found.push(Cut::Default(guard))?;
+                self.found.push(StatementCut::Default(guard))?;
             }
             if guard.at_joint > 0 && guard.at_joint < guard.end {
                 self.found.push(if self.is_assigned {
-                    Cut::Assigned(guard)
+                    StatementCut::Assigned(guard)
                 } else {
-                    Cut::Guard(guard)
+                    StatementCut::Guard(guard)
                 })?;
             }
         }
@@ -262,7 +121,7 @@ impl Compounds {
     }
 
     /// Begins or extends a statement that begins with a test, up to the end of a word.
-    fn read_guard(&mut self, text: &[u8], word: Word, is_quoted: bool) {
+    fn read_guard(&mut self, text: &[u8], word: ShellWord, is_quoted: bool) {
         if let Some(guard) = self.guard {
             self.guard = Some(GuardCut {
                 end: word.end,
@@ -270,7 +129,7 @@ impl Compounds {
             });
         } else if (text == b"test".as_slice() || is_assigning(text))
             && self.is_list()
-            && self.front == Front::Statement
+            && self.front == Beginning::Statement
             && !self.is_function
             && !is_quoted
         {
@@ -286,11 +145,16 @@ impl Compounds {
 
     /// Notes an `echo`, an `exit`, an `unset` or an assignment by `+=` that is a statement of a list
     /// that calls may be put in.
-    fn read_line(&mut self, text: &[u8], word: Word, is_quoted: bool) -> Result<(), AllocError> {
+    fn read_line(
+        &mut self,
+        text: &[u8],
+        word: ShellWord,
+        is_quoted: bool,
+    ) -> Result<(), AllocError> {
         let is_word = matches!(text, b"echo" | b"exit" | b"unset") && word.is_plain;
         let is_line = (is_word || is_appending(text)) && !is_quoted;
         if is_line && self.begins_call() && !self.is_function {
-            self.found.push(Cut::Line(word.start))?;
+            self.found.push(StatementCut::Line(word.start))?;
         }
         Ok(())
     }
@@ -319,21 +183,21 @@ impl Compounds {
 
     /// Returns whether a call that begins here is a statement of such a list.
     fn begins_call(&self) -> bool {
-        self.is_list() && self.front != Front::Further && self.front != Front::Joined
+        self.is_list() && self.front != Beginning::Further && self.front != Beginning::Joined
     }
 
     /// Begins a compound statement.
     fn begin(
         &mut self,
         alloc: Global,
-        kind: Kind,
-        word: Word,
+        kind: ConstructKind,
+        word: ShellWord,
         is_quoted: bool,
     ) -> Result<(), AllocError> {
         self.guard = None;
         let is_in_list = self.is_list();
         let is_allowed = is_in_list
-            && self.front == Front::Statement
+            && self.front == Beginning::Statement
             && !self.is_function
             && !is_quoted;
         let outer = self.outer();
@@ -346,30 +210,14 @@ impl Compounds {
             last.take_in(kind, word.start);
         }
         self.is_function = false;
-        self.open.push(Compound {
-            kind,
-            stage: Stage::Head,
-            is_in_list,
-            is_allowed,
-            outer,
-            around,
-            at_other: None,
-            start: word.start,
-            branches: Vec::new(alloc),
-            branch: branch_at(word.end),
-            at_else: None,
-            has_subject: false,
-            is_after_word: false,
-            at_in: 0,
-            words: 0,
-            at_do: 0,
-            is_written: false,
-            has_jump: false,
-            found_before: self.found.len(),
-            cases: Vec::new(alloc),
-            at_close: 0,
-        })?;
-        self.front = Front::Joined;
+        let mut compound = Compound::new(alloc, kind, word);
+        compound.is_in_list = is_in_list;
+        compound.is_allowed = is_allowed;
+        compound.outer = outer;
+        compound.around = around;
+        compound.found_before = self.found.len();
+        self.open.push(compound)?;
+        self.front = Beginning::Joined;
         Ok(())
     }
 
@@ -378,92 +226,32 @@ impl Compounds {
         self.is_lost = true;
     }
 
-    /// Reads `then`.
-    fn read_then(&mut self, word: Word, is_quoted: bool) {
-        match self.open.last_mut() {
-            Some(last) if last.kind == Kind::If && last.stage == Stage::Head => {
-                last.stage = Stage::Body;
-                last.branch.at_then = word.start;
-                last.read_quotes(is_quoted);
-                self.front = Front::Statement;
-            }
-            _ => self.lose(),
-        }
-    }
-
-    /// Reads `elif`.
-    fn read_elif(&mut self, word: Word, is_quoted: bool) -> Result<(), AllocError> {
-        match self.open.last_mut() {
-            Some(last) if last.kind == Kind::If && last.stage == Stage::Body => {
-                last.branch.end = word.start;
-                last.branches.push(last.branch)?;
-                last.branch = branch_at(word.end);
-                last.stage = Stage::Head;
-                last.read_quotes(is_quoted);
-                self.front = Front::Joined;
-            }
-            _ => self.lose(),
+    /// Reads a keyword by which the last compound statement goes on, or gives up.
+    fn go_on(&mut self, text: &[u8], word: ShellWord, is_quoted: bool) -> Result<(), AllocError> {
+        let next = match self.open.last_mut() {
+            Some(last) => last.go_on(text, word, is_quoted)?,
+            None => None,
+        };
+        match next {
+            Some(next) => self.front = next,
+            None => self.lose(),
         }
         Ok(())
     }
 
-    /// Reads `else`.
-    fn read_else(&mut self, word: Word, is_quoted: bool) -> Result<(), AllocError> {
-        match self.open.last_mut() {
-            Some(last) if last.kind == Kind::If && last.stage == Stage::Body => {
-                last.branch.end = word.start;
-                last.branches.push(last.branch)?;
-                last.at_else = Some(word.start);
-                last.stage = Stage::Default;
-                last.read_quotes(is_quoted);
-                self.front = Front::Statement;
-            }
-            _ => self.lose(),
-        }
-        Ok(())
-    }
-
-    /// Closes an `if` that was taken out.
-    fn close_if(
+    /// Appends a statement that was taken out, and that ends with this word, to those that may be
+    /// rewritten, or to those that aren't.
+    fn push_closed(
         &mut self,
         mut compound: Compound,
-        word: Word,
+        word: ShellWord,
         is_quoted: bool,
     ) -> Result<(), AllocError> {
         compound.read_quotes(is_quoted);
-        let Compound {
-            stage,
-            is_allowed,
-            around,
-            at_other,
-            start,
-            mut branches,
-            mut branch,
-            at_else,
-            ..
-        } = compound;
-        if stage == Stage::Body {
-            branch.end = word.start;
-            branches.push(branch)?;
-        }
-        let cut = Cut::If(IfCut {
-            start,
-            branches,
-            at_else,
-            at_fi: word.start,
-            end: word.end,
-        });
-        self.push_cut(cut, is_allowed, around, at_other)
-    }
-
-    /// Appends a statement to those that may be rewritten, or to those that aren't.
-    fn push_cut(
-        &mut self,
-        cut: Cut,
-        is_allowed: bool,
-        around: Option<Around>,
-        at_other: Option<usize>,
-    ) -> Result<(), AllocError> {
+        let is_allowed = compound.is_allowed;
+        let around = compound.around;
+        let at_other = compound.at_other;
+        let cut = compound.into_cut(word)?;
         if is_allowed {
             self.found.push(cut)?;
         } else {
@@ -476,43 +264,8 @@ impl Compounds {
         Ok(())
     }
 
-    /// Closes a `case` that was taken out.
-    fn close_case(
-        &mut self,
-        mut compound: Compound,
-        word: Word,
-        is_quoted: bool,
-    ) -> Result<(), AllocError> {
-        compound.read_quotes(is_quoted);
-        let Compound {
-            stage,
-            is_allowed,
-            around,
-            at_other,
-            start,
-            at_in,
-            mut cases,
-            at_close,
-            ..
-        } = compound;
-        if stage == Stage::Body {
-            cases.push(CaseBranch {
-                at_close,
-                end: word.start,
-            })?;
-        }
-        let cut = Cut::Case(CaseCut {
-            start,
-            at_in,
-            branches: cases,
-            at_esac: word.start,
-            end: word.end,
-        });
-        self.push_cut(cut, is_allowed, around, at_other)
-    }
-
     /// Takes out the last compound statement if it is of this kind, and otherwise gives up.
-    fn take(&mut self, kind: Kind) -> Option<Compound> {
+    fn take(&mut self, kind: ConstructKind) -> Option<Compound> {
         let is_it = match self.open.last() {
             Some(last) => last.kind == kind,
             None => false,
@@ -521,9 +274,9 @@ impl Compounds {
             self.lose();
             return None;
         }
-        self.front = Front::Further;
+        self.front = Beginning::Further;
         let taken = self.open.pop();
-        let is_loop = matches!(kind, Kind::For | Kind::Loop);
+        let is_loop = matches!(kind, ConstructKind::For | ConstructKind::Loop);
         if !is_loop && taken.as_ref().is_some_and(|compound| compound.has_jump) {
             self.note_jump();
         }
@@ -544,10 +297,10 @@ impl Compounds {
             let Some(cut) = self.found.pop() else {
                 break;
             };
-            if matches!(cut, Cut::If(_) | Cut::Case(_)) {
+            if matches!(cut, StatementCut::If(_) | StatementCut::Case(_)) {
                 self.kept.push(Kept {
                     cut,
-                    around: Some(Around::Other(at)),
+                    around: Some(Obstacle::Other(at)),
                     at_other: None,
                 })?;
             }
@@ -556,10 +309,10 @@ impl Compounds {
     }
 
     /// Reads `fi`.
-    fn read_fi(&mut self, word: Word, is_quoted: bool) -> Result<(), AllocError> {
-        match self.take(Kind::If) {
-            Some(compound) if compound.stage != Stage::Head => {
-                self.close_if(compound, word, is_quoted)
+    fn read_fi(&mut self, word: ShellWord, is_quoted: bool) -> Result<(), AllocError> {
+        match self.take(ConstructKind::If) {
+            Some(compound) if compound.part != OpenPart::Head => {
+                self.push_closed(compound, word, is_quoted)
             }
             Some(_) => {
                 self.lose();
@@ -570,52 +323,34 @@ impl Compounds {
     }
 
     /// Reads `esac`.
-    fn read_esac(&mut self, word: Word, is_quoted: bool) -> Result<(), AllocError> {
-        match self.take(Kind::Case) {
-            Some(compound) => self.close_case(compound, word, is_quoted),
+    fn read_esac(&mut self, word: ShellWord, is_quoted: bool) -> Result<(), AllocError> {
+        match self.take(ConstructKind::Case) {
+            Some(compound) => self.push_closed(compound, word, is_quoted),
             None => Ok(()),
         }
     }
 
     /// Reads a word of a `for` before its `do`.
-    fn read_of_for(&mut self, text: &[u8], word: Word, is_quoted: bool) {
-        let Some(last) = self.open.last_mut() else {
-            return;
-        };
-        if last.kind != Kind::For || last.stage != Stage::Head || self.front != Front::Further {
+    fn read_of_for(&mut self, text: &[u8], word: ShellWord, is_quoted: bool) {
+        if self.front != Beginning::Further {
             return;
         }
-        last.words = last.words.saturating_add(1);
-        if last.words == 2 {
-            last.at_in = word.start;
-            last.is_written = text == b"in".as_slice();
-        }
-        last.is_written &= is_written(text);
-        last.read_quotes(is_quoted);
-    }
-
-    /// Reads `do`.
-    fn read_do(&mut self, word: Word, is_quoted: bool) {
-        match self.open.last_mut() {
-            Some(last)
-                if matches!(last.kind, Kind::For | Kind::Loop) && last.stage == Stage::Head => {
-                last.stage = Stage::Body;
-                last.at_do = word.start;
-                last.read_quotes(is_quoted);
-                self.front = Front::Statement;
-            }
-            _ => self.lose(),
+        if let Some(last) = self.open.last_mut() {
+            last.read_of_for(text, word, is_quoted);
         }
     }
 
     /// Reads `done`.
-    fn read_done(&mut self, word: Word, is_quoted: bool) -> Result<(), AllocError> {
-        let is_for = self.open.last().is_some_and(|last| last.kind == Kind::For);
+    fn read_done(&mut self, word: ShellWord, is_quoted: bool) -> Result<(), AllocError> {
+        let is_for = self
+            .open
+            .last()
+            .is_some_and(|last| last.kind == ConstructKind::For);
         if !is_for {
-            self.close(Kind::Loop);
+            self.close(ConstructKind::Loop);
             return Ok(());
         }
-        let Some(last) = self.take(Kind::For) else {
+        let Some(last) = self.take(ConstructKind::For) else {
             return Ok(());
         };
         if let Some(outer) = self.open.last_mut() {
@@ -626,20 +361,14 @@ impl Compounds {
         if last.has_jump {
             return self.keep_found(last.found_before, last.start);
         }
-        if last.is_allowed && last.is_written && last.stage == Stage::Body && !is_quoted {
-            self.found.push(Cut::For(ForCut {
-                start: last.start,
-                at_in: last.at_in,
-                at_do: last.at_do,
-                at_done: word.start,
-                end: word.end,
-            }))?;
+        if last.is_allowed && last.is_written && last.part == OpenPart::Body && !is_quoted {
+            self.found.push(last.into_cut(word)?)?;
         }
         Ok(())
     }
 
     /// Closes a compound statement that isn't rewritten.
-    fn close(&mut self, kind: Kind) {
+    fn close(&mut self, kind: ConstructKind) {
         let _ = self.take(kind);
     }
 
@@ -648,23 +377,26 @@ impl Compounds {
         &mut self,
         alloc: Global,
         text: &[u8],
-        word: Word,
+        word: ShellWord,
         is_quoted: bool,
     ) -> Result<bool, AllocError> {
         let kind = match text {
-            b"if" => Kind::If,
-            b"case" => Kind::Case,
-            b"for" => Kind::For,
-            b"while" | b"until" | b"select" => Kind::Loop,
-            b"{" => Kind::Group,
+            b"if" => ConstructKind::If,
+            b"case" => ConstructKind::Case,
+            b"for" => ConstructKind::For,
+            b"while" | b"until" | b"select" => ConstructKind::Loop,
+            b"{" => ConstructKind::Group,
             _ => return Ok(false),
         };
         self.begin(alloc, kind, word, is_quoted)?;
-        if kind == Kind::Group {
-            self.front = Front::Statement;
+        if kind == ConstructKind::Group {
+            self.front = Beginning::Statement;
         }
-        if kind == Kind::Case || text == b"for".as_slice() || text == b"select".as_slice() {
-            self.front = Front::Further;
+        if kind == ConstructKind::Case
+            || text == b"for".as_slice()
+            || text == b"select".as_slice()
+        {
+            self.front = Beginning::Further;
         }
         Ok(true)
     }
@@ -673,22 +405,19 @@ impl Compounds {
     fn read_continuing(
         &mut self,
         text: &[u8],
-        word: Word,
+        word: ShellWord,
         is_quoted: bool,
     ) -> Result<bool, AllocError> {
         match text {
-            b"then" => self.read_then(word, is_quoted),
-            b"elif" => self.read_elif(word, is_quoted)?,
-            b"else" => self.read_else(word, is_quoted)?,
+            b"then" | b"elif" | b"else" | b"do" => self.go_on(text, word, is_quoted)?,
             b"fi" => self.read_fi(word, is_quoted)?,
-            b"do" => self.read_do(word, is_quoted),
             b"done" => self.read_done(word, is_quoted)?,
             b"esac" => self.read_esac(word, is_quoted)?,
-            b"}" => self.close(Kind::Group),
-            b"!" => self.front = Front::Joined,
+            b"}" => self.close(ConstructKind::Group),
+            b"!" => self.front = Beginning::Joined,
             b"break" | b"continue" => {
                 self.note_jump();
-                self.front = Front::Further;
+                self.front = Beginning::Further;
             }
             _ => return Ok(false),
         }
@@ -700,35 +429,35 @@ impl Compounds {
     fn read_of_case(
         &mut self,
         text: &[u8],
-        word: Word,
+        word: ShellWord,
         is_quoted: bool,
     ) -> Result<bool, AllocError> {
         let Some(last) = self.open.last_mut() else {
             return Ok(false);
         };
-        if last.kind != Kind::Case {
+        if last.kind != ConstructKind::Case {
             return Ok(false);
         }
-        if last.stage == Stage::Head {
+        if last.part == OpenPart::Head {
             if text == b"in".as_slice() && last.has_subject {
-                last.stage = Stage::Patterns;
+                last.part = OpenPart::Patterns;
                 last.at_in = word.start;
                 last.read_quotes(is_quoted);
             }
             last.has_subject = true;
             return Ok(true);
         }
-        if last.stage == Stage::Patterns && text == b"esac".as_slice() {
+        if last.part == OpenPart::Patterns && text == b"esac".as_slice() {
             self.read_esac(word, is_quoted)?;
             return Ok(true);
         }
-        Ok(last.stage == Stage::Patterns)
+        Ok(last.part == OpenPart::Patterns)
     }
 
     /// Notes that a word is in the parentheses that are open, if they are the innermost.
     fn fill_paren(&mut self) {
         if let Some(last) = self.open.last_mut() {
-            if last.kind == Kind::Paren {
+            if last.kind == ConstructKind::Paren {
                 last.has_subject = true;
             }
         }
@@ -740,7 +469,7 @@ impl Compounds {
         &mut self,
         alloc: Global,
         text: &[u8],
-        word: Word,
+        word: ShellWord,
         is_quoted: bool,
     ) -> Result<bool, AllocError> {
         self.semicolon = None;
@@ -751,13 +480,13 @@ impl Compounds {
         self.read_of_for(text, word, is_quoted);
         self.read_guard(text, word, is_quoted);
         self.read_line(text, word, is_quoted)?;
-        if self.front == Front::Further {
+        if self.front == Beginning::Further {
             return Ok(false);
         }
         if word.is_call {
             self.is_function = false;
             let is_statement = self.begins_call();
-            self.front = Front::AfterCall;
+            self.front = Beginning::AfterCall;
             return Ok(is_statement);
         }
         if word.is_plain
@@ -767,7 +496,7 @@ impl Compounds {
             return Ok(false);
         }
         self.is_function = false;
-        self.front = Front::Further;
+        self.front = Beginning::Further;
         Ok(false)
     }
 
@@ -776,18 +505,18 @@ impl Compounds {
         if self
             .open
             .last()
-            .is_some_and(|last| last.stage == Stage::Patterns)
+            .is_some_and(|last| last.part == OpenPart::Patterns)
         {
             return Ok(());
         }
-        let is_after_word = self.front == Front::Further;
-        let word = Word {
+        let is_after_word = self.front == Beginning::Further;
+        let word = ShellWord {
             start: at,
             end: at,
             is_plain: true,
             is_call: false,
         };
-        self.begin(alloc, Kind::Paren, word, false)?;
+        self.begin(alloc, ConstructKind::Paren, word, false)?;
         if let Some(last) = self.open.last_mut() {
             last.is_after_word = is_after_word;
         }
@@ -799,24 +528,24 @@ impl Compounds {
     /// call of a macro, as `FOO(x)`.
     fn end_paren(&mut self, paren: &Compound) {
         if paren.is_after_word && paren.has_subject {
-            self.front = Front::AfterCall;
+            self.front = Beginning::AfterCall;
         } else if paren.is_after_word {
             self.is_function = true;
-            self.front = Front::Statement;
+            self.front = Beginning::Statement;
         }
     }
 
     /// Reads a parenthesis that closes: of a command, of a function, or after patterns.
     fn read_close_paren(&mut self, at: usize) {
         if let Some(last) = self.open.last_mut() {
-            if last.stage == Stage::Patterns {
-                last.stage = Stage::Body;
+            if last.part == OpenPart::Patterns {
+                last.part = OpenPart::Body;
                 last.at_close = at;
-                self.front = Front::Statement;
+                self.front = Beginning::Statement;
                 return;
             }
         }
-        if let Some(paren) = self.take(Kind::Paren) {
+        if let Some(paren) = self.take(ConstructKind::Paren) {
             self.end_paren(&paren);
         }
     }
@@ -826,11 +555,11 @@ impl Compounds {
         let first = at.saturating_sub(1);
         let is_second = at > 0 && self.semicolon == Some(first);
         self.semicolon = if is_second { None } else { Some(at) };
-        self.front = Front::Statement;
+        self.front = Beginning::Statement;
         self.end_guard()?;
         if let Some(last) = self.open.last_mut() {
-            if is_second && last.kind == Kind::Case && last.stage == Stage::Body {
-                last.stage = Stage::Patterns;
+            if is_second && last.kind == ConstructKind::Case && last.part == OpenPart::Body {
+                last.part = OpenPart::Patterns;
                 last.cases.push(CaseBranch {
                     at_close: last.at_close,
                     end: first,
@@ -845,26 +574,29 @@ impl Compounds {
     fn read_joint(&mut self, at: usize) {
         let is_after_semicolon = at > 0 && self.semicolon == Some(at.saturating_sub(1));
         if let Some(last) = self.open.last_mut() {
-            if is_after_semicolon && last.kind == Kind::Case && last.stage == Stage::Body {
-                last.stage = Stage::Patterns;
+            if is_after_semicolon
+                && last.kind == ConstructKind::Case
+                && last.part == OpenPart::Body
+            {
+                last.part = OpenPart::Patterns;
                 last.is_allowed = false;
             }
         }
         self.semicolon = None;
-        self.front = Front::Joined;
+        self.front = Beginning::Joined;
         self.join_guard(at);
     }
 
     /// Reads a newline. What is joined to the next command stays so.
     fn read_newline(&mut self) -> Result<(), AllocError> {
         self.semicolon = None;
-        if self.front == Front::Joined
-            || self.open.last().is_some_and(|last| last.kind == Kind::Case
-                && last.stage == Stage::Head)
+        if self.front == Beginning::Joined
+            || self.open.last().is_some_and(|last| last.kind == ConstructKind::Case
+                && last.part == OpenPart::Head)
         {
             return Ok(());
         }
-        self.front = Front::Statement;
+        self.front = Beginning::Statement;
         self.end_guard()
     }
 
@@ -881,7 +613,7 @@ impl Compounds {
             Sign::Semicolon => self.read_semicolon(at)?,
             Sign::Joint => self.read_joint(at),
             Sign::Redirection => {
-                self.front = Front::Further;
+                self.front = Beginning::Further;
                 self.guard = None;
             }
             Sign::OpenParen => self.read_open_paren(alloc, at)?,

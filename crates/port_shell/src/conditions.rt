@@ -10,10 +10,10 @@ ghost use Rattle.port_joints.specs.Joints.{Becomes};
 ghost use Rattle.port_joints.specs.Spelled.{IsRespelled};
 ghost use Rattle.port_shell.specs.Formed as specs;
 
-use crate::cut::Cut;
+use crate::cut::StatementCut;
 use crate::files::pass_files;
 use crate::lists::cuts_in;
-use crate::passing::{Pass, write_change};
+use crate::passing::{Pass, finish, write_change};
 use ac_calls::{CallAt, Extent, calls_of};
 use lint_text::{line_start, part, without_end_blanks};
 use port_compounds::{GuardCut, IfCut, are_blank, are_spaces, guard_parts, is_list_end, is_word};
@@ -39,7 +39,7 @@ pub(crate) enum Whole {
 
 /// Where a condition may be.
 #[derive(Clone, Copy)]
-pub(crate) struct Place {
+pub(crate) struct ConditionPlace {
     /// The offset of the statement.
     pub start: usize,
     /// The offsets of the condition.
@@ -229,7 +229,7 @@ fn is_test_at(
     alloc: Global,
     text: &[u8],
     calls: &[CallAt],
-    place: Place,
+    place: ConditionPlace,
 ) -> Result<bool, AllocError>
     requires { map macro_call_of calls.now ≡ calls_in text.now }
     ensures { IfOk result (λ b.
@@ -250,7 +250,7 @@ fn is_test_at(
 }
 
 /// Returns the place of the condition of an `if` or `elif` at an offset, after the keyword.
-fn place_of_if(text: &[u8], start: usize, after: usize, at_then: usize) -> Place {
+fn place_of_if(text: &[u8], start: usize, after: usize, at_then: usize) -> ConditionPlace {
     let written = part(text, after, at_then);
     let blanks = written
         .iter()
@@ -261,7 +261,7 @@ fn place_of_if(text: &[u8], start: usize, after: usize, at_then: usize) -> Place
         Some((last, front)) if *last == b';' => without_end_blanks(front),
         _ => end,
     };
-    Place {
+    ConditionPlace {
         start,
         from: after.saturating_add(blanks),
         to: after.saturating_add(end.len()),
@@ -270,7 +270,11 @@ fn place_of_if(text: &[u8], start: usize, after: usize, at_then: usize) -> Place
 }
 
 /// Appends the places of the conditions of an `if`.
-fn push_of_if(text: &[u8], cut: &IfCut, places: &mut Vec<Place>) -> Result<(), AllocError> {
+fn push_of_if(
+    text: &[u8],
+    cut: &IfCut,
+    places: &mut Vec<ConditionPlace>,
+) -> Result<(), AllocError> {
     let mut start = cut.start;
     for branch in &cut.branches {
         places.push(place_of_if(text, start, branch.start, branch.at_then))?;
@@ -280,9 +284,9 @@ fn push_of_if(text: &[u8], cut: &IfCut, places: &mut Vec<Place>) -> Result<(), A
 }
 
 /// Returns the place of the condition before a statement that it guards.
-fn place_of_guard(text: &[u8], cut: GuardCut) -> Place {
+fn place_of_guard(text: &[u8], cut: GuardCut) -> ConditionPlace {
     let written = without_end_blanks(part(text, cut.start, cut.at_joint));
-    Place {
+    ConditionPlace {
         start: cut.start,
         from: cut.start,
         to: cut.start.saturating_add(written.len()),
@@ -291,14 +295,22 @@ fn place_of_guard(text: &[u8], cut: GuardCut) -> Place {
 }
 
 /// Appends the places of the conditions of a statement.
-fn push_of_cut(text: &[u8], cut: &Cut, places: &mut Vec<Place>) -> Result<(), AllocError> {
+fn push_of_cut(
+    text: &[u8],
+    cut: &StatementCut,
+    places: &mut Vec<ConditionPlace>,
+) -> Result<(), AllocError> {
     match cut {
-        Cut::If(cut) => push_of_if(text, cut, places),
-        Cut::Guard(cut) => {
+        StatementCut::If(cut) => push_of_if(text, cut, places),
+        StatementCut::Guard(cut) => {
             places.push(place_of_guard(text, *cut))?;
             Ok(())
         }
-        Cut::Case(_) | Cut::Assigned(_) | Cut::Default(_) | Cut::For(_) | Cut::Line(_) => Ok(()),
+        StatementCut::Case(_)
+        | StatementCut::Assigned(_)
+        | StatementCut::Default(_)
+        | StatementCut::For(_)
+        | StatementCut::Line(_) => Ok(()),
     }
 }
 
@@ -307,11 +319,11 @@ fn push_of_call(
     text: &[u8],
     call: &CallAt,
     index: usize,
-    places: &mut Vec<Place>,
+    places: &mut Vec<ConditionPlace>,
 ) -> Result<(), AllocError> {
     if let Some(arg) = call.args.first() {
         let written = without_end_blanks(part(text, arg.start, arg.end));
-        places.push(Place {
+        places.push(ConditionPlace {
             start: call.start,
             from: arg.start.saturating_add(1),
             to: arg.start.saturating_add(written.len()).saturating_sub(1),
@@ -322,7 +334,11 @@ fn push_of_call(
 }
 
 /// Returns where conditions may be, in order of their offsets.
-fn places_in(alloc: Global, text: &[u8], calls: &[CallAt]) -> Result<Vec<Place>, AllocError> {
+fn places_in(
+    alloc: Global,
+    text: &[u8],
+    calls: &[CallAt],
+) -> Result<Vec<ConditionPlace>, AllocError> {
     let mut places = Vec::new(alloc);
     for cut in &cuts_in(alloc, text, calls)? {
         push_of_cut(text, cut, &mut places)?;
@@ -343,7 +359,7 @@ fn places_in(alloc: Global, text: &[u8], calls: &[CallAt]) -> Result<Vec<Place>,
 fn put_joined(
     idioms: Idioms,
     text: &[u8],
-    place: Place,
+    place: ConditionPlace,
     put: &[u8],
     pass: &mut Pass,
 ) -> Result<(), AllocError>
@@ -388,7 +404,7 @@ fn put_spelled(
     idioms: Idioms,
     text: &[u8],
     indent: &[u8],
-    place: Place,
+    place: ConditionPlace,
     put: &[u8],
     pass: &mut Pass,
 ) -> Result<(), AllocError>
@@ -429,7 +445,7 @@ fn pass_spelled(
     idioms: Idioms,
     text: &[u8],
     calls: &[CallAt],
-    place: Place,
+    place: ConditionPlace,
     put: &[u8],
     pass: &mut Pass,
 ) -> Result<(), AllocError>
@@ -453,7 +469,7 @@ fn pass_other(
     idioms: Idioms,
     text: &[u8],
     calls: &[CallAt],
-    place: Place,
+    place: ConditionPlace,
     pass: &mut Pass,
 ) -> Result<(), AllocError>
     requires all { idioms ≡ All }
@@ -475,7 +491,7 @@ fn pass_idioms(
     idioms: Idioms,
     text: &[u8],
     calls: &[CallAt],
-    place: Place,
+    place: ConditionPlace,
     pass: &mut Pass,
 ) -> Result<(), AllocError>
     requires calls { map macro_call_of calls.now ≡ calls_in text.now }
@@ -495,7 +511,7 @@ fn pass_wanted(
     idioms: Idioms,
     text: &[u8],
     calls: &[CallAt],
-    place: Place,
+    place: ConditionPlace,
     pass: &mut Pass,
 ) -> Result<(), AllocError>
     requires calls { map macro_call_of calls.now ≡ calls_in text.now }
@@ -515,7 +531,7 @@ fn pass_joined(
     alloc: Global,
     idioms: Idioms,
     text: &[u8],
-    place: Place,
+    place: ConditionPlace,
     pass: &mut Pass,
 ) -> Result<(), AllocError>
     requires is { specs.IsTestAt text.now place.start place.from place.to }
@@ -538,7 +554,7 @@ fn pass_place(
     idioms: Idioms,
     text: &[u8],
     calls: &[CallAt],
-    place: Place,
+    place: ConditionPlace,
     pass: &mut Pass,
 ) -> Result<(), AllocError>
     requires calls { map macro_call_of calls.now ≡ calls_in text.now }
@@ -562,7 +578,7 @@ fn pass_places(
     idioms: Idioms,
     text: &[u8],
     calls: &[CallAt],
-    places: &[Place],
+    places: &[ConditionPlace],
     pass: &mut Pass,
 ) -> Result<(), AllocError>
     requires calls { map macro_call_of calls.now ≡ calls_in text.now }
@@ -573,15 +589,6 @@ fn pass_places(
         pass_place(alloc, idioms, text, calls, places[i], pass)?;
     }
     Ok(())
-}
-
-/// Copies the rest of a text.
-fn copy_rest(idioms: Idioms, text: &[u8], pass: &mut Pass) -> Result<(), AllocError>
-    requires begun { specs.IsPass idioms text.now pass.old.at pass.old.out.items }
-    ensures { OnOk result (specs.IsPass idioms text.now (length text.now) pass.new.out.items) }
-{
-    let _ = idioms;
-    pass.out.extend_from_slice(&text[pass.at..text.len()])
 }
 
 /// Returns the text with conditions of AS_IF in which `-a` and `-o` became `&&` and `||`, and, if
@@ -597,11 +604,7 @@ pub(crate) fn tested_once(
 {
     let calls = calls_of(alloc, text)?;
     let places = places_in(alloc, text, calls.as_slice())?;
-    let mut pass = Pass {
-        out: Vec::new(alloc),
-        at: 0,
-        has_changed: false,
-    };
+    let mut pass = Pass::new(alloc);
     pass_places(
         alloc,
         idioms,
@@ -610,11 +613,5 @@ pub(crate) fn tested_once(
         places.as_slice(),
         &mut pass,
     )?;
-    copy_rest(idioms, text, &mut pass)?;
-    let Pass {
-        out,
-        has_changed,
-        ..
-    } = pass;
-    if has_changed { Ok(Some(out)) } else { Ok(None) }
+    finish(idioms, text, pass)
 }

@@ -4,7 +4,7 @@ use port_compounds::{CaseCut, ForCut, GuardCut, IfCut};
 
 /// A statement by the offsets of its words.
 #[derive(Drop)]
-pub(crate) enum Cut {
+pub(crate) enum StatementCut {
     If(IfCut),
     Case(CaseCut),
     Guard(GuardCut),
@@ -17,37 +17,37 @@ pub(crate) enum Cut {
     Line(usize),
 }
 
-impl Cut {
+impl StatementCut {
     /// Returns the offset of its first byte.
     pub(crate) fn start(&self) -> usize {
         match self {
-            Cut::If(cut) => cut.start,
-            Cut::Case(cut) => cut.start,
-            Cut::Guard(cut) => cut.start,
-            Cut::Assigned(cut) => cut.start,
-            Cut::Default(cut) => cut.start,
-            Cut::For(cut) => cut.start,
-            Cut::Line(at) => *at,
+            StatementCut::If(cut) => cut.start,
+            StatementCut::Case(cut) => cut.start,
+            StatementCut::Guard(cut) => cut.start,
+            StatementCut::Assigned(cut) => cut.start,
+            StatementCut::Default(cut) => cut.start,
+            StatementCut::For(cut) => cut.start,
+            StatementCut::Line(at) => *at,
         }
     }
 
     /// Returns the offset after its last byte. Of a line only the first byte of its command is known.
     pub(crate) fn end(&self) -> usize {
         match self {
-            Cut::If(cut) => cut.end,
-            Cut::Case(cut) => cut.end,
-            Cut::Guard(cut) => cut.end,
-            Cut::Assigned(cut) => cut.end,
-            Cut::Default(cut) => cut.end,
-            Cut::For(cut) => cut.end,
-            Cut::Line(at) => *at,
+            StatementCut::If(cut) => cut.end,
+            StatementCut::Case(cut) => cut.end,
+            StatementCut::Guard(cut) => cut.end,
+            StatementCut::Assigned(cut) => cut.end,
+            StatementCut::Default(cut) => cut.end,
+            StatementCut::For(cut) => cut.end,
+            StatementCut::Line(at) => *at,
         }
     }
 }
 
 /// What is around a statement, or at its words, that keeps it from being rewritten.
 #[derive(Clone, Copy)]
-pub(crate) enum Around {
+pub(crate) enum Obstacle {
     /// A loop, braces or parentheses that begin at this offset.
     Other(usize),
     /// The condition of an `if`, or the word of a `case`.
@@ -65,8 +65,8 @@ pub(crate) enum Around {
 /// An `if` or a `case` that isn't rewritten, whatever its parts are.
 #[derive(Drop)]
 pub(crate) struct Kept {
-    pub(crate) cut: Cut,
-    pub(crate) around: Option<Around>,
+    pub(crate) cut: StatementCut,
+    pub(crate) around: Option<Obstacle>,
     /// The offset of the first loop, brace or parenthesis in it.
     pub(crate) at_other: Option<usize>,
 }

@@ -7,7 +7,7 @@ ghost use Rattle.port_shell.specs.Told as specs;
 
 use crate::calls::accepted_call;
 use crate::commands::pass_command;
-use crate::cut::Cut;
+use crate::cut::StatementCut;
 use crate::lists::cuts_in;
 use crate::passing::{Pass, write_change};
 use ac_calls::calls_of;
@@ -103,12 +103,17 @@ fn pass_echo(alloc: Global, text: &[u8], at: usize, pass: &mut Pass) -> Result<(
 }
 
 /// Goes over the statements that were found.
-fn pass_echoes(alloc: Global, text: &[u8], cuts: &[Cut], pass: &mut Pass) -> Result<(), AllocError>
+fn pass_echoes(
+    alloc: Global,
+    text: &[u8],
+    cuts: &[StatementCut],
+    pass: &mut Pass,
+) -> Result<(), AllocError>
     requires begun { specs.IsToldTo text.now pass.old.at pass.old.out.items }
     ensures { OnOk result (specs.IsToldTo text.now pass.new.at pass.new.out.items) }
 {
     for i in 0..cuts.len() {
-        if let Cut::Line(at) = &cuts[i] {
+        if let StatementCut::Line(at) = &cuts[i] {
             pass_echo(alloc, text, *at, pass)?;
         }
     }

@@ -10,7 +10,7 @@ ghost use Rattle.port_shell.specs.Calls.{IsPut};
 ghost use Rattle.port_shell.specs.Formed as specs;
 
 use crate::calls::accepted_call;
-use crate::conditions::{Place, is_in_bare};
+use crate::conditions::{ConditionPlace, is_in_bare};
 use crate::passing::{Pass, write_change};
 use ac_calls::CallAt;
 use lint_text::{line_start, part, without_end_blanks};
@@ -128,7 +128,7 @@ fn put_asked(
     idioms: Idioms,
     text: &[u8],
     indent: &[u8],
-    place: Place,
+    place: ConditionPlace,
     put: &[u8],
     call: &[u8],
     pass: &mut Pass,
@@ -156,7 +156,7 @@ fn pass_asked(
     idioms: Idioms,
     text: &[u8],
     calls: &[CallAt],
-    place: Place,
+    place: ConditionPlace,
     put: &[u8],
     call: &[u8],
     pass: &mut Pass,
@@ -225,7 +225,7 @@ fn pass_answer(
     idioms: Idioms,
     text: &[u8],
     calls: &[CallAt],
-    place: Place,
+    place: ConditionPlace,
     condition: &[u8],
     cut: FileCut,
     name: &[u8],
@@ -263,7 +263,7 @@ fn pass_named(
     idioms: Idioms,
     text: &[u8],
     calls: &[CallAt],
-    place: Place,
+    place: ConditionPlace,
     condition: &[u8],
     cut: FileCut,
     name: &[u8],
@@ -305,7 +305,7 @@ fn pass_cut(
     idioms: Idioms,
     text: &[u8],
     calls: &[CallAt],
-    place: Place,
+    place: ConditionPlace,
     condition: &[u8],
     cut: FileCut,
     pass: &mut Pass,
@@ -341,7 +341,7 @@ pub(crate) fn pass_files(
     idioms: Idioms,
     text: &[u8],
     calls: &[CallAt],
-    place: Place,
+    place: ConditionPlace,
     pass: &mut Pass,
 ) -> Result<(), AllocError>
     requires calls { map macro_call_of calls.now ≡ calls_in text.now }

@@ -17,7 +17,7 @@
 //!
 //! Read the definitions first: those of `port_compounds` say what these statements and their parts
 //! are, `specs/Calls` what is put in their place, `Formed` what is copied, and `Told` what a line
-//! with an `echo` becomes. In `src`, `shell` (what each byte is to a shell), `compounds` (which
+//! with an `echo` becomes. In `src`, `shell` (what each byte is to a shell), `compound` (one that is open), `compounds` (which
 //! statements are open) and `lists` (each list of statements of a source) look for statements.
 //! Nothing is proved of what they find: `port_compounds` reads the parts, `calls` the new call, and
 //! `puts` joins the two. `needs` finds where Autoconf makes checks that macros require, of which
@@ -29,6 +29,7 @@
 
 mod calls;
 mod commands;
+mod compound;
 mod compounds;
 mod conditions;
 mod cut;
@@ -45,4 +46,4 @@ mod shell;
 
 pub use echoes::told;
 pub use passes::formed;
-pub use reasons::{Reason, Staying, kept_statements};
+pub use reasons::{COMMENT_FRONT, Reason, Staying, kept_statements};

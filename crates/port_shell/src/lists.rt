@@ -1,12 +1,12 @@
 //! The lists of statements of a source, and the compound statements in them.
 
 use crate::compounds::Compounds;
-use crate::cut::{Cut, Kept};
+use crate::cut::{Kept, StatementCut};
 use crate::shell::Shell;
 use ac_calls::{CallAt, Extent};
 use ac_macros::holds_statements;
-use ac_macros::table::row_named;
-use lint_text::{first_line, first_name, from, is_word_byte, part, without_end_blanks};
+use lint_marks::{QuotePart, Quotes};
+use lint_text::{from, part, without_end_blanks};
 use std::alloc::{AllocError, Global};
 
 /// Returns whether the brackets of a text are closed at its end, and not earlier.
@@ -40,7 +40,7 @@ fn list_of(text: &[u8], arg: &Extent) -> Option<Extent> {
 
 /// Appends the lists of statements in the arguments of a call.
 fn push_lists(text: &[u8], call: &CallAt, lists: &mut Vec<Extent>) -> Result<(), AllocError> {
-    let Some(row) = row_named(part(text, call.start, call.name_end)) else {
+    let Some(row) = call.row else {
         return Ok(());
     };
     for i in 0..call.args.len() {
@@ -56,15 +56,11 @@ fn push_lists(text: &[u8], call: &CallAt, lists: &mut Vec<Extent>) -> Result<(),
 
 /// How far a list of statements was read.
 #[derive(Drop)]
-struct Reader {
+struct ListReader {
     shell: Shell,
     compounds: Compounds,
-    /// The brackets that are open.
-    depth: usize,
-    /// Whether this is a comment of m4, in which brackets mean nothing.
-    is_comment: bool,
-    /// Whether a name is before the place.
-    is_name: bool,
+    /// What m4 has open.
+    quotes: Quotes,
     /// Whether a byte of the word is in brackets.
     is_quoted: bool,
     /// The offset up to which nothing is to be read.
@@ -92,7 +88,7 @@ fn first_call(calls: &[CallAt], at: usize) -> usize {
     low
 }
 
-impl Reader {
+impl ListReader {
     /// Ends the word before an offset, if there is one. The lists of a call that is a statement are
     /// appended.
     fn end_word(
@@ -125,42 +121,17 @@ impl Reader {
         let Some(call) = calls.get(self.next) else {
             return false;
         };
-        if call.start != at || self.depth > 0 || self.is_comment {
+        if call.start != at || self.quotes.depth > 0 || !self.quotes.is_text() {
             return false;
         }
         self.call = self.next;
         self.shell.read_call(at, call.end);
         self.skips = call.end;
-        self.is_name = false;
+        self.quotes.is_name = false;
         true
     }
 
-    /// Reads a bracket that quotes, if one is at an offset.
-    fn read_bracket(&mut self, byte: u8) -> bool {
-        if self.is_comment {
-            return false;
-        }
-        self.is_name = false;
-        if byte == b'[' {
-            self.depth = self.depth.saturating_add(1);
-            return true;
-        }
-        if byte == b']' {
-            self.depth = self.depth.saturating_sub(1);
-            return true;
-        }
-        false
-    }
-
-    /// Returns whether m4 drops the line from an offset on.
-    fn is_dropped(&self, text: &[u8], at: usize) -> bool {
-        self.depth == 0
-            && !self.is_comment
-            && !self.is_name
-            && first_name(from(text, at)) == b"dnl".as_slice()
-    }
-
-    /// Reads a byte that the shell sees.
+    /// Reads a byte that the shell sees, in brackets or not.
     fn read_seen(
         &mut self,
         alloc: Global,
@@ -168,12 +139,13 @@ impl Reader {
         calls: &[CallAt],
         byte: u8,
         at: usize,
+        is_quoted: bool,
         lists: &mut Vec<Extent>,
     ) -> Result<(), AllocError> {
         if self.shell.ends_before(byte) {
             self.end_word(alloc, text, calls, lists)?;
         }
-        self.is_quoted |= self.depth > 0;
+        self.is_quoted |= is_quoted;
         let sign = self.shell.read(byte, at)?;
         self.compounds.read_sign(alloc, sign, at)
     }
@@ -190,24 +162,24 @@ impl Reader {
         let Some(byte) = text.get(at).copied() else {
             return Ok(());
         };
-        if at < self.skips || self.read_call(calls, at) || self.read_bracket(byte) {
+        if at < self.skips || self.read_call(calls, at) {
             return Ok(());
         }
-        if self.is_dropped(text, at) {
-            self.skips = at
-                .saturating_add(first_line(from(text, at)).len())
-                .saturating_add(1);
+        let rest = from(text, at);
+        let quotes = self.quotes;
+        self.quotes = quotes.after(rest);
+        if quotes.begins_dropped(rest) {
             // The newline goes with the line, so a comment of the shell goes on after it.
             if self.shell.is_in_comment() {
                 return Ok(());
             }
-            return self.read_seen(alloc, text, calls, b'\n', at, lists);
+            return self.read_seen(alloc, text, calls, b'\n', at, false, lists);
         }
-        if self.depth == 0 {
-            self.is_comment = self.is_comment && byte != b'\n' || byte == b'#';
+        match quotes.part {
+            QuotePart::Dropped => Ok(()),
+            QuotePart::Text if matches!(byte, b'[' | b']') => Ok(()),
+            _ => self.read_seen(alloc, text, calls, byte, at, quotes.depth > 0, lists),
         }
-        self.is_name = is_word_byte(byte);
-        self.read_seen(alloc, text, calls, byte, at, lists)
     }
 }
 
@@ -219,12 +191,10 @@ fn read_list(
     list: Extent,
     lists: &mut Vec<Extent>,
 ) -> Result<Compounds, AllocError> {
-    let mut reader = Reader {
+    let mut reader = ListReader {
         shell: Shell::new(alloc),
         compounds: Compounds::new(alloc),
-        depth: 0,
-        is_comment: false,
-        is_name: false,
+        quotes: Quotes::new(),
         is_quoted: false,
         skips: 0,
         next: 0,
@@ -234,7 +204,7 @@ fn read_list(
         reader.read(alloc, text, calls, at, lists)?;
     }
     reader.end_word(alloc, text, calls, lists)?;
-    let Reader { compounds, .. } = reader;
+    let ListReader { compounds, .. } = reader;
     Ok(compounds)
 }
 
@@ -243,7 +213,7 @@ fn read_list(
 pub(crate) struct Statements {
     /// Those that may be rewritten, in order of their offsets. Each is one in which no compound
     /// statement of a shell is.
-    pub(crate) cuts: Vec<Cut>,
+    pub(crate) cuts: Vec<StatementCut>,
     /// Each `if` and each `case` that isn't rewritten, whatever its parts are.
     pub(crate) kept: Vec<Kept>,
 }
@@ -298,7 +268,7 @@ pub(crate) fn cuts_in(
     alloc: Global,
     text: &[u8],
     calls: &[CallAt],
-) -> Result<Vec<Cut>, AllocError> {
+) -> Result<Vec<StatementCut>, AllocError> {
     let Statements { cuts, .. } = statements_in(alloc, text, calls)?;
     Ok(cuts)
 }

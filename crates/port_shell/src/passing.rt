@@ -1,18 +1,16 @@
 //! One pass over a text, in which statements become calls.
 
-ghost use Rattle.std.specs.Prelude.{◌≡◌, ◌≤◌, ◌++◌, false, length, slice_range, IfOk, IfSome, OnOk};
+ghost use Rattle.std.specs.Prelude.{◌≡◌, ◌≤◌, ◌++◌, [], false, length, slice_range, IfOk, IfSome, OnOk};
 ghost use Rattle.port_compounds.specs.Guards.{ReadsStatus};
 ghost use Rattle.port_shell.specs.Formed as specs;
 
-use crate::cut::Cut;
+use crate::cut::StatementCut;
 use crate::lists::cuts_in;
 use crate::needs::drawing_in;
 use crate::noting::note_for;
-use crate::puts::{
-    call_for_case, call_for_default, call_for_guard, call_for_if, lines_for, turns_for,
-};
+use crate::puts::{Replacement, change_of};
 use ac_calls::calls_of;
-use port_compounds::{CaseCut, ForCut, GuardCut, IfCut, reads_status};
+use port_compounds::reads_status;
 use port_idioms::Idioms;
 use std::alloc::{AllocError, Global};
 
@@ -24,6 +22,19 @@ pub(crate) struct Pass {
     pub at: usize,
     /// Whether anything was rewritten.
     pub has_changed: bool,
+}
+
+impl Pass {
+    /// Returns the start of a pass.
+    pub(crate) fn new(alloc: Global) -> Pass
+        ensures { (result.at ≡ 0) × (result.out.items ≡ []) }
+    {
+        Pass {
+            out: Vec::new(alloc),
+            at: 0,
+            has_changed: false,
+        }
+    }
 }
 
 /// Copies what is before a statement, and writes what is put in its place.
@@ -90,226 +101,28 @@ fn put_noted(
     write_noted(text, start, end, note, put, pass)
 }
 
-/// Writes what is put in the place of a statement between two offsets, after the note that it
-/// needs, unless that can't be written.
-fn put_found(
+/// Writes what is put in the place of a statement, after the note that it needs, unless that can't be
+/// written.
+fn put_change(
     alloc: Global,
     idioms: Idioms,
     drawing: &[usize],
     text: &[u8],
-    start: usize,
-    end: usize,
-    put: &[u8],
+    change: &Replacement,
     pass: &mut Pass,
 ) -> Result<(), AllocError>
-    requires put { specs.MayPut text.now start end put.now }
+    requires put { specs.MayPut text.now change.now.start change.now.end change.now.put.items }
     requires begun { specs.IsPass idioms text.now pass.old.at pass.old.out.items }
     ensures { OnOk result (specs.IsPass idioms text.now pass.new.at pass.new.out.items) }
 {
-    match note_for(alloc, idioms, drawing, text, start, end)? {
-        Some(note) => put_noted(idioms, text, start, end, note.as_slice(), put, pass),
-        None => Ok(()),
-    }
-}
-
-/// Writes the call for an `if`, if there is one, unless it was in what was rewritten.
-fn pass_if(
-    alloc: Global,
-    idioms: Idioms,
-    drawing: &[usize],
-    text: &[u8],
-    cut: &IfCut,
-    pass: &mut Pass,
-) -> Result<(), AllocError>
-    requires begun { specs.IsPass idioms text.now pass.old.at pass.old.out.items }
-    ensures { OnOk result (specs.IsPass idioms text.now pass.new.at pass.new.out.items) }
-{
-    if cut.start < pass.at {
-        return Ok(());
-    }
-    match call_for_if(alloc, text, cut)? {
-        Some(put) => put_found(
-            alloc,
+    let Replacement { start, end, put } = change;
+    match note_for(alloc, idioms, drawing, text, *start, *end)? {
+        Some(note) => put_noted(
             idioms,
-            drawing,
             text,
-            cut.start,
-            cut.end,
-            put.as_slice(),
-            pass,
-        ),
-        None => Ok(()),
-    }
-}
-
-/// Writes the call for a `case`, if there is one, unless it was in what was rewritten.
-fn pass_case(
-    alloc: Global,
-    idioms: Idioms,
-    drawing: &[usize],
-    text: &[u8],
-    cut: &CaseCut,
-    pass: &mut Pass,
-) -> Result<(), AllocError>
-    requires begun { specs.IsPass idioms text.now pass.old.at pass.old.out.items }
-    ensures { OnOk result (specs.IsPass idioms text.now pass.new.at pass.new.out.items) }
-{
-    if cut.start < pass.at {
-        return Ok(());
-    }
-    match call_for_case(alloc, text, cut)? {
-        Some(put) => put_found(
-            alloc,
-            idioms,
-            drawing,
-            text,
-            cut.start,
-            cut.end,
-            put.as_slice(),
-            pass,
-        ),
-        None => Ok(()),
-    }
-}
-
-/// Writes the call for a statement that a condition guards, if there is one, unless it was in what
-/// was rewritten.
-fn pass_unread(
-    alloc: Global,
-    idioms: Idioms,
-    drawing: &[usize],
-    text: &[u8],
-    cut: GuardCut,
-    pass: &mut Pass,
-) -> Result<(), AllocError>
-    requires begun { specs.IsPass idioms text.now pass.old.at pass.old.out.items }
-    requires no_status { ReadsStatus text.now → ⊥ }
-    ensures { OnOk result (specs.IsPass idioms text.now pass.new.at pass.new.out.items) }
-{
-    if cut.start < pass.at {
-        return Ok(());
-    }
-    match call_for_guard(alloc, text, cut)? {
-        Some(put) => put_found(
-            alloc,
-            idioms,
-            drawing,
-            text,
-            cut.start,
-            cut.end,
-            put.as_slice(),
-            pass,
-        ),
-        None => Ok(()),
-    }
-}
-
-/// Writes the call for a statement that a condition guards, unless the text reads the status of a
-/// command.
-fn pass_guard(
-    alloc: Global,
-    idioms: Idioms,
-    drawing: &[usize],
-    text: &[u8],
-    cut: GuardCut,
-    reads: bool,
-    pass: &mut Pass,
-) -> Result<(), AllocError>
-    requires begun { specs.IsPass idioms text.now pass.old.at pass.old.out.items }
-    requires reads { reads ≡ false → ReadsStatus text.now → ⊥ }
-    ensures { OnOk result (specs.IsPass idioms text.now pass.new.at pass.new.out.items) }
-{
-    if reads {
-        return Ok(());
-    }
-    pass_unread(alloc, idioms, drawing, text, cut, pass)
-}
-
-/// Writes an assignment and the command after it on two lines, unless they were in what was
-/// rewritten.
-fn pass_assigned(
-    alloc: Global,
-    idioms: Idioms,
-    drawing: &[usize],
-    text: &[u8],
-    cut: GuardCut,
-    pass: &mut Pass,
-) -> Result<(), AllocError>
-    requires begun { specs.IsPass idioms text.now pass.old.at pass.old.out.items }
-    ensures { OnOk result (specs.IsPass idioms text.now pass.new.at pass.new.out.items) }
-{
-    if cut.start < pass.at {
-        return Ok(());
-    }
-    match lines_for(alloc, text, cut)? {
-        Some(put) => put_found(
-            alloc,
-            idioms,
-            drawing,
-            text,
-            cut.start,
-            cut.end,
-            put.as_slice(),
-            pass,
-        ),
-        None => Ok(()),
-    }
-}
-
-/// Writes the call for an assignment of a value or of a word, if there is one, unless it was in what
-/// was rewritten.
-fn pass_default(
-    alloc: Global,
-    idioms: Idioms,
-    drawing: &[usize],
-    text: &[u8],
-    cut: GuardCut,
-    pass: &mut Pass,
-) -> Result<(), AllocError>
-    requires begun { specs.IsPass idioms text.now pass.old.at pass.old.out.items }
-    ensures { OnOk result (specs.IsPass idioms text.now pass.new.at pass.new.out.items) }
-{
-    if cut.start < pass.at {
-        return Ok(());
-    }
-    match call_for_default(alloc, text, cut)? {
-        Some(put) => put_found(
-            alloc,
-            idioms,
-            drawing,
-            text,
-            cut.start,
-            cut.end,
-            put.as_slice(),
-            pass,
-        ),
-        None => Ok(()),
-    }
-}
-
-/// Writes the turns of a `for`, if they can be written out, unless it was in what was rewritten.
-fn pass_for(
-    alloc: Global,
-    idioms: Idioms,
-    drawing: &[usize],
-    text: &[u8],
-    cut: ForCut,
-    pass: &mut Pass,
-) -> Result<(), AllocError>
-    requires begun { specs.IsPass idioms text.now pass.old.at pass.old.out.items }
-    ensures { OnOk result (specs.IsPass idioms text.now pass.new.at pass.new.out.items) }
-{
-    if cut.start < pass.at {
-        return Ok(());
-    }
-    match turns_for(alloc, text, cut)? {
-        Some(put) => put_found(
-            alloc,
-            idioms,
-            drawing,
-            text,
-            cut.start,
-            cut.end,
+            *start,
+            *end,
+            note.as_slice(),
             put.as_slice(),
             pass,
         ),
@@ -324,7 +137,7 @@ fn pass_cut(
     idioms: Idioms,
     drawing: &[usize],
     text: &[u8],
-    cut: &Cut,
+    cut: &StatementCut,
     reads: bool,
     pass: &mut Pass,
 ) -> Result<(), AllocError>
@@ -332,14 +145,12 @@ fn pass_cut(
     requires reads { reads ≡ false → ReadsStatus text.now → ⊥ }
     ensures { OnOk result (specs.IsPass idioms text.now pass.new.at pass.new.out.items) }
 {
-    match cut {
-        Cut::If(cut) => pass_if(alloc, idioms, drawing, text, cut, pass),
-        Cut::Case(cut) => pass_case(alloc, idioms, drawing, text, cut, pass),
-        Cut::Guard(cut) => pass_guard(alloc, idioms, drawing, text, *cut, reads, pass),
-        Cut::Assigned(cut) => pass_assigned(alloc, idioms, drawing, text, *cut, pass),
-        Cut::Default(cut) => pass_default(alloc, idioms, drawing, text, *cut, pass),
-        Cut::For(cut) => pass_for(alloc, idioms, drawing, text, *cut, pass),
-        Cut::Line(_) => Ok(()),
+    if cut.start() < pass.at {
+        return Ok(());
+    }
+    match change_of(alloc, text, cut, reads)? {
+        Some(change) => put_change(alloc, idioms, drawing, text, &change, pass),
+        None => Ok(()),
     }
 }
 
@@ -349,7 +160,7 @@ fn pass_cuts(
     idioms: Idioms,
     drawing: &[usize],
     text: &[u8],
-    cuts: &[Cut],
+    cuts: &[StatementCut],
     pass: &mut Pass,
 ) -> Result<(), AllocError>
     requires begun { specs.IsPass idioms text.now pass.old.at pass.old.out.items }
@@ -363,12 +174,28 @@ fn pass_cuts(
 }
 
 /// Copies the rest of a text.
-fn finish(idioms: Idioms, text: &[u8], pass: &mut Pass) -> Result<(), AllocError>
+fn copy_rest(idioms: Idioms, text: &[u8], pass: &mut Pass) -> Result<(), AllocError>
     requires begun { specs.IsPass idioms text.now pass.old.at pass.old.out.items }
     ensures { OnOk result (specs.IsPass idioms text.now (length text.now) pass.new.out.items) }
 {
     let _ = idioms;
     pass.out.extend_from_slice(&text[pass.at..text.len()])
+}
+
+/// Returns what a pass has written, and the rest of the text, or `None` if nothing was rewritten.
+pub(crate) fn finish(idioms: Idioms, text: &[u8], pass: Pass) -> Result<Option<Vec<u8>>, AllocError>
+    requires begun { specs.IsPass idioms text.now pass.at pass.out.items }
+    ensures { IfOk result (λ o.
+        IfSome o (λ v. specs.IsPass idioms text.now (length text.now) v.items)) }
+{
+    let mut pass = pass;
+    copy_rest(idioms, text, &mut pass)?;
+    let Pass {
+        out,
+        has_changed,
+        ..
+    } = pass;
+    if has_changed { Ok(Some(out)) } else { Ok(None) }
 }
 
 /// Returns the text with each statement rewritten that has no other one in it, or `None` if there
@@ -384,11 +211,7 @@ pub(crate) fn formed_once(
     let calls = calls_of(alloc, text)?;
     let cuts = cuts_in(alloc, text, calls.as_slice())?;
     let drawing = drawing_in(alloc, text, calls.as_slice())?;
-    let mut pass = Pass {
-        out: Vec::new(alloc),
-        at: 0,
-        has_changed: false,
-    };
+    let mut pass = Pass::new(alloc);
     pass_cuts(
         alloc,
         idioms,
@@ -397,11 +220,5 @@ pub(crate) fn formed_once(
         cuts.as_slice(),
         &mut pass,
     )?;
-    finish(idioms, text, &mut pass)?;
-    let Pass {
-        out,
-        has_changed,
-        ..
-    } = pass;
-    if has_changed { Ok(Some(out)) } else { Ok(None) }
+    finish(idioms, text, pass)
 }

@@ -1,20 +1,17 @@
 //! What is put in the place of a statement.
 
-ghost use Rattle.std.specs.Prelude.{◌≡◌, ◌∷◌, [], map, codes, IfOk, IfSome};
-ghost use Rattle.lint_errors.specs.Errors.{IsAccepted};
-ghost use Rattle.port_compounds.specs.Assigned.{IsOnTwoLines};
+ghost use Rattle.std.specs.Prelude.{◌≡◌, ◌∷◌, [], false, map, codes, IfOk, IfSome};
 ghost use Rattle.port_compounds.specs.Cases.{IsCase};
 ghost use Rattle.port_compounds.specs.Defaults.{IsDefaulting, assignment, empty_test};
-ghost use Rattle.port_compounds.specs.Guards.{IsGuarded, ReadsStatus};
-ghost use Rattle.port_compounds.specs.Ifs.{IsIf};
+ghost use Rattle.port_compounds.specs.Guards.{ReadsStatus};
 ghost use Rattle.port_compounds.specs.Loops.{IsWrittenOut};
 ghost use Rattle.port_joints.specs.Joints.{AllBecome};
-ghost use Rattle.port_shell.specs.Calls.{IsPut, source_with};
+ghost use Rattle.port_shell.specs.Calls.{IsPut};
 ghost use Rattle.port_shell.specs.Formed as specs;
 
 use crate::calls::{accepted_call, is_accepted};
+use crate::cut::StatementCut;
 use deftable::Bytes;
-use lint_text::from;
 use port_compounds::{
     CaseCut, DefaultOf, ForCut, GuardCut, IfCut, assigned_lines, assignment_of, case_parts,
     default_of, empty_test, guard_parts, if_parts, loop_turns,
@@ -41,54 +38,74 @@ fn if_call(alloc: Global, texts: &[Bytes]) -> Result<Option<Vec<u8>>, AllocError
     accepted_call(alloc, b"AS_IF", parts.as_slice())
 }
 
-/// Returns the call for an `if` with these parts, which become these texts, unless acrun doesn't
-/// accept it.
-fn call_with_if(
+/// Returns the call for conditions and what they guard, which become these texts, unless acrun
+/// doesn't accept it.
+fn call_with_texts(
     alloc: Global,
     text: &[u8],
-    cut: &IfCut,
+    start: usize,
+    end: usize,
     parts: &[&[u8]],
     texts: &[Bytes],
 ) -> Result<Option<Vec<u8>>, AllocError>
-    requires parts { IsIf text.now cut.now.start cut.now.end (map (λ p. p.now) parts.now) }
+    requires parts { specs.IsChoice text.now start end (map (λ p. p.now) parts.now) }
     requires texts { AllBecome (map (λ p. p.now) parts.now) texts.now }
-    ensures { IfOk result (λ o.
-        IfSome o (λ v. specs.MayPut text.now cut.now.start cut.now.end v.items)) }
+    ensures { IfOk result (λ o. IfSome o (λ v. specs.MayPut text.now start end v.items)) }
 {
     let _ = text;
-    let _ = cut;
+    let _ = start;
+    let _ = end;
     let _ = parts;
-    if_call(alloc, texts)
+    match if_call(alloc, texts)? {
+        Some(put) => Ok(Some(put)),
+        None => Ok(None),
+    }
 }
 
-/// Returns the call for an `if` with these parts, unless acrun doesn't accept it.
-fn call_of_if(
+/// Returns the call for conditions and what they guard, unless acrun doesn't accept it.
+fn call_with_parts(
     alloc: Global,
     text: &[u8],
-    cut: &IfCut,
+    start: usize,
+    end: usize,
     parts: &[&[u8]],
 ) -> Result<Option<Vec<u8>>, AllocError>
-    requires { IsIf text.now cut.now.start cut.now.end (map (λ p. p.now) parts.now) }
-    ensures { IfOk result (λ o.
-        IfSome o (λ v. specs.MayPut text.now cut.now.start cut.now.end v.items)) }
+    requires { specs.IsChoice text.now start end (map (λ p. p.now) parts.now) }
+    ensures { IfOk result (λ o. IfSome o (λ v. specs.MayPut text.now start end v.items)) }
 {
     match joined_texts(alloc, parts)? {
-        Some(texts) => call_with_if(alloc, text, cut, parts, texts.as_slice()),
+        Some(texts) => call_with_texts(alloc, text, start, end, parts, texts.as_slice()),
         None => Ok(None),
     }
 }
 
 /// Returns the call for an `if`, unless it is none, or acrun doesn't accept it.
-pub(crate) fn call_for_if(
-    alloc: Global,
-    text: &[u8],
-    cut: &IfCut,
-) -> Result<Option<Vec<u8>>, AllocError>
+fn call_for_if(alloc: Global, text: &[u8], cut: &IfCut) -> Result<Option<Vec<u8>>, AllocError>
     ensures { IfOk result (λ o.
         IfSome o (λ v. specs.MayPut text.now cut.now.start cut.now.end v.items)) }
 {
     match if_parts(alloc, text, cut)? {
-        Some(parts) => call_of_if(alloc, text, cut, parts.as_slice()),
+        Some(parts) => call_with_parts(alloc, text, cut.start, cut.end, parts.as_slice()),
+        None => Ok(None),
+    }
+}
+
+/// Returns the call for a statement that a condition guards, unless it is none, the status of a
+/// command is read, or acrun doesn't accept it.
+fn call_for_guard(
+    alloc: Global,
+    text: &[u8],
+    cut: GuardCut,
+    reads: bool,
+) -> Result<Option<Vec<u8>>, AllocError>
+    requires { reads ≡ false → ReadsStatus text.now → ⊥ }
+    ensures { IfOk result (λ o. IfSome o (λ v. specs.MayPut text.now cut.start cut.end v.items)) }
+{
+    if reads {
+        return Ok(None);
+    }
+    match guard_parts(alloc, text, cut)? {
+        Some(parts) => call_with_parts(alloc, text, cut.start, cut.end, parts.as_slice()),
         None => Ok(None),
     }
 }
@@ -106,15 +123,14 @@ fn call_of_case(
 {
     let _ = text;
     let _ = cut;
-    accepted_call(alloc, b"AS_CASE", parts)
+    match accepted_call(alloc, b"AS_CASE", parts)? {
+        Some(put) => Ok(Some(put)),
+        None => Ok(None),
+    }
 }
 
 /// Returns the call for a `case`, unless it is none, or acrun doesn't accept it.
-pub(crate) fn call_for_case(
-    alloc: Global,
-    text: &[u8],
-    cut: &CaseCut,
-) -> Result<Option<Vec<u8>>, AllocError>
+fn call_for_case(alloc: Global, text: &[u8], cut: &CaseCut) -> Result<Option<Vec<u8>>, AllocError>
     ensures { IfOk result (λ o.
         IfSome o (λ v. specs.MayPut text.now cut.now.start cut.now.end v.items)) }
 {
@@ -124,110 +140,18 @@ pub(crate) fn call_for_case(
     }
 }
 
-/// Returns the call for a statement that a condition guards, with these parts, which become these
-/// texts, unless acrun doesn't accept it.
-fn call_with_guard(
-    alloc: Global,
-    text: &[u8],
-    cut: GuardCut,
-    parts: &[&[u8]],
-    texts: &[Bytes],
-) -> Result<Option<Vec<u8>>, AllocError>
-    requires parts { IsGuarded text.now cut.start cut.end (map (λ p. p.now) parts.now) }
-    requires no_status { ReadsStatus text.now → ⊥ }
-    requires texts { AllBecome (map (λ p. p.now) parts.now) texts.now }
-    ensures { IfOk result (λ o. IfSome o (λ v. specs.MayPut text.now cut.start cut.end v.items)) }
-{
-    let _ = text;
-    let _ = cut;
-    let _ = parts;
-    if_call(alloc, texts)
-}
-
-/// Returns the call for a statement that a condition guards, with these parts, unless acrun doesn't
-/// accept it.
-fn call_of_guard(
-    alloc: Global,
-    text: &[u8],
-    cut: GuardCut,
-    parts: &[&[u8]],
-) -> Result<Option<Vec<u8>>, AllocError>
-    requires parts { IsGuarded text.now cut.start cut.end (map (λ p. p.now) parts.now) }
-    requires no_status { ReadsStatus text.now → ⊥ }
-    ensures { IfOk result (λ o. IfSome o (λ v. specs.MayPut text.now cut.start cut.end v.items)) }
-{
-    match joined_texts(alloc, parts)? {
-        Some(texts) => call_with_guard(alloc, text, cut, parts, texts.as_slice()),
-        None => Ok(None),
-    }
-}
-
-/// Returns the call for a statement that a condition guards, unless it is none, or acrun doesn't
-/// accept it.
-pub(crate) fn call_for_guard(
-    alloc: Global,
-    text: &[u8],
-    cut: GuardCut,
-) -> Result<Option<Vec<u8>>, AllocError>
-    requires { ReadsStatus text.now → ⊥ }
-    ensures { IfOk result (λ o. IfSome o (λ v. specs.MayPut text.now cut.start cut.end v.items)) }
-{
-    match guard_parts(alloc, text, cut)? {
-        Some(parts) => call_of_guard(alloc, text, cut, parts.as_slice()),
-        None => Ok(None),
-    }
-}
-
-/// Returns the lines for an assignment and a command.
-#[tactic(auto, using(crate::proofs::Steps::two_lines_put))]
-fn lines_put(text: &[u8], cut: GuardCut, put: Vec<u8>) -> Result<Option<Vec<u8>>, AllocError>
-    requires { IsOnTwoLines text.now cut.start cut.end put.items }
-    ensures { IfOk result (λ o. IfSome o (λ v. specs.MayPut text.now cut.start cut.end v.items)) }
-{
-    let _ = text;
-    let _ = cut;
-    Ok(Some(put))
-}
-
 /// Returns an assignment and the command after `&&` on two lines, unless they are something else.
-pub(crate) fn lines_for(
-    alloc: Global,
-    text: &[u8],
-    cut: GuardCut,
-) -> Result<Option<Vec<u8>>, AllocError>
+fn lines_for(alloc: Global, text: &[u8], cut: GuardCut) -> Result<Option<Vec<u8>>, AllocError>
     ensures { IfOk result (λ o. IfSome o (λ v. specs.MayPut text.now cut.start cut.end v.items)) }
 {
     match assigned_lines(alloc, text, cut)? {
-        Some(put) => lines_put(text, cut, put),
+        Some(put) => Ok(Some(put)),
         None => Ok(None),
     }
 }
 
-/// Returns the turns of a `for`, which acrun accepts.
-#[tactic(auto, using(crate::proofs::Steps::turns_put))]
-fn turns_accepted(text: &[u8], cut: ForCut, put: Vec<u8>) -> Result<Option<Vec<u8>>, AllocError>
-    requires turns { IsWrittenOut text.now cut.start cut.end put.items }
-    requires accepted { IsAccepted (source_with put.items) }
-    ensures { IfOk result (λ o. IfSome o (λ v. specs.MayPut text.now cut.start cut.end v.items)) }
-{
-    let _ = text;
-    let _ = cut;
-    Ok(Some(put))
-}
-
-/// Returns whether a text has `_cv_`, as the names of cache variables do. A check of such a name is
-/// made once, unless the name is unset between two of them, and no text that acrun accepts does that.
-fn has_cache_name(text: &[u8]) -> bool {
-    for at in 0..text.len() {
-        if from(text, at).starts_with(b"_cv_") {
-            return true;
-        }
-    }
-    false
-}
-
-/// Returns the turns of a `for`, unless they name a cache variable, or acrun doesn't accept them.
-fn turns_if_accepted(
+/// Returns the turns of a `for`, unless acrun doesn't accept them.
+fn accepted_turns(
     alloc: Global,
     text: &[u8],
     cut: ForCut,
@@ -236,26 +160,21 @@ fn turns_if_accepted(
     requires { IsWrittenOut text.now cut.start cut.end put.items }
     ensures { IfOk result (λ o. IfSome o (λ v. specs.MayPut text.now cut.start cut.end v.items)) }
 {
-    if has_cache_name(put.as_slice()) {
-        return Ok(None);
-    }
+    let _ = text;
+    let _ = cut;
     if is_accepted(alloc, put.as_slice())? {
-        turns_accepted(text, cut, put)
+        Ok(Some(put))
     } else {
         Ok(None)
     }
 }
 
 /// Returns the turns of a `for`, unless they can't be written out, or acrun doesn't accept them.
-pub(crate) fn turns_for(
-    alloc: Global,
-    text: &[u8],
-    cut: ForCut,
-) -> Result<Option<Vec<u8>>, AllocError>
+fn turns_for(alloc: Global, text: &[u8], cut: ForCut) -> Result<Option<Vec<u8>>, AllocError>
     ensures { IfOk result (λ o. IfSome o (λ v. specs.MayPut text.now cut.start cut.end v.items)) }
 {
     match loop_turns(alloc, text, cut)? {
-        Some(put) => turns_if_accepted(alloc, text, cut, put),
+        Some(put) => accepted_turns(alloc, text, cut, put),
         None => Ok(None),
     }
 }
@@ -285,12 +204,15 @@ fn call_with_default(
 {
     let _ = text;
     let _ = cut;
-    default_call(alloc, found.name, found.word)
+    match default_call(alloc, found.name, found.word)? {
+        Some(put) => Ok(Some(put)),
+        None => Ok(None),
+    }
 }
 
 /// Returns the call for an assignment of a variable's value or of a word, unless it is none, or
 /// acrun doesn't accept it.
-pub(crate) fn call_for_default(
+fn call_for_default(
     alloc: Global,
     text: &[u8],
     cut: GuardCut,
@@ -300,5 +222,68 @@ pub(crate) fn call_for_default(
     match default_of(alloc, text, cut)? {
         Some(found) => call_with_default(alloc, text, cut, found),
         None => Ok(None),
+    }
+}
+
+// ---- any statement
+
+/// What may be put in the place of what is between two offsets.
+#[derive(Drop)]
+pub(crate) struct Replacement {
+    pub start: usize,
+    pub end: usize,
+    pub put: Vec<u8>,
+}
+
+/// Returns the change of what is between two offsets, if something may be put there.
+fn change(text: &[u8], start: usize, end: usize, put: Option<Vec<u8>>) -> Option<Replacement>
+    requires { IfSome put (λ v. specs.MayPut text.now start end v.items) }
+    ensures { IfSome result (λ c. specs.MayPut text.now c.start c.end c.put.items) }
+{
+    let _ = text;
+    match put {
+        Some(put) => Some(Replacement { start, end, put }),
+        None => None,
+    }
+}
+
+/// Returns the change of a statement, unless it is none, or acrun doesn't accept what would take its
+/// place. `reads` says whether the text may read the status of a command.
+pub(crate) fn change_of(
+    alloc: Global,
+    text: &[u8],
+    cut: &StatementCut,
+    reads: bool,
+) -> Result<Option<Replacement>, AllocError>
+    requires { reads ≡ false → ReadsStatus text.now → ⊥ }
+    ensures { IfOk result (λ o.
+        IfSome o (λ c. specs.MayPut text.now c.start c.end c.put.items)) }
+{
+    match cut {
+        StatementCut::If(cut) => {
+            let put = call_for_if(alloc, text, cut)?;
+            Ok(change(text, cut.start, cut.end, put))
+        }
+        StatementCut::Case(cut) => {
+            let put = call_for_case(alloc, text, cut)?;
+            Ok(change(text, cut.start, cut.end, put))
+        }
+        StatementCut::Guard(cut) => {
+            let put = call_for_guard(alloc, text, *cut, reads)?;
+            Ok(change(text, cut.start, cut.end, put))
+        }
+        StatementCut::Assigned(cut) => {
+            let put = lines_for(alloc, text, *cut)?;
+            Ok(change(text, cut.start, cut.end, put))
+        }
+        StatementCut::Default(cut) => {
+            let put = call_for_default(alloc, text, *cut)?;
+            Ok(change(text, cut.start, cut.end, put))
+        }
+        StatementCut::For(cut) => {
+            let put = turns_for(alloc, text, *cut)?;
+            Ok(change(text, cut.start, cut.end, put))
+        }
+        StatementCut::Line(_) => Ok(None),
     }
 }

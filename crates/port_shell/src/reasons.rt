@@ -1,7 +1,7 @@
 //! Why statements of a shell stay.
 
 use crate::calls::{call_text, source_with};
-use crate::cut::{Around, Cut, Kept};
+use crate::cut::{Kept, Obstacle, StatementCut};
 use crate::lists::statements_in;
 use crate::needs::drawing_in;
 use crate::noting::draws;
@@ -200,14 +200,17 @@ fn refusal_of_guard(
 fn refusal_of(
     alloc: Global,
     text: &[u8],
-    cut: &Cut,
+    cut: &StatementCut,
     has_bodies: bool,
 ) -> Result<Option<Reason>, AllocError> {
     match cut {
-        Cut::If(cut) => refusal_of_if(alloc, text, cut, has_bodies),
-        Cut::Case(cut) => refusal_of_case(alloc, text, cut, has_bodies),
-        Cut::Guard(cut) => refusal_of_guard(alloc, text, *cut),
-        Cut::Assigned(_) | Cut::Default(_) | Cut::For(_) | Cut::Line(_) => Ok(None),
+        StatementCut::If(cut) => refusal_of_if(alloc, text, cut, has_bodies),
+        StatementCut::Case(cut) => refusal_of_case(alloc, text, cut, has_bodies),
+        StatementCut::Guard(cut) => refusal_of_guard(alloc, text, *cut),
+        StatementCut::Assigned(_)
+        | StatementCut::Default(_)
+        | StatementCut::For(_)
+        | StatementCut::Line(_) => Ok(None),
     }
 }
 
@@ -216,9 +219,12 @@ fn reason_of(
     alloc: Global,
     drawing: &[usize],
     text: &[u8],
-    cut: &Cut,
+    cut: &StatementCut,
 ) -> Result<Option<Reason>, AllocError> {
-    if matches!(cut, Cut::Assigned(_) | Cut::Default(_) | Cut::For(_)) {
+    if matches!(
+        cut,
+        StatementCut::Assigned(_) | StatementCut::Default(_) | StatementCut::For(_)
+    ) {
         return Ok(None);
     }
     let refused = refusal_of(alloc, text, cut, true)?;
@@ -278,14 +284,14 @@ fn other_around(alloc: Global, text: &[u8], at: usize) -> Result<Reason, AllocEr
 }
 
 /// Returns the reason that something around a statement is.
-fn reason_around(alloc: Global, text: &[u8], around: Around) -> Result<Reason, AllocError> {
+fn reason_around(alloc: Global, text: &[u8], around: Obstacle) -> Result<Reason, AllocError> {
     match around {
-        Around::Other(at) => other_around(alloc, text, at),
-        Around::Condition => Ok(Reason::InCondition),
-        Around::Command => Ok(Reason::Joined),
-        Around::Call => Ok(Reason::AfterCall),
-        Around::Function => Ok(Reason::Body),
-        Around::Brackets => Ok(Reason::InBrackets),
+        Obstacle::Other(at) => other_around(alloc, text, at),
+        Obstacle::Condition => Ok(Reason::InCondition),
+        Obstacle::Command => Ok(Reason::Joined),
+        Obstacle::Call => Ok(Reason::AfterCall),
+        Obstacle::Function => Ok(Reason::Body),
+        Obstacle::Brackets => Ok(Reason::InBrackets),
     }
 }
 
@@ -299,7 +305,7 @@ const READING: usize = 1000;
 
 /// Takes what a reading of a statement counts for off what may still be read. Returns whether so
 /// much was left.
-fn spend(cut: &Cut, left: &mut usize) -> bool {
+fn spend(cut: &StatementCut, left: &mut usize) -> bool {
     let cost = cut
         .end()
         .saturating_sub(cut.start())
@@ -314,7 +320,7 @@ fn spend(cut: &Cut, left: &mut usize) -> bool {
 fn refusal_of_head(
     alloc: Global,
     text: &[u8],
-    cut: &Cut,
+    cut: &StatementCut,
     left: &mut usize,
 ) -> Result<Option<Reason>, AllocError> {
     if spend(cut, left) {
@@ -346,7 +352,7 @@ fn reason_of_kept(
 // ---- comments of port
 
 /// What a comment of `acrun port` begins with.
-const COMMENT: &[u8] = b"dnl acrun: ";
+pub const COMMENT_FRONT: &[u8] = b"dnl acrun: ";
 
 /// A text without comments of `acrun port`, and where they were.
 #[derive(Drop)]
@@ -368,7 +374,7 @@ fn line_len(text: &[u8], at: usize) -> usize {
 
 /// Returns whether the line that begins at an offset is a comment of `acrun port`.
 fn is_comment_line(text: &[u8], at: usize) -> bool {
-    after_blanks(from(text, at)).starts_with(COMMENT)
+    after_blanks(from(text, at)).starts_with(COMMENT_FRONT)
 }
 
 /// Adds that a comment of so many bytes was before the end of a text.
@@ -420,7 +426,7 @@ fn whole_offset(cuts: &[(usize, usize)], at: usize) -> usize {
 /// Appends a statement that stays.
 fn push_staying(
     bare: &Bare,
-    cut: &Cut,
+    cut: &StatementCut,
     reason: Reason,
     out: &mut Vec<Staying>,
 ) -> Result<(), AllocError> {

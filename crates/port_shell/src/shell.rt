@@ -1,10 +1,11 @@
-//! What each byte of a list of statements is to a shell.
+//! What each byte of a list of statements is to a shell. It has more open than `lint_marks` knows:
+//! backquotes, `$(` and `${`, which nest, and here-documents whose delimiter has a blank in quotes.
 
 use std::alloc::{AllocError, Global};
 
 /// What is open in a word.
 #[derive(Clone, Copy, PartialEq, Eq)]
-enum Open {
+enum Nesting {
     /// Single quotes.
     Single,
     /// Double quotes.
@@ -35,7 +36,7 @@ pub(crate) enum Sign {
 
 /// A word of a shell.
 #[derive(Clone, Copy)]
-pub(crate) struct Word {
+pub(crate) struct ShellWord {
     /// The offset of its first byte.
     pub start: usize,
     /// The offset after its last byte.
@@ -58,10 +59,10 @@ struct Here {
 /// How far a shell has read a list of statements.
 #[derive(Drop)]
 pub(crate) struct Shell {
-    open: Vec<Open>,
+    open: Vec<Nesting>,
     is_escaped: bool,
     is_comment: bool,
-    word: Option<Word>,
+    word: Option<ShellWord>,
     /// The byte before.
     before: u8,
     /// Whether the next word is the delimiter of a here-document, or the `-` before it.
@@ -122,7 +123,7 @@ impl Shell {
     }
 
     /// Takes the word that ends here.
-    pub(crate) fn take_word(&mut self) -> Option<Word> {
+    pub(crate) fn take_word(&mut self) -> Option<ShellWord> {
         let word = self.word;
         self.word = None;
         word
@@ -132,12 +133,12 @@ impl Shell {
     fn extend(&mut self, at: usize, is_plain: bool) {
         let end = at.saturating_add(1);
         let word = match self.word {
-            Some(word) => Word {
+            Some(word) => ShellWord {
                 end,
                 is_plain: word.is_plain && is_plain,
                 ..word
             },
-            None => Word {
+            None => ShellWord {
                 start: at,
                 end,
                 is_plain,
@@ -154,7 +155,7 @@ impl Shell {
         self.is_escaped = false;
         if self.is_at_command() {
             self.extend(start, false);
-            self.word = self.word.map(|word| Word {
+            self.word = self.word.map(|word| ShellWord {
                 end,
                 is_call: word.is_call || is_new,
                 ..word
@@ -163,37 +164,42 @@ impl Shell {
     }
 
     /// Opens a quote or a substitution.
-    fn open(&mut self, opened: Open) -> Result<(), AllocError> {
+    fn open(&mut self, opened: Nesting) -> Result<(), AllocError> {
         self.open.push(opened)?;
         Ok(())
     }
 
     /// Reads a backquote: closes the backquotes that are open, or opens some.
     fn read_back(&mut self) -> Result<(), AllocError> {
-        match self.open.iter().rposition(|open| *open == Open::Back) {
+        match self.open.iter().rposition(|open| *open == Nesting::Back) {
             Some(at) => {
                 self.open.truncate(at);
                 Ok(())
             }
-            None => self.open(Open::Back),
+            None => self.open(Nesting::Back),
         }
     }
 
     /// Reads a byte of a word that isn't in single quotes.
-    fn read_inner(&mut self, byte: u8, before: u8, opened: Option<Open>) -> Result<(), AllocError> {
+    fn read_inner(
+        &mut self,
+        byte: u8,
+        before: u8,
+        opened: Option<Nesting>,
+    ) -> Result<(), AllocError> {
         match byte {
             b'\\' => {
                 self.is_escaped = true;
                 Ok(())
             }
             b'`' => self.read_back(),
-            b'"' if opened == Some(Open::Double) => {
+            b'"' if opened == Some(Nesting::Double) => {
                 self.open.pop();
                 Ok(())
             }
-            b'"' => self.open(Open::Double),
-            b'(' if before == b'$' || opened == Some(Open::Paren) => self.open(Open::Paren),
-            b'{' if before == b'$' => self.open(Open::Brace),
+            b'"' => self.open(Nesting::Double),
+            b'(' if before == b'$' || opened == Some(Nesting::Paren) => self.open(Nesting::Paren),
+            b'{' if before == b'$' => self.open(Nesting::Brace),
             _ => self.read_closing(byte, before, opened),
         }
     }
@@ -203,16 +209,16 @@ impl Shell {
         &mut self,
         byte: u8,
         before: u8,
-        opened: Option<Open>,
+        opened: Option<Nesting>,
     ) -> Result<(), AllocError> {
         match (byte, opened) {
-            (b')', Some(Open::Paren)) | (b'}', Some(Open::Brace)) => {
+            (b')', Some(Nesting::Paren)) | (b'}', Some(Nesting::Brace)) => {
                 self.open.pop();
                 Ok(())
             }
-            (b'\'', Some(Open::Double)) => Ok(()),
-            (b'\'', _) => self.open(Open::Single),
-            (b'#', Some(Open::Paren | Open::Back)) => {
+            (b'\'', Some(Nesting::Double)) => Ok(()),
+            (b'\'', _) => self.open(Nesting::Single),
+            (b'#', Some(Nesting::Paren | Nesting::Back)) => {
                 self.is_comment = ends_word(before);
                 Ok(())
             }
@@ -221,8 +227,8 @@ impl Shell {
     }
 
     /// Reads a byte in what is open.
-    fn read_open(&mut self, byte: u8, before: u8, opened: Open) -> Result<(), AllocError> {
-        if opened != Open::Single {
+    fn read_open(&mut self, byte: u8, before: u8, opened: Nesting) -> Result<(), AllocError> {
+        if opened != Nesting::Single {
             return self.read_inner(byte, before, Some(opened));
         }
         if byte == b'\'' {

@@ -102,6 +102,7 @@ if test a = b; dnl one^Jthen x=1; fi => the same
 if test a = #b^Jthen x=1; fi => the same
 # if :; then x=1; fi => the same
 dnl if :; then x=1; fi => the same
+a=xdnl; if :; then x=1; fi => a=xdnl; AS_IF([:], [x=1])
 // what isn't of the profile
 if test -f a; then x=1; fi => the same
 if :; then x=`a`; fi => the same

@@ -1,7 +1,11 @@
 use Rattle.std.proofs.Common.{map}
-use Rattle.port_shell.proofs.Steps.{case_put}
+use Rattle.std.specs.Prelude.{codes}
+use Rattle.port_shell.specs.Calls.{IsPut}
+use Rattle.port_shell.specs.Formed as specs
+use Rattle.port_shell.proofs.Steps.{of_some}
 use Rattle.port_shell.proofs.puts.call_of_case.Goals as goal
 
-pub returns : goal.returns
-returns c =
-    case_put (λ v. v.items) c.args.text.now c.args.cut.now.start c.args.cut.now.end (map (λ p. p.now) c.args.parts.now) c.accepted_call.result c.requires c.accepted_call.ensures
+pub returns-in-Some : goal.returns-in-Some
+returns-in-Some c =
+    specs.MayPut.cased (map (λ p. p.now) c.args.parts.now) c.requires
+    (of_some (λ v. IsPut (codes "AS_CASE") (map (λ p. p.now) c.args.parts.now) v.items) c.in_ok-put.field-0 c.in-Some.put c.in-Some.is c.in_ok-put.ensures)

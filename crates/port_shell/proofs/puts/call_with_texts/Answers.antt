@@ -1,0 +1,11 @@
+use Rattle.std.proofs.Common.{map}
+use Rattle.std.specs.Prelude.{codes}
+use Rattle.port_shell.specs.Calls.{IsPut}
+use Rattle.port_shell.specs.Formed as specs
+use Rattle.port_shell.proofs.Steps.{of_some}
+use Rattle.port_shell.proofs.puts.call_with_texts.Goals as goal
+
+pub returns-in-Some : goal.returns-in-Some
+returns-in-Some c =
+    specs.MayPut.chosen (map (λ p. p.now) c.args.parts.now) c.args.texts.now c.requires.parts c.requires.texts
+    (of_some (λ v. IsPut (codes "AS_IF") c.args.texts.now v.items) c.in_ok-put.field-0 c.in-Some.put c.in-Some.is c.in_ok-put.ensures)
