@@ -62,6 +62,10 @@ if test a = b;then^Ix=1;fi => AS_IF([test a = b], [x=1])
 if test a = b; then^M^J  x=1^M^Jfi^M^J => AS_IF([test a = b], [^J  x=1^M^J])^M^J
 if test a = b &&^J  test c; then x=1; fi => AS_IF([test a = b &&^J  test c], [x=1])
 if test a ||^J   ! test b^Jthen x=1; elif test c &&^Jtest d; then x=2; fi => AS_IF([test a ||^J   ! test b], [x=1], [test c &&^Jtest d], [x=2])
+// after an end without its beginning nothing is rewritten
+if :; then x=1; fi^Jfi^Jif :; then x=2; fi => AS_IF([:], [x=1])^Jfi^Jif :; then x=2; fi
+done^Jif :; then x=2; fi => the same
+esac^Jif :; then x=2; fi => the same
 // nested
 if a; then^J if test b; then^J  x=1^J fi^Jfi => if a; then^J AS_IF([test b], [^J  x=1^J ])^Jfi
 if :; then^J if test b; then^J  x=1^J fi^Jfi => AS_IF([:], [^J AS_IF([test b], [^J  x=1^J ])^J])
