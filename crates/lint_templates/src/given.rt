@@ -13,7 +13,8 @@ use std::alloc::{AllocError, Global};
 pub struct Given {
     /// The output variables, those of each file among them.
     pub variables: SubstList,
-    /// The definitions that a run may make.
+    /// The definitions that a run may make. If the source makes no header, they are left out, since
+    /// no template lists them.
     pub defined: SubstList,
 }
 
@@ -173,9 +174,12 @@ fn add_statements(
     Ok(())
 }
 
-/// Returns the definitions that a run of a source may make.
+/// Returns the definitions that a run of a source may make, if it makes a header.
 fn defined_by(alloc: Global, source: &Source) -> Result<SubstList, AllocError> {
     let mut list = SubstList::new(alloc);
+    if source.headers().is_empty() {
+        return Ok(list);
+    }
     add_all(&mut list, &OF_EACH[6..])?;
     add_statements(alloc, &mut list, source.statements())?;
     Ok(list)

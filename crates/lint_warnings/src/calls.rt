@@ -15,6 +15,8 @@ use lint_text::{after_blanks, from};
 use std::alloc::{AllocError, Global};
 
 /// Adds the warning of this key about a part of the source, if that is there and wrong.
+// Each call asks this a dozen times.
+#[inline(always)]
 fn warn_if(
     alloc: Global,
     text: &[u8],

@@ -112,6 +112,10 @@ fn macro_in(
     index: &Index,
     argument: &[u8],
 ) -> Result<Option<(usize, usize)>, AllocError> {
+    // The name of each macro has a `_`.
+    if !argument.contains(&b'_') {
+        return Ok(None);
+    }
     if bare(argument).starts_with(HELP) {
         return first_macro(alloc, index, argument, 2, HELP);
     }
