@@ -12,7 +12,7 @@ use crate::words::{asks_json, has_name, has_unknown, is_name};
 use cmd_call::{Hears, tell_file, tell_memory, tell_usage};
 use deftable::Bytes;
 use file_disk::Disk;
-use lint_sources::{Form, SOURCE, has_input, linted_page, read_named};
+use lint_sources::{FindingForm, SOURCE, has_input, linted_page, read_named};
 use std::alloc::{AllocError, Global};
 use std::io::{Read, Write};
 
@@ -50,7 +50,7 @@ fn put_page<W: Write, E: Hears>(page: &[u8], status: u8, output: &mut W, errors:
 fn page_for<D: Disk, R: Read>(
     alloc: Global,
     disk: &D,
-    form: Form,
+    form: FindingForm,
     word: &[u8],
     reads: bool,
     input: &mut R,
@@ -71,7 +71,7 @@ fn page_for<D: Disk, R: Read>(
 fn lint_name<D: Disk, R: Read, W: Write, E: Hears>(
     alloc: Global,
     disk: &D,
-    form: Form,
+    form: FindingForm,
     name: &[u8],
     reads: bool,
     input: &mut R,
@@ -116,7 +116,7 @@ fn worse(status: u8, next: u8) -> u8
 fn lint_names<D: Disk, R: Read, W: Write, E: Hears>(
     alloc: Global,
     disk: &D,
-    form: Form,
+    form: FindingForm,
     words: &[Bytes],
     reads: bool,
     input: &mut R,
@@ -150,7 +150,7 @@ fn lint_names<D: Disk, R: Read, W: Write, E: Hears>(
 fn lint_here<D: Disk, R: Read, W: Write, E: Hears>(
     alloc: Global,
     disk: &D,
-    form: Form,
+    form: FindingForm,
     input: &mut R,
     output: &mut W,
     errors: &mut E,
@@ -174,7 +174,7 @@ fn lint_here<D: Disk, R: Read, W: Write, E: Hears>(
 fn lint_all<D: Disk, R: Read, W: Write, E: Hears>(
     alloc: Global,
     disk: &D,
-    form: Form,
+    form: FindingForm,
     words: &[Bytes],
     input: &mut R,
     output: &mut W,
@@ -238,7 +238,7 @@ pub fn run_lint<D: Disk, R: Read, W: Write, E: Hears>(
     if has_unknown(words) {
         return tell_usage(errors);
     }
-    let form = Form {
+    let form = FindingForm {
         is_json: asks_json(words),
         is_coloured,
     };

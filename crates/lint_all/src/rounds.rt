@@ -31,7 +31,7 @@ const READING: usize = 1000;
 
 /// What is the same for all readings of a source.
 #[derive(Drop)]
-pub(crate) struct Reader<'a> {
+pub(crate) struct WholeSource<'a> {
     /// The table of macros.
     pub index: &'a Index,
     /// The length of the source.
@@ -171,11 +171,11 @@ fn is_made(piece: Piece<'_>, code: &[u8]) -> bool {
 }
 
 /// Returns the offset in the source of one in a copy of a piece.
-fn place_of(reader: &Reader<'_>, piece: Piece<'_>, base: usize, at: usize) -> usize
-    ensures { result ≤ reader.now.len }
+fn offset_in_source(whole: &WholeSource<'_>, piece: Piece<'_>, base: usize, at: usize) -> usize
+    ensures { result ≤ whole.now.len }
 {
     let inner = at.saturating_sub(base).min(piece.text.len());
-    piece.at.saturating_add(inner).min(reader.len)
+    piece.at.saturating_add(inner).min(whole.len)
 }
 
 /// Returns an error of the source, with these offsets.
@@ -201,21 +201,21 @@ fn error_at(finding: Finding, start: usize, end: usize) -> Finding
 }
 
 /// Returns an error of a copy of a piece with its place in the source.
-fn placed(reader: &Reader<'_>, piece: Piece<'_>, base: usize, finding: Finding) -> Finding
-    ensures { specs.IsErrorOf reader.now.len result }
+fn placed(whole: &WholeSource<'_>, piece: Piece<'_>, base: usize, finding: Finding) -> Finding
+    ensures { specs.IsErrorOf whole.now.len result }
 {
-    let start = place_of(reader, piece, base, finding.start);
-    let end = place_of(reader, piece, base, finding.end);
+    let start = offset_in_source(whole, piece, base, finding.start);
+    let end = offset_in_source(whole, piece, base, finding.end);
     error_at(finding, start, end.max(start))
 }
 
 /// Returns the first error of a text, if it has one.
 fn first_error(
     alloc: Global,
-    reader: &Reader<'_>,
+    whole: &WholeSource<'_>,
     text: &[u8],
 ) -> Result<Option<Finding>, AllocError> {
-    let mut errors = errors_by(alloc, reader.index, text)?;
+    let mut errors = errors_by(alloc, whole.index, text)?;
     errors.truncate(1);
     Ok(errors.pop())
 }
@@ -240,13 +240,17 @@ fn first_at(text: &[u8]) -> usize {
 
 /// Returns the error that a source has no AC_INIT. Its words don't speak of the copy, in which what
 /// is at the start may be blanks.
-fn without_init(alloc: Global, reader: &Reader<'_>, piece: Piece<'_>) -> Result<Finding, AllocError>
-    ensures { IfOk result (specs.IsErrorOf reader.now.len) }
+fn without_init(
+    alloc: Global,
+    whole: &WholeSource<'_>,
+    piece: Piece<'_>,
+) -> Result<Finding, AllocError>
+    ensures { IfOk result (specs.IsErrorOf whole.now.len) }
 {
     let at = first_at(piece.text);
-    let start = place_of(reader, piece, 0, at);
+    let start = offset_in_source(whole, piece, 0, at);
     let line = first_line(from(piece.text, at));
-    let end = place_of(reader, piece, 0, at.saturating_add(line.len())).max(start);
+    let end = offset_in_source(whole, piece, 0, at.saturating_add(line.len())).max(start);
     let mut page = Page::new(alloc);
     page.put(keys::INIT_NOT_FIRST, &[]);
     let code = Bytes::from_slice(alloc, b"parse-8")?;
@@ -256,34 +260,34 @@ fn without_init(alloc: Global, reader: &Reader<'_>, piece: Piece<'_>) -> Result<
 /// Returns an error of a copy of a piece as one of the source.
 fn of_source(
     alloc: Global,
-    reader: &Reader<'_>,
+    whole: &WholeSource<'_>,
     piece: Piece<'_>,
     base: usize,
     error: Finding,
 ) -> Result<Finding, AllocError>
-    ensures { IfOk result (specs.IsErrorOf reader.now.len) }
+    ensures { IfOk result (specs.IsErrorOf whole.now.len) }
 {
     if error.code.as_slice() == b"parse-8".as_slice() {
-        return without_init(alloc, reader, piece);
+        return without_init(alloc, whole, piece);
     }
-    Ok(placed(reader, piece, base, error))
+    Ok(placed(whole, piece, base, error))
 }
 
 /// Appends an error of a copy, unless it is that a call is missing which was taken out.
 fn push_error(
     alloc: Global,
-    reader: &Reader<'_>,
+    whole: &WholeSource<'_>,
     piece: Piece<'_>,
     base: usize,
     error: Finding,
     found: &mut Vec<Finding>,
 ) -> Result<(), AllocError>
-    ensures { OnOk result (specs.KeepsErrors reader.now.len found.old.items found.new.items) }
+    ensures { OnOk result (specs.KeepsErrors whole.now.len found.old.items found.new.items) }
 {
     if is_made(piece, error.code.as_slice()) {
         return Ok(());
     }
-    let error = of_source(alloc, reader, piece, base, error)?;
+    let error = of_source(alloc, whole, piece, base, error)?;
     found.push(error)?;
     Ok(())
 }
@@ -292,20 +296,20 @@ fn push_error(
 /// be further ones.
 fn add_first(
     alloc: Global,
-    reader: &Reader<'_>,
+    whole: &WholeSource<'_>,
     piece: Piece<'_>,
     copy: &mut Copy,
     found: &mut Vec<Finding>,
 ) -> Result<bool, AllocError>
-    ensures { OnOk result (specs.KeepsErrors reader.now.len found.old.items found.new.items) }
+    ensures { OnOk result (specs.KeepsErrors whole.now.len found.old.items found.new.items) }
 {
-    let Some(first) = first_error(alloc, reader, copy.text.as_slice())? else {
+    let Some(first) = first_error(alloc, whole, copy.text.as_slice())? else {
         return Ok(false);
     };
     let base = copy.base;
     let place = first.start.saturating_sub(base).min(piece.text.len());
     let goes_on = take_out(alloc, piece, copy, first.code.as_slice(), place)?;
-    push_error(alloc, reader, piece, base, first, found)?;
+    push_error(alloc, whole, piece, base, first, found)?;
     Ok(goes_on)
 }
 
@@ -322,16 +326,16 @@ fn spend(copy: &Copy, left: &mut usize) -> bool {
 /// What they are about becomes blanks in the copy.
 pub(crate) fn add_rounds(
     alloc: Global,
-    reader: &Reader<'_>,
+    whole: &WholeSource<'_>,
     piece: Piece<'_>,
     copy: &mut Copy,
     left: &mut usize,
     found: &mut Vec<Finding>,
 ) -> Result<(), AllocError>
-    ensures { OnOk result (specs.KeepsErrors reader.now.len found.old.items found.new.items) }
+    ensures { OnOk result (specs.KeepsErrors whole.now.len found.old.items found.new.items) }
 {
     for _ in 0..ROUNDS {
-        if !add_first(alloc, reader, piece, copy, found)? || !spend(copy, left) {
+        if !add_first(alloc, whole, piece, copy, found)? || !spend(copy, left) {
             break;
         }
     }

@@ -4,7 +4,7 @@ ghost use Rattle.std.specs.Prelude.{OnOk};
 ghost use Rattle.lint_all.specs.Found as specs;
 
 use crate::pieces::starts_of;
-use crate::rounds::{ALL, Copy, INIT, OUTPUT, Piece, Reader, add_rounds};
+use crate::rounds::{ALL, Copy, INIT, OUTPUT, Piece, WholeSource, add_rounds};
 use ac_calls::{CallAt, calls_of};
 use ac_statement::ParseFault;
 use acparse::parse;
@@ -57,7 +57,7 @@ impl Pieces {
 
 /// Returns the offset of the first call of a macro that is in no other call, or that after the
 /// text.
-fn place_of(text: &[u8], calls: &[CallAt], name: &[u8]) -> usize {
+fn start_of_call(text: &[u8], calls: &[CallAt], name: &[u8]) -> usize {
     let mut reach = 0;
     for call in calls {
         if reach <= call.start {
@@ -98,14 +98,14 @@ fn is_read(alloc: Global, copy: &Copy) -> Result<bool, AllocError> {
 /// Appends the errors of a text at an offset, and makes blanks of what they are about in its copy.
 fn add_copied(
     alloc: Global,
-    reader: &Reader<'_>,
+    whole: &WholeSource<'_>,
     text: &[u8],
     at: usize,
     copy: &mut Copy,
     left: &mut usize,
     found: &mut Vec<Finding>,
 ) -> Result<(), AllocError>
-    ensures { OnOk result (specs.KeepsErrors reader.now.len found.old.items found.new.items) }
+    ensures { OnOk result (specs.KeepsErrors whole.now.len found.old.items found.new.items) }
 {
     let calls = calls_of(alloc, text)?;
     let piece = Piece {
@@ -113,7 +113,7 @@ fn add_copied(
         calls: calls.as_slice(),
         at,
     };
-    add_rounds(alloc, reader, piece, copy, left, found)
+    add_rounds(alloc, whole, piece, copy, left, found)
 }
 
 /// Writes what a copy has in the place of a text back to an offset.
@@ -166,14 +166,14 @@ impl Next {
 /// Appends the errors of one piece, and makes blanks of what they are about.
 fn add_piece(
     alloc: Global,
-    reader: &Reader<'_>,
+    whole: &WholeSource<'_>,
     text: &mut Vec<u8>,
     pieces: &Pieces,
     next: &mut Next,
     left: &mut usize,
     found: &mut Vec<Finding>,
 ) -> Result<(), AllocError>
-    ensures { OnOk result (specs.KeepsErrors reader.now.len found.old.items found.new.items) }
+    ensures { OnOk result (specs.KeepsErrors whole.now.len found.old.items found.new.items) }
 {
     let start = pieces.start(next.first);
     let end = pieces.start(next.first.saturating_add(1)).min(text.len());
@@ -181,7 +181,7 @@ fn add_piece(
     let mut copy = run_copy(alloc, text.as_slice(), pieces, start, end)?;
     add_copied(
         alloc,
-        reader,
+        whole,
         part(text.as_slice(), start, end),
         start,
         &mut copy,
@@ -223,14 +223,14 @@ fn read_run(
 /// Goes on by some pieces.
 fn go_on(
     alloc: Global,
-    reader: &Reader<'_>,
+    whole: &WholeSource<'_>,
     text: &mut Vec<u8>,
     pieces: &Pieces,
     next: &mut Next,
     left: &mut usize,
     found: &mut Vec<Finding>,
 ) -> Result<(), AllocError>
-    ensures { OnOk result (specs.KeepsErrors reader.now.len found.old.items found.new.items) }
+    ensures { OnOk result (specs.KeepsErrors whole.now.len found.old.items found.new.items) }
 {
     if pieces.is_frame(next.first) {
         next.restart(next.first.saturating_add(1));
@@ -238,7 +238,7 @@ fn go_on(
     }
     let end = pieces.run_end(next.first, next.size);
     if end <= next.first.saturating_add(1) {
-        add_piece(alloc, reader, text, pieces, next, left, found)
+        add_piece(alloc, whole, text, pieces, next, left, found)
     } else {
         read_run(alloc, text.as_slice(), pieces, next, end)
     }
@@ -248,19 +248,19 @@ fn go_on(
 /// the source, as far as so much reading finds them. What they are about becomes blanks.
 pub(crate) fn add_pieces(
     alloc: Global,
-    reader: &Reader<'_>,
+    whole: &WholeSource<'_>,
     text: &mut Vec<u8>,
     calls: &[CallAt],
     left: &mut usize,
     found: &mut Vec<Finding>,
 ) -> Result<(), AllocError>
-    ensures { OnOk result (specs.KeepsErrors reader.now.len found.old.items found.new.items) }
+    ensures { OnOk result (specs.KeepsErrors whole.now.len found.old.items found.new.items) }
 {
     let pieces = Pieces {
         starts: starts_of(alloc, text.as_slice(), calls)?,
         len: text.len(),
-        init: place_of(text.as_slice(), calls, b"AC_INIT"),
-        output: place_of(text.as_slice(), calls, b"AC_OUTPUT"),
+        init: start_of_call(text.as_slice(), calls, b"AC_INIT"),
+        output: start_of_call(text.as_slice(), calls, b"AC_OUTPUT"),
     };
     let mut next = Next {
         first: 0,
@@ -271,7 +271,7 @@ pub(crate) fn add_pieces(
         if next.first >= pieces.starts.len() {
             break;
         }
-        go_on(alloc, reader, text, &pieces, &mut next, left, found)?;
+        go_on(alloc, whole, text, &pieces, &mut next, left, found)?;
     }
     Ok(())
 }

@@ -9,7 +9,7 @@ ghost use Rattle.lint_all.specs.Found as specs;
 
 use crate::joining::joined;
 use crate::masking::{blank, inner_start};
-use crate::rounds::{Copy, Piece, Reader, add_rounds};
+use crate::rounds::{Copy, Piece, WholeSource, add_rounds};
 use crate::runs::add_pieces;
 use ac_calls::CallAt;
 use lint_errors::{Reading, errors_of};
@@ -88,17 +88,17 @@ fn add_others(
     alloc: Global,
     text: &[u8],
     calls: &[CallAt],
-    reader: &Reader<'_>,
+    whole: &WholeSource<'_>,
     found: &mut Vec<Finding>,
 ) -> Result<(), AllocError>
-    ensures { OnOk result (specs.KeepsErrors reader.now.len found.old.items found.new.items) }
+    ensures { OnOk result (specs.KeepsErrors whole.now.len found.old.items found.new.items) }
 {
     let mut copy = copy_of(alloc, text, calls)?;
     let mut left = budget_of(text.len());
-    add_pieces(alloc, reader, &mut copy.text, calls, &mut left, found)?;
+    add_pieces(alloc, whole, &mut copy.text, calls, &mut left, found)?;
     let mut left = budget_of(text.len());
     let piece = Piece { text, calls, at: 0 };
-    add_rounds(alloc, reader, piece, &mut copy, &mut left, found)
+    add_rounds(alloc, whole, piece, &mut copy, &mut left, found)
 }
 
 /// Returns errors of a source with these calls that are found by reading on after each of them, in
@@ -111,12 +111,12 @@ fn others_of(
 ) -> Result<Vec<Finding>, AllocError>
     ensures { IfOk result (λ v. All (specs.IsErrorOf (length text.now)) v.items) }
 {
-    let reader = Reader {
+    let whole = WholeSource {
         index,
         len: text.len(),
     };
     let mut found = Vec::new(alloc);
-    add_others(alloc, text, calls, &reader, &mut found)?;
+    add_others(alloc, text, calls, &whole, &mut found)?;
     Ok(found)
 }
 

@@ -23,7 +23,7 @@ use std::alloc::{AllocError, Global};
 
 /// What is found in a source and its templates, in order of place, and the templates.
 #[derive(Drop)]
-pub(crate) struct Found {
+pub(crate) struct SourceFindings {
     pub(crate) findings: Vec<Finding>,
     pub(crate) sheets: Sheets,
     /// Whether one of them is an error.
@@ -181,7 +181,7 @@ pub(crate) fn found_in<D: Disk>(
     alloc: Global,
     disk: &D,
     linted: &Linted,
-) -> Result<Found, AllocError>
+) -> Result<SourceFindings, AllocError>
     ensures error { IfOk result (λ f.
         HasError (D.known disk.now) linted.now.directory linted.now.text f.has_error) }
     ensures listed { IfOk result (λ f.
@@ -196,7 +196,7 @@ pub(crate) fn found_in<D: Disk>(
     let has_error = add_to(&mut findings, &mut lost)?;
     reword(alloc, text, &mut findings)?;
     join(&mut findings, &mut others)?;
-    Ok(Found {
+    Ok(SourceFindings {
         findings,
         sheets,
         has_error,

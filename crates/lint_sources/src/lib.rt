@@ -32,5 +32,5 @@ mod words;
 pub use differing::differences_of;
 pub use reading::{Linted, SOURCE, read_named};
 pub use reasons::add_reasons;
-pub use showing::{Form, linted_page};
+pub use showing::{FindingForm, linted_page};
 pub use words::{has_input, is_option};

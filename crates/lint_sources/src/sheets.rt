@@ -38,7 +38,7 @@ impl Sheets {
 
     /// Returns the place at an index among those of files, and then those of headers.
     #[tactic(auto, using(crate::proofs::Numbered::of_header, crate::proofs::Numbered::of_file))]
-    fn place_of(&self, index: usize) -> Option<usize>
+    fn place_at_index(&self, index: usize) -> Option<usize>
         ensures { result ≡ slice_get (specs.places_in self.now) index }
     {
         match index.checked_sub(self.files.len()) {
@@ -52,7 +52,7 @@ impl Sheets {
         ensures { result ≡ specs.place_at (specs.places_in self.now) number }
     {
         match number.checked_sub(1) {
-            Some(index) => self.place_of(index),
+            Some(index) => self.place_at_index(index),
             None => None,
         }
     }

@@ -17,7 +17,7 @@ use std::alloc::{AllocError, Global};
 
 /// How findings are shown.
 #[derive(Clone, Copy)]
-pub struct Form {
+pub struct FindingForm {
     /// If true, a finding is a line with a JSON object.
     pub is_json: bool,
     /// If true, the text has the colours of a terminal.
@@ -25,7 +25,7 @@ pub struct Form {
 }
 
 /// An excerpt without colours.
-pub(crate) const PLAIN: Form = Form {
+pub(crate) const PLAIN: FindingForm = FindingForm {
     is_json: false,
     is_coloured: false,
 };
@@ -46,7 +46,7 @@ pub(crate) trait Shower {
         ensures { IfOk result (specs.IsText (shows self.now finding.now name.now text.now)) };
 }
 
-impl Shower for Form {
+impl Shower for FindingForm {
     fn show(
         &self,
         alloc: Global,
@@ -183,7 +183,7 @@ fn shown_page<D: Disk, S: Shower>(
 pub fn linted_page<D: Disk>(
     alloc: Global,
     disk: &D,
-    form: Form,
+    form: FindingForm,
     linted: &Linted,
 ) -> Result<(Vec<u8>, bool), AllocError>
     // The source has an error exactly if it is refused, or if a template can't be read.

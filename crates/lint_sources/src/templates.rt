@@ -16,32 +16,10 @@ use file_disk::Disk;
 use file_texts::path_in;
 use lint_findings::Finding;
 use lint_table::{Page, WordPart, keys};
+use lint_templates::span_of_output;
 use lint_text::part;
 use output_list::Output;
 use std::alloc::{AllocError, Global};
-
-/// Returns whether the byte is before or after a name in a list of files.
-fn is_border(byte: u8) -> bool {
-    matches!(
-        byte,
-        b' ' | b'\t' | b'\n' | b'[' | b']' | b'(' | b')' | b',' | b':'
-    )
-}
-
-/// Returns the offset of the name of an output: where it is the first time after a macro that names
-/// outputs. If it is nowhere, returns the offset of the end.
-fn place_of(text: &[u8], name: &[u8]) -> usize {
-    let mut is_after_macro = false;
-    let mut at: usize = 0;
-    for word in text.split(|byte| is_border(*byte)) {
-        if is_after_macro && word == name {
-            return at;
-        }
-        is_after_macro |= word.starts_with(b"AC_CONFIG_");
-        at = at.saturating_add(word.len()).saturating_add(1);
-    }
-    text.len()
-}
 
 /// Returns that the template of the output with this name is not at a path. The text is that of the
 /// source.
@@ -50,9 +28,8 @@ fn missing(alloc: Global, text: &[u8], name: &[u8], path: &[u8]) -> Result<Findi
     let shown = shown_path(alloc, path)?;
     page.put(keys::TEMPLATE, &[WordPart::AsItIs(shown.as_slice())]);
     let code = Bytes::from_slice(alloc, keys::TEMPLATE.name())?;
-    let start = place_of(text, name);
-    let end = start.saturating_add(name.len()).min(text.len());
-    page.finding(code, start, end)
+    let span = span_of_output(text, name);
+    page.finding(code, span.start, span.end)
 }
 
 /// Returns whether the template of this name was read.

@@ -5,7 +5,7 @@ ghost use Rattle.lint_findings.specs.Within.{KeepsWithin};
 
 use crate::advice::variable_advice;
 use crate::given::Given;
-use crate::messages::{Form, near_of, warn_at, warn_of_name};
+use crate::messages::{TemplateName, near_of, warn_at, warn_of_name};
 use bstr::ByteSlice;
 use deftable::{SubstList, is_shell_name};
 use lint_findings::{Finding, Span};
@@ -39,8 +39,8 @@ fn warn_once(
     seen.add(name)?;
     let advice = variable_advice(name);
     let near = near_of(alloc, out.len(), name, &given.variables)?;
-    let form = Form::Variable;
-    warn_of_name(alloc, out, text, span, form, name, advice, near)
+    let kind = TemplateName::Variable;
+    warn_of_name(alloc, out, text, span, kind, name, advice, near)
 }
 
 /// Warns of each name between two `@` that is no output variable, once.

@@ -5,7 +5,7 @@ ghost use Rattle.lint_findings.specs.Within.{KeepsWithin};
 
 use crate::advice::{default_header, definition_advice};
 use crate::given::{Given, add_name};
-use crate::messages::{Form, near_of, warn_of_name};
+use crate::messages::{TemplateName, near_of, warn_of_name};
 use bstr::ByteSlice;
 use deftable::{SubstList, is_shell_name};
 use lint_findings::{Finding, Span};
@@ -93,7 +93,7 @@ impl Undefined {
 /// The names that a template undefines, and that nothing defines, but for those of which more is
 /// said.
 #[derive(Drop)]
-struct Found {
+struct UndefinedNames {
     /// Those of default includes.
     defaults: Undefined,
     /// Those of which nothing more is known.
@@ -167,7 +167,7 @@ fn warn_of_line(
     text: &[u8],
     at: usize,
     line: &[u8],
-    found: &mut Found,
+    found: &mut UndefinedNames,
     out: &mut Vec<Finding>,
 ) -> Result<(), AllocError>
     ensures within { OnOk result (KeepsWithin file text.now out.old.items out.new.items) }
@@ -189,13 +189,13 @@ fn warn_of_line(
         end: start.saturating_add(name.len()),
     };
     let advice = definition_advice(name);
-    let form = Form::Definition;
+    let kind = TemplateName::Definition;
     let count = out.len().saturating_add(found.others.count);
     let near = near_of(alloc, count, name, known.candidates)?;
     if advice.is_none() && near.is_none() {
         return found.others.add(start, name, b"");
     }
-    warn_of_name(alloc, out, text, span, form, name, advice, near)
+    warn_of_name(alloc, out, text, span, kind, name, advice, near)
 }
 
 /// Warns of the name of each line that is undefined and that nothing defines. Those of default
@@ -205,7 +205,7 @@ fn warn_of_lines(
     known: Known<'_>,
     file: usize,
     text: &[u8],
-    found: &mut Found,
+    found: &mut UndefinedNames,
     out: &mut Vec<Finding>,
 ) -> Result<(), AllocError>
     ensures within { OnOk result (KeepsWithin file text.now out.old.items out.new.items) }
@@ -239,7 +239,7 @@ pub fn warn_of_header(
         all: &given.defined,
         candidates: &candidates,
     };
-    let mut found = Found {
+    let mut found = UndefinedNames {
         defaults: Undefined::none(alloc),
         others: Undefined::none(alloc),
     };
@@ -264,7 +264,7 @@ pub fn add_listed(names: &mut SubstList, text: &[u8]) -> Result<(), AllocError> 
 }
 
 /// Returns where a source names a text first, or its start if it doesn't.
-fn place_of(source: &[u8], sought: &[u8]) -> Span
+fn first_span(source: &[u8], sought: &[u8]) -> Span
     ensures { result.file ≡ 0 }
 {
     match source.find(sought) {
@@ -283,13 +283,13 @@ fn place_of(source: &[u8], sought: &[u8]) -> Span
 
 /// Returns where a source makes a definition: where it names it, or else where it names its
 /// headers.
-fn place_of_definition(source: &[u8], name: &[u8]) -> Span
+fn span_of_definition(source: &[u8], name: &[u8]) -> Span
     ensures { result.file ≡ 0 }
 {
     if source.contains_str(name) {
-        return place_of(source, name);
+        return first_span(source, name);
     }
-    place_of(source, b"AC_CONFIG_HEADERS")
+    first_span(source, b"AC_CONFIG_HEADERS")
 }
 
 /// Warns of a definition that no template of a header has.
@@ -305,7 +305,7 @@ fn warn_of_definition(
     if names.has(name) || name.starts_with(b"PACKAGE_") {
         return Ok(());
     }
-    let span = place_of_definition(source, name);
+    let span = span_of_definition(source, name);
     warn_by_key(
         alloc,
         out,

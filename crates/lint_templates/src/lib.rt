@@ -24,4 +24,4 @@ mod outputs;
 pub use files::warn_of_file;
 pub use given::Given;
 pub use headers::{add_listed, warn_of_header, warn_of_unlisted};
-pub use outputs::warn_of_outputs;
+pub use outputs::{span_of_output, warn_of_outputs};

@@ -9,9 +9,9 @@ use lint_table::{Key, Page, WordPart, keys, warn_by_key};
 use lint_words::near_name;
 use std::alloc::{AllocError, Global};
 
-/// What has no value.
+/// A name in a template that has no value.
 #[derive(Clone, Copy)]
-pub(crate) enum Form {
+pub(crate) enum TemplateName {
     /// A name between two `@`.
     Variable,
     /// A name that a header's template undefines.
@@ -19,18 +19,18 @@ pub(crate) enum Form {
 }
 
 /// Returns what is said of a name that has no value.
-fn key_of(form: Form) -> Key {
-    match form {
-        Form::Variable => keys::UNSET_VARIABLE,
-        Form::Definition => keys::NEVER_DEFINED,
+fn key_of(kind: TemplateName) -> Key {
+    match kind {
+        TemplateName::Variable => keys::UNSET_VARIABLE,
+        TemplateName::Definition => keys::NEVER_DEFINED,
     }
 }
 
 /// Returns the question whether a near name was meant.
-fn near_key(form: Form) -> Key {
-    match form {
-        Form::Variable => keys::NEAR_VARIABLE,
-        Form::Definition => keys::NEAR_DEFINITION,
+fn near_key(kind: TemplateName) -> Key {
+    match kind {
+        TemplateName::Variable => keys::NEAR_VARIABLE,
+        TemplateName::Definition => keys::NEAR_DEFINITION,
     }
 }
 
@@ -61,9 +61,9 @@ pub(crate) fn near_of<'a>(
 }
 
 /// Writes the question whether a near name was meant, if there is one.
-fn put_near(page: &mut Page, form: Form, near: Option<&[u8]>) {
+fn put_near(page: &mut Page, kind: TemplateName, near: Option<&[u8]>) {
     if let Some(near) = near {
-        page.put(near_key(form), &[WordPart::AsItIs(near)]);
+        page.put(near_key(kind), &[WordPart::AsItIs(near)]);
     }
 }
 
@@ -74,19 +74,19 @@ pub(crate) fn warn_of_name(
     out: &mut Vec<Finding>,
     text: &[u8],
     span: Span,
-    form: Form,
+    kind: TemplateName,
     name: &[u8],
     advice: Option<Key>,
     near: Option<&[u8]>,
 ) -> Result<(), AllocError>
     ensures within { OnOk result (KeepsWithin span.file text.now out.old.items out.new.items) }
 {
-    let key = key_of(form);
+    let key = key_of(kind);
     let mut page = Page::new(alloc);
     page.put(key, &[WordPart::AsItIs(name)]);
     match advice {
         Some(advice) => page.put(advice, &[]),
-        None => put_near(&mut page, form, near),
+        None => put_near(&mut page, kind, near),
     }
     page.warn(alloc, out, text, span, key.name())
 }

@@ -48,8 +48,10 @@ fn is_border(byte: u8) -> bool {
     )
 }
 
-/// Returns where an output is named: the first time after a macro that names outputs, or at the end.
-fn place_of(text: &[u8], name: &[u8]) -> Span
+/// Returns where a source names an output first: after a macro that names outputs, and not after a
+/// colon, where templates are (own). If it is nowhere, returns the end of the source.
+pub fn span_of_output(text: &[u8], name: &[u8]) -> Span
+    // It is a part of the source, and of no template.
     ensures { result.file ≡ 0 }
 {
     let mut is_after_macro = false;
@@ -87,7 +89,7 @@ fn warn_of_output(
     if !inputs.contains(name) {
         return Ok(());
     }
-    let span = place_of(text, name);
+    let span = span_of_output(text, name);
     warn_by_key(
         alloc,
         out,

@@ -1,12 +1,12 @@
 //! What is said of shell text that is not read.
 
-use crate::table::{Construct, Fit, Kind, Nameless, row_of, said_of};
+use crate::table::{Construct, Fit, Nameless, WordPlace, row_of, said_of};
 use lint_text::{after_blanks, before, first_line, first_name, first_word, from};
 
 /// Returns what is said of the first word of the text that a test may not have.
 fn row_of_words(text: &[u8]) -> Option<Construct> {
     for word in text.split(|byte| matches!(*byte, b' ' | b'\t' | b'\n')) {
-        if let Some(found) = row_of(Kind::Test, Fit::Is(word)) {
+        if let Some(found) = row_of(WordPlace::Test, Fit::Is(word)) {
             return Some(found);
         }
     }
@@ -16,13 +16,13 @@ fn row_of_words(text: &[u8]) -> Option<Construct> {
 /// Returns what is said of what a text begins with, not as a word.
 fn row_of_front(text: &[u8]) -> Option<Construct> {
     let fit = Fit::Begins(text);
-    if let Some(found) = row_of(Kind::Inside, fit) {
+    if let Some(found) = row_of(WordPlace::Inside, fit) {
         return Some(found);
     }
-    if let Some(found) = row_of(Kind::Piece, fit) {
+    if let Some(found) = row_of(WordPlace::Piece, fit) {
         return Some(found);
     }
-    row_of(Kind::Front, fit)
+    row_of(WordPlace::Front, fit)
 }
 
 /// Returns whether the text after a `$` is an expansion with an operator, such as `${x-y}`.
@@ -116,7 +116,7 @@ fn has_blank_before_equals(text: &[u8]) -> bool {
 
 /// Returns what is said of words, as far as their parts tell it.
 pub fn word_help(text: &[u8]) -> Option<Construct> {
-    if let Some(found) = row_of(Kind::Inside, Fit::IsIn(text)) {
+    if let Some(found) = row_of(WordPlace::Inside, Fit::IsIn(text)) {
         return Some(found);
     }
     if let Some(found) = variable_help(text) {
@@ -130,7 +130,7 @@ pub(crate) fn argument_help(argument: &[u8]) -> Option<Construct> {
     if let Some(found) = word_help(argument) {
         return Some(found);
     }
-    row_of(Kind::Piece, Fit::IsIn(argument))
+    row_of(WordPlace::Piece, Fit::IsIn(argument))
 }
 
 /// Returns what a word begins with before a bracket that closes none of the word, which ends the
@@ -155,7 +155,7 @@ fn front_help(text: &[u8]) -> Option<Construct> {
         return Some(said_of(Nameless::CarriageReturn));
     }
     let word = within_argument(first_word(text));
-    if let Some(found) = row_of(Kind::Word, Fit::Is(word)) {
+    if let Some(found) = row_of(WordPlace::Word, Fit::Is(word)) {
         return Some(found);
     }
     if has_blank_before_equals(text) {
@@ -176,7 +176,7 @@ pub fn shell_help(statement: &[u8]) -> Option<Construct> {
     if let Some(found) = word_help(text) {
         return Some(found);
     }
-    row_of(Kind::Piece, Fit::IsIn(text))
+    row_of(WordPlace::Piece, Fit::IsIn(text))
 }
 
 /// Returns what is wrong with a test, as far as its text shows that. The text is without the quotes

@@ -21,7 +21,7 @@ impl Construct {
 
 /// Where a word of the table may be.
 #[derive(Clone, Copy, PartialEq, Eq)]
-pub(crate) enum Kind {
+pub(crate) enum WordPlace {
     /// A statement begins with the word.
     Word,
     /// A statement begins with the text, whatever is after it.
@@ -35,43 +35,43 @@ pub(crate) enum Kind {
 }
 
 /// A kind, words with blanks between them, and what is said of each of them.
-type Row = (Kind, &'static [u8], Key);
+type Row = (WordPlace, &'static [u8], Key);
 
 /// What is said of the words that are not read.
 #[rattlefmt::skip]
 const ROWS: [Row; 32] = [
-    (Kind::Word, b"if then else elif fi", keys::SHELL_IF),
-    (Kind::Word, b"case esac", keys::SHELL_CASE),
-    (Kind::Word, b"for do done while until", keys::SHELL_FOR),
-    (Kind::Word, b"test", keys::SHELL_TEST),
-    (Kind::Word, b"[", keys::TEST_BRACKET),
-    (Kind::Word, b"echo printf", keys::SHELL_ECHO),
-    (Kind::Word, b"exit return", keys::SHELL_EXIT),
-    (Kind::Word, b"break continue", keys::SHELL_BREAK),
-    (Kind::Word, b"export", keys::SHELL_EXPORT),
-    (Kind::Word, b"unset", keys::SHELL_UNSET),
-    (Kind::Word, b"set local . source", keys::SHELL_COMMAND),
-    (Kind::Word, b"eval", keys::SHELL_EVAL),
-    (Kind::Word, b"function", keys::SHELL_FUNCTION),
-    (Kind::Word, b"!", keys::SHELL_NOT),
-    (Kind::Word, b"{ }", keys::SHELL_GROUP),
-    (Kind::Word, b"cd", keys::SHELL_CD),
-    (Kind::Inside, b"`", keys::SHELL_BACKQUOTE),
-    (Kind::Inside, b"$((", keys::SHELL_ARITHMETIC),
-    (Kind::Inside, b"$(", keys::SHELL_SUBSTITUTION),
-    (Kind::Piece, b"&& ||", keys::SHELL_AND),
-    (Kind::Piece, b"> <", keys::SHELL_REDIRECTION),
-    (Kind::Piece, b"|", keys::SHELL_PIPE),
-    (Kind::Piece, b"&", keys::SHELL_COMMAND),
-    (Kind::Front, b"(", keys::SHELL_SUBSHELL),
-    (Kind::Front, b"$", keys::SHELL_VARIABLE_COMMAND),
-    (Kind::Test, b"==", keys::TEST_EQUALS),
-    (Kind::Test, b"-a", keys::TEST_AND),
-    (Kind::Test, b"-o", keys::TEST_OR),
-    (Kind::Test, b"-f -d -e -r -w -x -s -h -L", keys::TEST_FILE),
-    (Kind::Test, b"-eq -ne -lt -le -gt -ge", keys::TEST_NUMBER),
-    (Kind::Test, b";", keys::TEST_SEMICOLON),
-    (Kind::Test, b"|", keys::SHELL_PIPE),
+    (WordPlace::Word, b"if then else elif fi", keys::SHELL_IF),
+    (WordPlace::Word, b"case esac", keys::SHELL_CASE),
+    (WordPlace::Word, b"for do done while until", keys::SHELL_FOR),
+    (WordPlace::Word, b"test", keys::SHELL_TEST),
+    (WordPlace::Word, b"[", keys::TEST_BRACKET),
+    (WordPlace::Word, b"echo printf", keys::SHELL_ECHO),
+    (WordPlace::Word, b"exit return", keys::SHELL_EXIT),
+    (WordPlace::Word, b"break continue", keys::SHELL_BREAK),
+    (WordPlace::Word, b"export", keys::SHELL_EXPORT),
+    (WordPlace::Word, b"unset", keys::SHELL_UNSET),
+    (WordPlace::Word, b"set local . source", keys::SHELL_COMMAND),
+    (WordPlace::Word, b"eval", keys::SHELL_EVAL),
+    (WordPlace::Word, b"function", keys::SHELL_FUNCTION),
+    (WordPlace::Word, b"!", keys::SHELL_NOT),
+    (WordPlace::Word, b"{ }", keys::SHELL_GROUP),
+    (WordPlace::Word, b"cd", keys::SHELL_CD),
+    (WordPlace::Inside, b"`", keys::SHELL_BACKQUOTE),
+    (WordPlace::Inside, b"$((", keys::SHELL_ARITHMETIC),
+    (WordPlace::Inside, b"$(", keys::SHELL_SUBSTITUTION),
+    (WordPlace::Piece, b"&& ||", keys::SHELL_AND),
+    (WordPlace::Piece, b"> <", keys::SHELL_REDIRECTION),
+    (WordPlace::Piece, b"|", keys::SHELL_PIPE),
+    (WordPlace::Piece, b"&", keys::SHELL_COMMAND),
+    (WordPlace::Front, b"(", keys::SHELL_SUBSHELL),
+    (WordPlace::Front, b"$", keys::SHELL_VARIABLE_COMMAND),
+    (WordPlace::Test, b"==", keys::TEST_EQUALS),
+    (WordPlace::Test, b"-a", keys::TEST_AND),
+    (WordPlace::Test, b"-o", keys::TEST_OR),
+    (WordPlace::Test, b"-f -d -e -r -w -x -s -h -L", keys::TEST_FILE),
+    (WordPlace::Test, b"-eq -ne -lt -le -gt -ge", keys::TEST_NUMBER),
+    (WordPlace::Test, b";", keys::TEST_SEMICOLON),
+    (WordPlace::Test, b"|", keys::SHELL_PIPE),
 ];
 
 /// How a word fits a text.
@@ -105,7 +105,7 @@ fn word_of(words: &'static [u8], fit: Fit<'_>) -> Option<&'static [u8]> {
 }
 
 /// Returns what a row says, if it is of this kind and one of its words fits.
-fn construct_of(row: Row, kind: Kind, fit: Fit<'_>) -> Option<Construct> {
+fn construct_of(row: Row, kind: WordPlace, fit: Fit<'_>) -> Option<Construct> {
     if row.0 != kind {
         return None;
     }
@@ -114,7 +114,7 @@ fn construct_of(row: Row, kind: Kind, fit: Fit<'_>) -> Option<Construct> {
 }
 
 /// Returns what the first row of this kind says that has a word that fits.
-pub(crate) fn row_of(kind: Kind, fit: Fit<'_>) -> Option<Construct> {
+pub(crate) fn row_of(kind: WordPlace, fit: Fit<'_>) -> Option<Construct> {
     for row in &ROWS {
         if let Some(found) = construct_of(*row, kind, fit) {
             return Some(found);

@@ -2,4 +2,4 @@ use Rattle.lint_all.specs.Found.{KeepsErrors}
 use Rattle.lint_all.proofs.runs.add_pieces.Given as goal
 
 abbrev pub invariant-loop : goal.invariant-loop
-invariant-loop l = KeepsErrors l.reader.len l.initial.found.items l.found.items
+invariant-loop l = KeepsErrors l.whole.len l.initial.found.items l.found.items
