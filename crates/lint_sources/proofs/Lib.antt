@@ -1,6 +1,7 @@
 pub mod Lost
 pub mod Numbered
 pub mod Pages
+pub mod Parts
 pub mod Paths
 pub mod Printed
 pub mod Worded

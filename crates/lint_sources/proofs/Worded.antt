@@ -8,12 +8,15 @@ use Rattle.ac_tree.specs.Script.{Script, script_of}
 use Rattle.acparse.specs.Profile.{source_of}
 use Rattle.file_disk.specs.Known.{Known}
 use Rattle.lint_errors.specs.Errors.{IsAccepted}
-use Rattle.lint_errors.specs.Readings.{IsRead}
+use Rattle.lint_errors.specs.Readings.{IsRead, IsReading}
+use Rattle.lint_errors.specs.declared.reading.Reading.{Reading}
 use Rattle.lint_findings.specs.declared.finding.Finding.{Finding}
 use Rattle.lint_all.specs.Found.{HasFirst}
 use Rattle.lint_sources.specs.Listed.{AreInOrder, AreListed, unworded}
 use Rattle.lint_sources.specs.Missing.{AreAdded, AreChecked, AreCheckedOf, HasSome, script_in}
 use Rattle.lint_sources.specs.Sources.{HasError, outputs_of}
+use Rattle.lint_sources.specs.Warned.{AreWarned, AreWarnedOf, FindsOf}
+use Rattle.lint_sources.specs.declared.sheets.Sheets.{Sheets}
 use Rattle.lint_sources.proofs.Lost.{lent_error, same_script}
 
 -- Findings that were lent, and got other words
@@ -55,17 +58,18 @@ pub lost_of : (files : Option Known) (directory text slice : List ℕ) (source :
 lost_of files directory text slice source lost same read checks = by_source files directory text source lost (subst (λ t. IsRead t source) same read) checks
 
 -- What is listed of a source
-pub listed : (files : Option Known) (directory text slice : List ℕ) (source : Result (List Stmt) ParseFault) (errors none lost joined worded others found : List Finding) → slice ≡ text
-    → HasFirst slice errors → IsRead slice source → none ≡ [] → AreCheckedOf files directory (script_in source) none lost → joined ≡ errors ++ lost → map unworded worded ≡ map unworded joined
-    → AreInOrder (worded ++ others) found → AreListed files directory text found
-listed files directory text slice source errors none lost joined worded others found same first read empty checks all rewritten order = record {
+pub listed : (finds : FindsOf) (files : Option Known) (directory text slice : List ℕ) (reading : Reading) (sheets : Sheets) (errors none lost joined worded others found : List Finding) → slice ≡ text
+    → HasFirst slice errors → IsReading slice reading → none ≡ [] → AreCheckedOf files directory (script_in reading.source) none lost → joined ≡ errors ++ lost → map unworded worded ≡ map unworded joined
+    → AreWarned finds slice reading sheets others → AreInOrder (worded ++ others) found → AreListed finds files directory text sheets found
+listed finds files directory text slice reading sheets errors none lost joined worded others found same first read empty checks all rewritten warned order = record {
   errors = errors;
   first = subst (λ t. HasFirst t errors) same first;
   lost = lost;
-  checked = lost_of files directory text slice source lost same read (subst (λ l. AreCheckedOf files directory (script_in source) l lost) empty checks);
+  checked = lost_of files directory text slice reading.source lost same read.source (subst (λ l. AreCheckedOf files directory (script_in reading.source) l lost) empty checks);
   worded = worded;
   same = rewritten ∙ ap (map unworded) all;
   others = others;
+  warned = subst (λ t. AreWarnedOf finds t sheets others) same (record { reading = reading; read = read; are = warned });
   in_order = order;
 }
 

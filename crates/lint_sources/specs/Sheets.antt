@@ -1,5 +1,5 @@
 -- Files with findings: the source and its templates. All of this is own.
-use Rattle.std.specs.Prelude.{ℕ, zero, suc, List, ◌++◌, Option, Some, None, slice_get}
+use Rattle.std.specs.Prelude.{ℕ, zero, suc, ◌+◌, ◌-◌, ◌^◌, min, List, ◌++◌, length, Option, Some, None, slice_get}
 use Rattle.lint_sources.specs.declared.sheets.Sheet.{Sheet}
 use Rattle.lint_sources.specs.declared.sheets.Sheets.{Sheets}
 
@@ -16,6 +16,10 @@ read_at read (Some place) = slice_get read place
 -- The places of templates: those of files, and then those of headers.
 abbrev pub places_in : Sheets → List ℕ
 places_in sheets = sheets.files.items ++ sheets.headers.items
+
+-- How many templates there are, as far as numbers of the machine go.
+abbrev pub count_of : Sheets → ℕ
+count_of sheets = min (length sheets.files.items + length sheets.headers.items) (2 ^ 64 - 1)
 
 -- The template of a number. The source has the number 0, and is no template.
 abbrev pub sheet_at : Sheets → ℕ → Option Sheet

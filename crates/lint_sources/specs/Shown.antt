@@ -4,6 +4,7 @@ use Rattle.file_disk.specs.Known.{Known}
 use Rattle.lint_findings.specs.declared.finding.Finding.{Finding}
 use Rattle.lint_sources.specs.Listed.{AreListed}
 use Rattle.lint_sources.specs.Sheets.{name_or, sheet_at, text_or}
+use Rattle.lint_sources.specs.Warned.{FindsOf}
 use Rattle.lint_sources.specs.declared.reading.Linted.{Linted}
 use Rattle.lint_sources.specs.declared.sheets.Sheets.{Sheets}
 
@@ -35,8 +36,8 @@ pub record IsPage (shows : Shows) (linted : Linted) (sheets : Sheets) (found : L
   pub few : length found ≤ 1000 → rest ≡ []
 
 -- The page of a source: the findings that are listed of it are shown.
-pub record IsPageOf (shows : Shows) (files : Option Known) (linted : Linted) (page : List ℕ) : Type 0 where
+pub record IsPageOf (shows : Shows) (finds : FindsOf) (files : Option Known) (linted : Linted) (page : List ℕ) : Type 0 where
   pub found : List Finding
-  pub listed : AreListed files linted.directory linted.text found
   pub sheets : Sheets
+  pub listed : AreListed finds files linted.directory linted.text sheets found
   pub is : IsPage shows linted sheets found page

@@ -6,19 +6,21 @@ ghost use Rattle.lint_findings.specs.Order.{place_cmp};
 ghost use Rattle.lint_sources.specs.Listed as listed;
 ghost use Rattle.lint_sources.specs.Missing as specs;
 ghost use Rattle.lint_sources.specs.Sources.{HasError};
+ghost use Rattle.lint_sources.specs.Warned as warned;
 ghost use Rattle.ac_tree.specs.Script.{script_of};
 
+use crate::linter::Linter;
 use crate::reading::Linted;
 use crate::reasons::add_reasons;
 use crate::sheets::{Sheets, sheets_of};
 use crate::templates::{add_lost_of_calls, read_all};
-use crate::warnings::add_warnings;
+use crate::warnings::{Warner, add_warnings};
 use ac_tree::Source;
 use file_disk::Disk;
 use lint_all::all_errors;
 use lint_errors::{Reading, read};
 use lint_findings::{Finding, put_in_order};
-use lint_warnings::warn_of_calls;
+use lint_templates::Given;
 use std::alloc::{AllocError, Global};
 
 /// What is found in a source and its templates, in order of place, and the templates.
@@ -74,20 +76,14 @@ fn has_some(errors: &[Finding]) -> bool
     !errors.is_empty()
 }
 
-/// Appends the warnings about a source and its templates: if it is refused, those about its calls
-/// alone.
-fn add_all_warnings(
-    alloc: Global,
-    text: &[u8],
-    reading: &Reading,
-    sheets: &Sheets,
-    found: &mut Vec<Finding>,
-) -> Result<(), AllocError> {
-    let calls = reading.calls.as_slice();
-    warn_of_calls(alloc, &reading.index, text, calls, found)?;
+/// Returns what a source gives its templates, if it is read.
+fn given_by(alloc: Global, reading: &Reading) -> Result<Option<Given>, AllocError> {
     match &reading.source {
-        Ok(source) => add_warnings(alloc, text, calls, source, sheets, found),
-        Err(_) => Ok(()),
+        Ok(source) => {
+            let given = Given::of(alloc, source)?;
+            Ok(Some(given))
+        }
+        Err(_) => Ok(None),
     }
 }
 
@@ -117,16 +113,22 @@ fn join(found: &mut Vec<Finding>, others: &mut Vec<Finding>) -> Result<(), Alloc
 
 /// Returns the errors of templates that calls of a refused source name, and then the warnings about
 /// a source and its templates.
-fn others_of<D: Disk>(
+fn others_of<D: Disk, W: Warner>(
     alloc: Global,
     disk: &D,
+    warner: &W,
     linted: &Linted,
+    text: &[u8],
     reading: &Reading,
     sheets: &Sheets,
-) -> Result<Vec<Finding>, AllocError> {
+) -> Result<Vec<Finding>, AllocError>
+    ensures { IfOk result (λ others.
+        warned.AreWarned (W.finds warner.now) text.now reading.now sheets.now others.items) }
+{
     let mut others = Vec::new(alloc);
     add_lost(alloc, disk, linted, reading, &mut others)?;
-    add_all_warnings(alloc, linted.text.as_slice(), reading, sheets, &mut others)?;
+    let given = given_by(alloc, reading)?;
+    add_warnings(alloc, warner, text, reading, sheets, &given, &mut others)?;
     Ok(others)
 }
 
@@ -159,7 +161,8 @@ pub(crate) fn warnings_in<D: Disk>(
     let mut found = Vec::new(alloc);
     let reading = read(alloc, text)?;
     let sheets = sheets_for(alloc, disk, linted, &reading, &mut found)?;
-    add_all_warnings(alloc, text, &reading, &sheets, &mut found)?;
+    let given = given_by(alloc, &reading)?;
+    add_warnings(alloc, &Linter, text, &reading, &sheets, &given, &mut found)?;
     put_in_order(&mut found)?;
     Ok(Warnings {
         findings: found,
@@ -177,22 +180,24 @@ fn reword(alloc: Global, text: &[u8], found: &mut Vec<Finding>) -> Result<(), Al
 
 /// Returns what is found in a source, in order of place: its errors, the templates that are not
 /// there, and the warnings. If the source is refused, the warnings are those about its calls alone.
-pub(crate) fn found_in<D: Disk>(
+pub(crate) fn found_in<D: Disk, W: Warner>(
     alloc: Global,
     disk: &D,
+    warner: &W,
     linted: &Linted,
 ) -> Result<SourceFindings, AllocError>
     ensures error { IfOk result (λ f.
         HasError (D.known disk.now) linted.now.directory linted.now.text f.has_error) }
     ensures listed { IfOk result (λ f.
-        listed.AreListed (D.known disk.now) linted.now.directory linted.now.text f.findings.items) }
+        listed.AreListed (W.finds warner.now) (D.known disk.now) linted.now.directory
+        linted.now.text f.sheets f.findings.items) }
 {
     let text = linted.text.as_slice();
     let reading = read(alloc, text)?;
     let mut findings = all_errors(alloc, text, &reading)?;
     let mut lost = Vec::new(alloc);
     let sheets = sheets_for(alloc, disk, linted, &reading, &mut lost)?;
-    let mut others = others_of(alloc, disk, linted, &reading, &sheets)?;
+    let mut others = others_of(alloc, disk, warner, linted, text, &reading, &sheets)?;
     let has_error = add_to(&mut findings, &mut lost)?;
     reword(alloc, text, &mut findings)?;
     join(&mut findings, &mut others)?;

@@ -13,14 +13,17 @@
 //!
 //! A call fails only if memory runs out. "own" marks a rule that no manual gives.
 //!
-//! In `specs`, read `Sources` (which source is read, and whether it has an error), `Missing` and
-//! `Differing`. Read `reading`, then `findings`, which finds, and `showing`. `templates` reads the
-//! templates of a source, `sheets` holds them for `warnings`, and `words` says which words name
-//! what.
+//! In `specs`, read `Sources` (which source is read, and whether it has an error), `Missing`,
+//! `Warned` and `Differing`. Read `reading`, then `findings`, which finds, and `showing`. `templates`
+//! reads the templates of a source, and `sheets` holds them. `warnings` asks for the warnings about
+//! each part of a source, and `linter` finds them. `listing` says what the templates of headers
+//! list, and `words` which words name what.
 #![tactic(auto)]
 
 mod differing;
 mod findings;
+mod linter;
+mod listing;
 mod reading;
 mod reasons;
 mod sheets;

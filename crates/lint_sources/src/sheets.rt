@@ -75,7 +75,9 @@ impl Sheets {
     }
 
     /// Returns the number of all templates.
-    pub(crate) fn count(&self) -> usize {
+    pub(crate) fn count(&self) -> usize
+        ensures { result ≡ specs.count_of self.now }
+    {
         self.files.len().saturating_add(self.headers.len())
     }
 }

@@ -6,8 +6,10 @@ ghost use Rattle.lint_sources.specs.Shown.{Shows};
 ghost use Rattle.lint_sources.specs.Sources.{HasError};
 
 use crate::findings::found_in;
+use crate::linter::Linter;
 use crate::reading::Linted;
 use crate::sheets::Sheets;
+use crate::warnings::Warner;
 use deftable::Bytes;
 use file_disk::Disk;
 use lint_excerpts::{excerpt_of, json_of};
@@ -160,19 +162,21 @@ fn page_of<S: Shower>(
 
 /// Returns what is found in a source and its templates, as it is shown, and whether an error is
 /// among it. If it counts, it says how many findings are not shown.
-fn shown_page<D: Disk, S: Shower>(
+fn shown_page<D: Disk, S: Shower, W: Warner>(
     alloc: Global,
     disk: &D,
     shower: &S,
+    warner: &W,
     counts: bool,
     linted: &Linted,
 ) -> Result<(Vec<u8>, bool), AllocError>
     ensures error { IfOk result (λ r.
         HasError (D.known disk.now) linted.now.directory linted.now.text r.1) }
     ensures page { IfOk result (λ r.
-        specs.IsPageOf (S.shows shower.now) (D.known disk.now) linted.now r.0.items) }
+        specs.IsPageOf (S.shows shower.now) (W.finds warner.now) (D.known disk.now) linted.now
+        r.0.items) }
 {
-    let found = found_in(alloc, disk, linted)?;
+    let found = found_in(alloc, disk, warner, linted)?;
     let findings = found.findings.as_slice();
     let page = page_of(alloc, shower, counts, linted, &found.sheets, findings)?;
     Ok((page, found.has_error))
@@ -190,5 +194,5 @@ pub fn linted_page<D: Disk>(
     ensures { IfOk result (λ r.
         HasError (D.known disk.now) linted.now.directory linted.now.text r.1) }
 {
-    shown_page(alloc, disk, &form, !form.is_json, linted)
+    shown_page(alloc, disk, &form, &Linter, !form.is_json, linted)
 }

@@ -1,0 +1,110 @@
+//! The warnings of `lint_warnings` and `lint_templates`.
+
+use crate::listing::{Lister, listed_names};
+use crate::sheets::Sheets;
+use crate::warnings::{Part, Warner};
+use ac_tree::Source;
+use deftable::SubstList;
+use lint_errors::Reading;
+use lint_findings::Finding;
+use lint_templates::{
+    Given, add_listed, warn_of_file, warn_of_header, warn_of_outputs, warn_of_unlisted,
+};
+use lint_warnings::{warn_of_calls, warn_of_compiler, warn_of_source};
+use std::alloc::{AllocError, Global};
+
+/// What the templates of headers list: what `lint_templates` finds in them.
+struct HeaderLister;
+
+impl Lister for HeaderLister {
+    fn list(&self, names: &mut SubstList, text: &[u8]) -> Result<(), AllocError> {
+        add_listed(names, text)
+    }
+}
+
+/// Finds what `lint_warnings` finds in a source, and `lint_templates` in its templates.
+pub(crate) struct Linter;
+
+impl Warner for Linter {
+    fn warn(
+        &self,
+        alloc: Global,
+        text: &[u8],
+        reading: &Reading,
+        sheets: &Sheets,
+        given: &Option<Given>,
+        part: Part,
+        out: &mut Vec<Finding>,
+    ) -> Result<(), AllocError> {
+        if matches!(part, Part::Calls) {
+            let calls = reading.calls.as_slice();
+            return warn_of_calls(alloc, &reading.index, text, calls, out);
+        }
+        match &reading.source {
+            Ok(source) => warn_of_part(alloc, text, reading, source, sheets, given, part, out),
+            Err(_) => Ok(()),
+        }
+    }
+}
+
+/// Appends the warnings about a part of a source that is read, or of its templates.
+fn warn_of_part(
+    alloc: Global,
+    text: &[u8],
+    reading: &Reading,
+    source: &Source,
+    sheets: &Sheets,
+    given: &Option<Given>,
+    part: Part,
+    out: &mut Vec<Finding>,
+) -> Result<(), AllocError> {
+    let calls = reading.calls.as_slice();
+    match part {
+        Part::Calls => Ok(()),
+        Part::Statements => warn_of_source(alloc, text, calls, source, out),
+        Part::Compiler => warn_of_compiler(alloc, text, calls, out),
+        Part::Outputs => warn_of_outputs(alloc, text, source, out),
+        Part::Template(number) => match given {
+            Some(given) => warn_of_template(alloc, given, sheets, number, out),
+            None => Ok(()),
+        },
+        Part::Unlisted => match given {
+            Some(given) => warn_of_definitions(alloc, given, text, sheets, out),
+            None => Ok(()),
+        },
+    }
+}
+
+/// Appends the warnings about the template of this number.
+fn warn_of_template(
+    alloc: Global,
+    given: &Given,
+    sheets: &Sheets,
+    number: usize,
+    out: &mut Vec<Finding>,
+) -> Result<(), AllocError> {
+    let Some(sheet) = sheets.get(number) else {
+        return Ok(());
+    };
+    let text = sheet.text.as_slice();
+    if number <= sheets.files() {
+        return warn_of_file(alloc, given, number, text, out);
+    }
+    warn_of_header(alloc, given, number, text, out)
+}
+
+/// Appends the warnings about definitions that no template of a header has, if there is such a
+/// template.
+fn warn_of_definitions(
+    alloc: Global,
+    given: &Given,
+    text: &[u8],
+    sheets: &Sheets,
+    out: &mut Vec<Finding>,
+) -> Result<(), AllocError> {
+    if sheets.count() == sheets.files() {
+        return Ok(());
+    }
+    let listed = listed_names(alloc, &HeaderLister, sheets)?;
+    warn_of_unlisted(alloc, given, text, &listed, out)
+}
