@@ -141,7 +141,7 @@ fn ends_name(text: &[u8], at: usize) -> bool
 }
 
 /// Returns whether the bytes of a name are at an offset.
-pub(crate) fn has_name(text: &[u8], at: usize, name: &[u8]) -> bool
+pub fn has_name(text: &[u8], at: usize, name: &[u8]) -> bool
     requires { at ≤ length text.now }
     ensures yes { IsTrue result → slice_range text.now at (at + length name.now) ≡ name.now }
     ensures fits { IsTrue result → at + length name.now ≤ length text.now }
@@ -177,7 +177,7 @@ pub fn is_letter(byte: u8) -> bool
 }
 
 /// Returns whether no name goes on at an offset.
-pub(crate) fn ends_word(text: &[u8], at: usize) -> bool
+pub fn ends_word(text: &[u8], at: usize) -> bool
     requires { at ≤ length text.now }
     ensures yes { IsTrue result → specs.EndsWord text.now at }
     ensures no { result ≡ false → specs.EndsWord text.now at → ⊥ }

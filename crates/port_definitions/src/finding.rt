@@ -266,7 +266,7 @@ fn plain_title<'a>(text: &'a [u8], d: &CallAt) -> Option<&'a [u8]> {
 /// Appends a definition, if it may be written out.
 fn push_definition(
     alloc: Global,
-    found: &Found<'_>,
+    search: &DefinitionSearch<'_>,
     text: &[u8],
     d: &CallAt,
     index: usize,
@@ -275,19 +275,19 @@ fn push_definition(
     let Some(name) = plain_title(text, d) else {
         return Ok(());
     };
-    let Some(body) = plain_body(text, d, found.defined) else {
+    let Some(body) = plain_body(text, d, search.defined) else {
         return Ok(());
     };
-    if !is_own(alloc, found.index, name)? {
+    if !is_own(alloc, search.index, name)? {
         return Ok(());
     }
     let start = if needs_compiler(body) {
-        found.after_compiler
+        search.after_compiler
     } else {
         0
     };
     let len = out.uses.len();
-    if push_uses(text, found.tops, d, index, name, start, &mut out.uses)? {
+    if push_uses(text, search.tops, d, index, name, start, &mut out.uses)? {
         out.indices.push(index)?;
     } else {
         out.uses.truncate(len);
@@ -297,7 +297,7 @@ fn push_definition(
 
 /// What is known of a text before its definitions are looked at.
 #[derive(Clone, Copy)]
-struct Found<'a> {
+struct DefinitionSearch<'a> {
     index: &'a Index,
     /// The names that the source defines as macros.
     defined: &'a BTreeSet<Vec<u8>>,
@@ -310,7 +310,7 @@ struct Found<'a> {
 /// Appends the definitions that may be written out.
 fn push_definitions(
     alloc: Global,
-    found: &Found<'_>,
+    search: &DefinitionSearch<'_>,
     text: &[u8],
     calls: &[CallAt],
     out: &mut Written,
@@ -319,11 +319,11 @@ fn push_definitions(
     for index in 0..calls.len() {
         let d = &calls[index];
         let is_defining = part(text, d.start, d.name_end) == b"AC_DEFUN".as_slice();
-        if !is_defining || found.tops.get(d.start) != Some(&true) || MOST <= tried {
+        if !is_defining || search.tops.get(d.start) != Some(&true) || MOST <= tried {
             continue;
         }
         tried = tried.saturating_add(1);
-        push_definition(alloc, found, text, d, index, out)?;
+        push_definition(alloc, search, text, d, index, out)?;
     }
     Ok(())
 }
@@ -346,13 +346,13 @@ pub fn written_in(
         return Ok(out);
     }
     let tops = tops_in(alloc, text, calls)?;
-    let found = Found {
+    let search = DefinitionSearch {
         index,
         defined,
         tops: tops.as_slice(),
         after_compiler: after_compiler.unwrap_or(text.len()),
     };
-    push_definitions(alloc, &found, text, calls, &mut out)?;
+    push_definitions(alloc, &search, text, calls, &mut out)?;
     out.uses.sort_by_key(|spot| spot.at)?;
     Ok(out)
 }

@@ -25,7 +25,9 @@ mod reading;
 mod reserved;
 mod words;
 
-pub use definition::{argument, body_of, inner, is_letter, is_name_at, is_of_name, is_used};
+pub use definition::{
+    argument, body_of, ends_word, has_name, inner, is_letter, is_name_at, is_of_name, is_used,
+};
 pub use finding::{UseSpot, Written, written_in};
 pub use lines::{is_dropped, last_line, space_len};
 pub use plain::{PlainWord, plain_word_in};

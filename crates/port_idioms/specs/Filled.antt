@@ -11,16 +11,16 @@ use Rattle.lint_macros.specs.declared.place.Form.{Form}
 use Rattle.lint_macros.specs.declared.place.Form.TheVariants.{AsItIs, Whole, OneWord, WholeWord, ShellName, Symbol, Front, Rest}
 use Rattle.lint_macros.specs.declared.place.HoleSource.{HoleSource}
 use Rattle.lint_macros.specs.declared.place.HoleSource.TheVariants.{Argument, All}
-use Rattle.port_idioms.specs.declared.filling.Place.{Place as Cut}
+use Rattle.port_idioms.specs.declared.filling.ArgumentPlace.{ArgumentPlace as Cut}
 
 -- A place by the index of its argument, counted from 0, its form, and the text after it. (own)
-pub record Place : Type 0 where
+pub record ArgumentPlace : Type 0 where
   pub index : ℕ
   pub form : Form
   pub rest : List ℕ
 
 -- The place with its text. (own)
-abbrev pub seen : Cut → Place
+abbrev pub seen : Cut → ArgumentPlace
 seen p = record { index = p.index; form = p.form; rest = p.rest.now }
 
 -- The index of the argument that is put there. No place takes all arguments. (own)
@@ -29,17 +29,17 @@ index_of (Argument index) = Some index
 index_of All = None
 
 -- The place of this index and form before a text. (own)
-abbrev pub before : List ℕ → Form → Option ℕ → Option Place
+abbrev pub before : List ℕ → Form → Option ℕ → Option ArgumentPlace
 before rest form index = option_map (λ i. record { index = i; form = form; rest = rest }) index
 
 -- The place, if an argument is put there. (own)
-abbrev pub taken : Option places.Hole → Option Place
+abbrev pub taken : Option places.Hole → Option ArgumentPlace
 taken (Some p) = before p.rest p.form (index_of p.source)
 taken None = None
 
 -- The place that a text after a `$` begins with. (own)
-abbrev pub place_of : List ℕ → Option Place
-place_of text = taken (places.hole_of text)
+abbrev pub argument_place : List ℕ → Option ArgumentPlace
+argument_place text = taken (places.hole_of text)
 
 -- An argument without the blanks around it and the pair of brackets around that; nothing for one that isn't given.
 -- (own)
@@ -106,17 +106,17 @@ formed Front text = front_of (around 46 text)
 formed Rest text = rest_of (around 46 text)
 
 -- What is put in a place of a call with these arguments: the argument in the form, and perhaps the blanks after it. (own)
-abbrev pub value : Place → List (List ℕ) → List ℕ
+abbrev pub value : ArgumentPlace → List (List ℕ) → List ℕ
 value p args = formed p.form (text_of (slice_get args p.index)) ++ ending_for p.form (slice_get args p.index)
 
 -- What a `$` and the text after it become: if that text begins with a place, the place's argument and the rest;
 -- otherwise they stay. (own)
-abbrev pub filled_or : Option Place → List (List ℕ) → List ℕ → List ℕ
+abbrev pub filled_or : Option ArgumentPlace → List (List ℕ) → List ℕ → List ℕ
 filled_or (Some p) args text = value p args ++ p.rest
 filled_or None args text = 36 ∷ text
 
 abbrev pub filled_sign : List (List ℕ) → List ℕ → List ℕ
-filled_sign args text = filled_or (place_of text) args text
+filled_sign args text = filled_or (argument_place text) args text
 
 -- The texts around each `$`, joined, with each place filled. (own)
 abbrev pub joined : List (List ℕ) → List (List ℕ) → List ℕ

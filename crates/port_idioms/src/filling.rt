@@ -133,7 +133,7 @@ fn is_word(text: &[u8]) -> bool {
 
 /// A place of an idiom: the index of the argument, its form, and the text after the place.
 #[derive(Clone, Copy)]
-struct Place<'a> {
+struct ArgumentPlace<'a> {
     index: usize,
     form: Form,
     rest: &'a [u8],
@@ -150,12 +150,12 @@ fn index_of(source: HoleSource) -> Option<usize>
 }
 
 /// Returns the place that a text after a `$` begins with.
-fn place_of(text: &[u8]) -> Option<Place<'_>>
-    ensures { option_map specs.seen result ≡ specs.place_of text.now }
+fn argument_place(text: &[u8]) -> Option<ArgumentPlace<'_>>
+    ensures { option_map specs.seen result ≡ specs.argument_place text.now }
 {
     let place = lint_macros::hole_of(text)?;
     let index = index_of(place.source)?;
-    Some(Place {
+    Some(ArgumentPlace {
         index,
         form: place.form,
         rest: place.rest,
@@ -223,7 +223,7 @@ fn takes_blanks(form: Form) -> bool
 }
 
 /// Returns the blanks that are put in a place after its argument.
-fn ending_at<'a>(args: &[&'a [u8]], place: &Place<'_>) -> &'a [u8]
+fn ending_at<'a>(args: &[&'a [u8]], place: &ArgumentPlace<'_>) -> &'a [u8]
     ensures { result.now
         ≡ specs.ending_for place.now.form
         (slice_get (map (λ a. a.now) args.now) place.now.index) }
@@ -363,7 +363,7 @@ fn put_ended(
 fn put_value(
     alloc: Global,
     out: &mut Vec<u8>,
-    place: &Place<'_>,
+    place: &ArgumentPlace<'_>,
     args: &[&[u8]],
     are_text: bool,
 ) -> Result<bool, AllocError>
@@ -386,7 +386,7 @@ fn put_value(
 fn put_place(
     alloc: Global,
     out: &mut Vec<u8>,
-    place: &Place<'_>,
+    place: &ArgumentPlace<'_>,
     args: &[&[u8]],
     are_text: bool,
 ) -> Result<bool, AllocError>
@@ -418,7 +418,7 @@ fn put_sign(
         → out.new.items
         ≡ out.old.items ++ specs.filled_sign (map (λ a. a.now) args.now) text.now) }
 {
-    match place_of(text) {
+    match argument_place(text) {
         Some(place) => put_place(alloc, out, &place, args, are_text),
         None => {
             out.push(b'$')?;
