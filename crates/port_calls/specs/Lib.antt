@@ -2,5 +2,7 @@ pub mod Chains
 pub mod Compiler
 pub mod Exchanged
 pub mod Making
+pub mod Pathed
 pub mod Put
 pub mod Rewritten
+pub mod Stated

@@ -11,6 +11,7 @@ use Rattle.lint_macros.specs.declared.text.TheConstants.{TABLE}
 use Rattle.port_idioms.specs.Filled.{text_of}
 use Rattle.port_idioms.specs.Rows.{put_by, Differs}
 use Rattle.port_definitions.specs.Defined.{is_of_name}
+use Rattle.port_calls.specs.Pathed.{IsPathed}
 use Rattle.port_calls.specs.Put.{arg_text, count_of, difference, below, is_space_or_return}
 
 -- The call is AC_INIT with at most one argument, so that it names no version.
@@ -159,3 +160,4 @@ pub record IsSought (text : List ℕ) (c : MacroCall) (put : List ℕ) : Type 0 
 pub data IsMade (text : List ℕ) (c : MacroCall) (put : List ℕ) : Type 0 where
   titled : LacksVersion text c → IsTitled text c put → IsMade text c put
   sought : slice_range text c.start c.name_end ≡ codes "AC_EGREP_CPP" → IsSought text c put → IsMade text c put
+  pathed : IsPathed text c put → IsMade text c put

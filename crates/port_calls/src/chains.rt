@@ -202,7 +202,7 @@ fn are_programs(words: &[&[u8]]) -> bool
 }
 
 /// Returns whether the byte may be in the value.
-fn is_value_byte(byte: u8) -> bool
+pub(crate) fn is_value_byte(byte: u8) -> bool
     ensures { result ≡ specs.is_value_byte byte }
 {
     is_program_byte(byte) || byte == b'/' || byte == b':'

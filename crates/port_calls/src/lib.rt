@@ -8,8 +8,10 @@
 //! shell gets brackets, and so does the name of a variable that is spelled as a macro. A macro
 //! without parameters that the source defines is written out where it is called. If all
 //! idioms are wanted, GCC is set after AC_PROG_CC, messages after AC_OUTPUT come before it, AC_INIT
-//! gets the name and the version of AM_INIT_AUTOMAKE, and AC_EGREP_CPP of a word in a condition
-//! becomes AC_PREPROC_IFELSE. All else is copied to the byte.
+//! gets the name and the version of AM_INIT_AUTOMAKE, AC_EGREP_CPP of a word in a condition becomes
+//! AC_PREPROC_IFELSE, and PATH is set around a call that looks for a program along a path. All else
+//! is copied to the byte. [`with_package`] writes a name and a version that are given from outside
+//! into AC_INIT.
 //!
 //! ```text
 //! AC_HAVE_FUNCS(getcwd)        // becomes AC_CHECK_FUNCS([getcwd])
@@ -22,10 +24,10 @@
 //! Read `specs/Put` and `specs/Making` (what is put), and `specs/Rewritten` (what is copied).
 //! `port_idioms` says which idioms are exact. In `src`, read `spots`, `around` and `bare` (where a
 //! call is, and what is before and after it), `rows` and `types` (its name in the table), `changes`,
-//! `readers`, `keeping`, `noted` and `noting` (what a call becomes), `making`, `package` and
-//! `seeking` (what it becomes by another call or by a program), `passing` (one pass over the
+//! `readers`, `keeping`, `noted` and `noting` (what a call becomes), `making`, `package`, `seeking`
+//! and `pathed` (what it becomes by another call, by a program or by a path), `passing` (one pass over the
 //! calls) with `joints`, `definitions`, `lines`, `brackets`, `names`, `gnu` and
-//! `output`, and then `passes`. The time of a pass is in
+//! `output`, and then `passes`. `stated` is apart from these. The time of a pass is in
 //! proportion to the length of the text. A call fails only if memory runs out. "own" marks a rule
 //! that no manual gives.
 #![tactic(auto)]
@@ -51,12 +53,15 @@ mod output;
 mod package;
 mod passes;
 mod passing;
+mod pathed;
 mod plain;
 mod readers;
 mod rows;
 mod seeking;
 mod spots;
+mod stated;
 mod types;
 mod writing;
 
 pub use passes::replaced;
+pub use stated::{Package, with_package};

@@ -30,7 +30,7 @@ pub(crate) fn difference(alloc: Global, name: &[u8], said: &[u8]) -> Result<Vec<
 }
 
 /// Appends a newline, the indent and a text.
-fn put_text(out: &mut Vec<u8>, indent: &[u8], text: &[u8]) -> Result<(), AllocError>
+pub(crate) fn put_text(out: &mut Vec<u8>, indent: &[u8], text: &[u8]) -> Result<(), AllocError>
     ensures { OnOk result (out.new.items ≡ out.old.items ++ (10 ∷ indent.now ++ text.now)) }
 {
     out.push(b'\n')?;

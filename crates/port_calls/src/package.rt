@@ -72,13 +72,13 @@ fn is_automake(text: &[u8], call: &CallAt) -> bool
 
 /// The arguments of a call of AM_INIT_AUTOMAKE that are the name and the version of the package.
 #[derive(Clone, Copy)]
-struct Title {
-    name: Extent,
-    version: Extent,
+pub(crate) struct Title {
+    pub name: Extent,
+    pub version: Extent,
 }
 
 /// Returns the first two arguments of a call.
-fn first_two(call: &CallAt) -> Option<Title>
+pub(crate) fn first_two(call: &CallAt) -> Option<Title>
     ensures { IfSome result (λ t.
         (slice_get (macro_call_of call.now).args 0 ≡ Some t.name)
         × (slice_get (macro_call_of call.now).args 1 ≡ Some t.version)) }

@@ -19,9 +19,10 @@ use crate::making::lacks_version;
 use crate::names::{names_variable, pass_name};
 use crate::output::pass_output;
 use crate::package::pass_title;
+use crate::pathed::pass_path;
 use crate::plain::pass_plain;
 use crate::seeking::pass_search;
-use crate::spots::{Spot, Walk};
+use crate::spots::{CallWalk, Spot};
 use crate::types::names_default;
 use crate::writing::{Pass, write_change};
 use ac_calls::{CallAt, Extent, calls_of};
@@ -310,6 +311,7 @@ fn pass_call(
     pass_defined(idioms, known, text, first, call, pass)?;
     pass_title(alloc, idioms, known, text, calls, spot, call, pass)?;
     pass_search(alloc, idioms, known, text, spot, call, pass)?;
+    pass_path(alloc, idioms, known, text, spot, call, pass)?;
     pass_chain(alloc, idioms, known, text, spot, call, pass)?;
     pass_first_found(alloc, idioms, known, text, spot, call, pass)?;
     pass_cached(alloc, idioms, known, text, calls, first, spot, call, pass)?;
@@ -332,7 +334,7 @@ fn pass_calls(
     requires begun { specs.IsPass idioms text.now pass.old.at pass.old.out.items }
     ensures { OnOk result (specs.IsPass idioms text.now pass.new.at pass.new.out.items) }
 {
-    let mut walk = Walk::new();
+    let mut walk = CallWalk::new();
     for i in 0..calls.len() {
         let spot = walk.spot_of(text, &calls[i]);
         pass_call(alloc, idioms, known, text, calls, i, spot, &calls[i], pass)?;

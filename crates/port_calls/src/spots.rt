@@ -16,7 +16,7 @@ pub(crate) struct Spot {
 
 /// How far the calls of a text were gone over, in order of their offsets.
 #[derive(Clone, Copy)]
-pub(crate) struct Walk {
+pub(crate) struct CallWalk {
     /// The offset up to which the text was read.
     at: usize,
     /// The offset of the first byte of the line.
@@ -27,10 +27,10 @@ pub(crate) struct Walk {
     reach: usize,
 }
 
-impl Walk {
+impl CallWalk {
     /// Returns a walk that begins at the start of a text.
-    pub(crate) fn new() -> Walk {
-        Walk {
+    pub(crate) fn new() -> CallWalk {
+        CallWalk {
             at: 0,
             line: 0,
             is_first: true,

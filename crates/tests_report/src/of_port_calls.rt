@@ -1,7 +1,7 @@
-//! What a source defines, which is written out where it is called, AC_PATH_PROGS, and what is put after
-//! AC_PROG_CC.
+//! What a source defines, which is written out where it is called, calls that look for programs, what
+//! is put after AC_PROG_CC, and a name and a version for AC_INIT.
 
-use port_calls::replaced;
+use port_calls::{Package, replaced, with_package};
 use port_idioms::Idioms;
 use std::test::Fail;
 use test_rows::{Page, RowCall, try_rows};
@@ -33,6 +33,25 @@ struct AllCalls;
 impl RowCall for AllCalls {
     fn put(&self, page: &mut Page, given: &[u8]) {
         put_replaced(page, Idioms::All, given);
+    }
+}
+
+/// Writes what becomes of a text if the name and the version `pkg` and `3.1` are stated.
+struct Naming;
+
+impl RowCall for Naming {
+    fn put(&self, page: &mut Page, given: &[u8]) {
+        let naming = Package {
+            name: b"pkg",
+            version: b"3.1",
+        };
+        let made = with_package(page.alloc(), naming, given);
+        if let Some(titled) = page.given(made) {
+            match titled {
+                Some(text) => page.put(text.as_slice()),
+                None => page.put(b"the same"),
+            }
+        }
     }
 }
 
@@ -214,4 +233,59 @@ a=1 => the same
 #[test]
 fn compilers(rt: HostRuntime) -> Result<(), Fail> {
     try_rows(rt.alloc(), &AllCalls, COMPILERS)
+}
+
+/// A text with calls that look for programs along a path, and what becomes of it if all idioms are
+/// wanted.
+const PATHS: &[u8] = br##"
+AC_PATH_PROG([A], [b], [no], [$PATH:/sbin]) => dnl acrun: in place of AC_PATH_PROG: PATH is set to the path of the call while the program is looked for^Jacrun_PATH=$PATH^JPATH="$PATH:/sbin"^JAC_PATH_PROG([A], [b], [no])^JPATH=$acrun_PATH
+  AC_PATH_PROG(A, b,, /c:${D}/e) # f =>   dnl acrun: in place of AC_PATH_PROG: PATH is set to the path of the call while the program is looked for^J  acrun_PATH=$PATH^J  PATH="/c:${D}/e"^J  AC_PATH_PROG(A, b,)^J  PATH=$acrun_PATH # f
+AC_CHECK_PROGS([A], [b c], [:], [/d]) => dnl acrun: in place of AC_CHECK_PROGS: PATH is set to the path of the call while the program is looked for^Jacrun_PATH=$PATH^JPATH="/d"^JAC_CHECK_PROGS([A], [b c], [:])^JPATH=$acrun_PATH
+AC_PATH_PROGS([A], [b c], [], [/d]) => dnl acrun: in place of AC_PATH_PROGS: PATH is set to the path of the call while the program is looked for^Jacrun_PATH=$PATH^JPATH="/d"^JAC_PATH_PROG([A], [b])^JAS_IF([test -z "$A"], [AC_PATH_PROG([A], [c])])^JPATH=$acrun_PATH
+AS_IF([:], [AC_PATH_PROG([A], [b], [], [/d])]) => AS_IF([:], [dnl acrun: in place of AC_PATH_PROG: PATH is set to the path of the call while the program is looked for^Jacrun_PATH=$PATH^JPATH="/d"^JAC_PATH_PROG([A], [b], [])^JPATH=$acrun_PATH])
+// the path is not plain, or a comment can't be above the call
+AC_PATH_PROG([A], [b], [], [`c`]) => the same
+AC_PATH_PROG([A], [b], [], [/c d]) => the same
+AC_PATH_PROG([A], [b], [], []) => the same
+AC_PATH_PROG([A], [b], []) => the same
+AC_CHECK_PROG([A], [b], [c], [d], [/e]) => the same
+a=b && AC_PATH_PROG([A], [b], [], [/c]) => the same
+AS_IF([:], AC_PATH_PROG([A], [b], [], [/c])) => the same
+"##;
+
+#[test]
+fn paths(rt: HostRuntime) -> Result<(), Fail> {
+    try_rows(rt.alloc(), &AllCalls, PATHS)
+}
+
+/// A text with AC_INIT, and what becomes of it if a name and a version are stated.
+const NAMINGS: &[u8] = br##"
+AC_INIT([], []) => dnl acrun: in place of AC_INIT: the name and the version are those of --package^JAC_INIT([pkg], [3.1])
+AC_INIT([a], m4_esyscmd([b c]), [d], [e])^JAC_PROG_CC => dnl acrun: in place of AC_INIT: the name and the version are those of --package^JAC_INIT([pkg], [3.1], [d], [e])^JAC_PROG_CC
+  AC_INIT([a],^J  [esyscmd(b)],^J  [c]) # d =>   dnl acrun: in place of AC_INIT: the name and the version are those of --package^J  AC_INIT([pkg], [3.1],^J  [c]) # d
+AC_INIT([patsubst(a, b)], [1.2]) => dnl acrun: in place of AC_INIT: the name and the version are those of --package^JAC_INIT([pkg], [3.1])
+AC_INIT([a], [$b1]) => dnl acrun: in place of AC_INIT: the name and the version are those of --package^JAC_INIT([pkg], [3.1])
+AC_INIT([a], [`b 1`]) => dnl acrun: in place of AC_INIT: the name and the version are those of --package^JAC_INIT([pkg], [3.1])
+AC_INIT([a], [1][2]) => dnl acrun: in place of AC_INIT: the name and the version are those of --package^JAC_INIT([pkg], [3.1])
+AC_INIT([a], [A_VERSION]) => dnl acrun: in place of AC_INIT: the name and the version are those of --package^JAC_INIT([pkg], [3.1])
+m4_define([B], m4_esyscmd([c]))^JAC_INIT([a], [B.2]) => m4_define([B], m4_esyscmd([c]))^Jdnl acrun: in place of AC_INIT: the name and the version are those of --package^JAC_INIT([pkg], [3.1])
+define(B, 1)^JAC_INIT([B], [2]) => define(B, 1)^Jdnl acrun: in place of AC_INIT: the name and the version are those of --package^JAC_INIT([pkg], [3.1])
+AC_DEFUN([B], [2])^JAC_INIT([a], [1.B]) => AC_DEFUN([B], [2])^Jdnl acrun: in place of AC_INIT: the name and the version are those of --package^JAC_INIT([pkg], [3.1])
+// it has a name and a version, or none at all
+AC_INIT([GNU (a)], [1.2-b]) => the same
+AC_INIT([a b], [v1.2+c~d]) => the same
+AC_INIT([pkg], [3.1]) => the same
+AC_DEFUN([a_CHECK], [b])^JAC_INIT([a], [1]) => the same
+AC_INIT([a]) => the same
+AC_INIT => the same
+AC_PROG_CC => the same
+// a comment can't be above it, or a word of what is stated is a macro
+a=1 && AC_INIT([], []) => the same
+AS_IF([:], [AC_INIT([], [])]) => the same
+m4_define([pkg], [a])^JAC_INIT([], []) => the same
+"##;
+
+#[test]
+fn namings(rt: HostRuntime) -> Result<(), Fail> {
+    try_rows(rt.alloc(), &Naming, NAMINGS)
 }
