@@ -1,7 +1,7 @@
 #!/usr/bin/env python3
 """Runs `acrun port` on sources, and reports each whose output is not as it should be.
-  try_port.py PROGRAM [-v] [-i] FILE..    PROGRAM is a built acrun, and FILE a configure.ac; -v prints a line for each source, and
-                                          -i gives `port` the switch `--idioms`
+  try_port.py PROGRAM [-v] [-i | -p] FILE..    PROGRAM is a built acrun, and FILE a configure.ac; -v prints a line for each source,
+                                               -i gives `port` the switch `--idioms`, and -p also a name and a version
 Of each output:
 - if the exit status is 0, `acrun lint` finds no error in it; if it is 1, a line of it begins with `dnl acrun: `, and not with
   `dnl acrun: in place of `, which says in what an idiom differs;
@@ -22,6 +22,8 @@ import tempfile
 FRONT = b"dnl acrun: "
 DIFFERS = FRONT + b"in place of "
 SWITCH = []
+# The switches with which AC_INIT gets a name and a version.
+NAMING = ["--idioms", "--package=pkg,3.1"]
 FRONT_OF_TRACE = "acrun-trace "
 TRACES = ["AC_DEFINE_TRACE_LITERAL", "AC_SUBST", "AC_CONFIG_FILES", "AC_CONFIG_HEADERS"]
 # What Autoconf looks for by itself, with the default includes of a macro; acrun has none of these.
@@ -104,7 +106,7 @@ def wrong(program, text, made):
         yield f"status {made.returncode} and {len(found)} errors"
     if made.returncode == 1 and not any(it.startswith(FRONT) and not it.startswith(DIFFERS) for it in lines):
         yield "status 1 and no comment about what is left"
-    if made.returncode == 0 and not errors(program, text) and out != text:
+    if made.returncode == 0 and not errors(program, text) and out != text and SWITCH != NAMING:
         yield "a source without errors does not stay as it is"
     for error in found:
         if not is_said(error, seen(b"\n".join(lines[:error["line"]]))):
@@ -119,8 +121,10 @@ def main(words):
     is_told = "-v" in words
     if "-i" in words:
         SWITCH.append("--idioms")
+    if "-p" in words:
+        SWITCH.extend(NAMING)
     failed = 0
-    files = [pathlib.Path(word) for word in words[1:] if word not in ("-v", "-i")]
+    files = [pathlib.Path(word) for word in words[1:] if word not in ("-v", "-i", "-p")]
     for file in files:
         text = file.read_bytes()
         made = run([program, "port", *SWITCH, "-"], text)

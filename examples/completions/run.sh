@@ -88,7 +88,8 @@ row Makefile config.h -- acrun status ''
 row --recheck -- acrun status --re
 row --json -- acrun lint --
 row configure.ac -- acrun lint conf
-row --idioms -- acrun port --
+row --idioms --package= -- acrun port --
+row --package= -- acrun port --p
 row configure.ac -- acrun port conf
 row sys/stat.h -- acrun why sys
 row why -- acrun help w

@@ -24,7 +24,7 @@ for words in help --help -h --version -V; do expect 0 "acrun $version" "$words";
 expect 0 'Usage: acrun [-jN] configure [ARG]..' help configure
 expect 0 'Usage: acrun status [NAME]..' help status
 expect 0 'Usage: acrun lint [--json] [FILE]..' help lint
-expect 0 'Usage: acrun port [--idioms] [FILE]' help port
+expect 0 'Usage: acrun port [--idioms [--package=NAME,VERSION]] [FILE]' help port
 expect 0 'Usage: acrun why [WORD [LOG]]' help why
 expect 0 'Usage: acrun standin [WORD]..' help standin
 expect 0 'Usage: acrun help [COMMAND]' help help
@@ -43,6 +43,7 @@ has() {
 }
 has port '`if`, and a statement after a test and `&&` or `||`, become AS_IF, and `case` becomes AS_CASE'
 has port '--idioms'
+has port '--package=NAME,VERSION'
 for option in --srcdir= --cache-file= -C --prefix= --bindir= --enable- --disable- --with- --without- '-n, --no-create' '-q, --quiet, --silent' \
     '-h, --help' '-V, --version' VARIABLE=VALUE; do
     has configure "$option"

@@ -1,6 +1,7 @@
 #!/bin/sh
 # Rewrites sources by `acrun port`, and compares what is printed with expected.txt; tools/try_port.py looks at each too. A line of
-# sources.txt is a name and a text, with escapes as printf has them. Those of idioms.txt are rewritten by `acrun port --idioms`.
+# sources.txt is a name and a text, with escapes as printf has them. Those of idioms.txt are rewritten by `acrun port --idioms`, and
+# those of namings.txt by that with a name and a version.
 #   run.sh PROGRAM            compares
 #   run.sh PROGRAM --write    writes expected.txt
 set -e
@@ -9,7 +10,7 @@ here=$(realpath "$(dirname "$0")")
 work=$(mktemp -d) || exit 2
 trap 'rm -rf "$work"' EXIT
 cd "$work"
-for rows in sources idioms; do
+for rows in sources idioms namings; do
     while IFS= read -r row; do
         printf '%b' "${row#* }" > "${row%% *}.ac"
         printf '%s.ac\n' "${row%% *}" >> $rows
@@ -24,6 +25,10 @@ done
         printf '== %s --idioms\n' "$name"
         "$acrun" port --idioms "$name" 2>&1 || echo "== status $?"
     done
+    for name in $(cat namings); do
+        printf '== %s --package\n' "$name"
+        "$acrun" port --idioms --package=pkg,3.1 "$name" 2>&1 || echo "== status $?"
+    done
     cp calls-old-names.ac configure.ac
     "$acrun" port > plain
     "$acrun" port . | cmp - plain
@@ -35,7 +40,13 @@ done
     for words in '--idioms .' '. --idioms'; do
         "$acrun" port $words | cmp - all
     done
-    for words in '--idioms --idioms' '--idioms a b' '--json --idioms' '--idioms nothing'; do
+    "$acrun" port --idioms --package=a,1 > named
+    for words in '--package=a,1 --idioms' '--package=a,1 --idioms .' '--idioms --package=a,1 .' '. --idioms --package=a,1'; do
+        "$acrun" port $words | cmp - named
+    done
+    for words in '--idioms --idioms' '--idioms a b' '--json --idioms' '--idioms nothing' '--package=a,1' '--package=a,1 .' \
+        '--idioms --package=a' '--idioms --package=a,' '--idioms --package=,1' '--idioms --package=a,1,2' '--idioms --package=[a],1' \
+        '--idioms --package="a",1' '--idioms --package=a,$b' '--idioms --package=a,1 --package=a,1' '--idioms --package=a,1 . .'; do
         echo "== $words"
         "$acrun" port $words 2>&1 || echo "== status $?"
     done
@@ -46,5 +57,6 @@ fi
 diff "$here/expected.txt" printed
 python3 "$here/../../tools/try_port.py" "$acrun" $(cat sources) > tried || { cat tried; exit 1; }
 python3 "$here/../../tools/try_port.py" "$acrun" -i $(cat sources idioms) > tried || { cat tried; exit 1; }
+python3 "$here/../../tools/try_port.py" "$acrun" -p $(cat sources idioms namings) > tried || { cat tried; exit 1; }
 sh "$here/files.sh" "$acrun"
-echo "port: $(cat sources idioms | wc -l) sources, as expected"
+echo "port: $(cat sources idioms namings | wc -l) sources, as expected"

@@ -43,8 +43,9 @@ _acrun() {
         compopt -o filenames
         ;;
     port)
-        mapfile -t COMPREPLY < <(compgen -W --idioms -- "$word"; compgen -f -- "$word")
+        mapfile -t COMPREPLY < <(compgen -W '--idioms --package=' -- "$word"; compgen -f -- "$word")
         compopt -o filenames
+        [[ ${COMPREPLY[0]} != *= ]] || compopt -o nospace
         ;;
     why)
         if ((COMP_CWORD == at + 1)); then

@@ -57,6 +57,7 @@ complete -c acrun -n '__acrun_uses status' -a "(test -f config.status; and sed -
 complete -c acrun -n '__acrun_uses lint' -l json -d 'Print one object a line'
 complete -c acrun -n '__acrun_uses lint' -F
 complete -c acrun -n '__acrun_uses port' -l idioms -d 'Write idioms too that differ'
+complete -c acrun -n '__acrun_uses port' -l package -x -d 'NAME,VERSION for AC_INIT'
 complete -c acrun -n '__acrun_uses port' -F
 complete -c acrun -n '__acrun_uses why' -F -a "(test -f config.log; and sed -n 's/.*checking for \([^ ]*\)\.\.\..*/\1/p' config.log)"
 complete -c acrun -n '__acrun_uses help' -a 'configure status lint port why standin help'

@@ -84,7 +84,7 @@ wrong.
 ";
 
 const PORT: &str = "\
-Usage: acrun port [--idioms] [FILE]
+Usage: acrun port [--idioms [--package=NAME,VERSION]] [FILE]
 
 Reads FILE, a configure.ac or a directory of one (by default ./configure.ac; -
 is standard input), and prints it with each call of a macro that acrun does not
@@ -102,6 +102,10 @@ that something in the text that is printed means another thing to Autoconf.
              arguments in them, and AC_MSG_RESULT in place of `echo`, each
              below a line `dnl acrun: in place of MACRO: ..` that says in what;
              such a line is not counted as left to do
+  --package=NAME,VERSION
+             with --idioms: write this name and this version into AC_INIT, below
+             such a line, if it has none, or one that a command or a macro makes;
+             both have letters, digits, spaces and _ . - + ~ alone
 
 Exit status: 0 nothing is left to do; 1 there are such lines; 2 a file can't be
 read, its quotes have an error, or the words are wrong.

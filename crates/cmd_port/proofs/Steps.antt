@@ -1,8 +1,9 @@
 -- What one step of writing comments makes.
-use Rattle.std.proofs.Common.{◌≡◌, ℕ, ◌≤◌, List, ◌++◌, length, Result, Ok, Err, OnOk, slice_range, sym, subst, Option, Some, None, true, false, arith}
+use Rattle.std.proofs.Common.{◌≡◌, ◌⊎◌, inl, inr, ℕ, ◌≤◌, List, ◌++◌, length, Bool, Result, Ok, Err, OnOk, slice_range, sym, refl, subst, ◌∙◌, Option, Some, None, true, false, arith}
 use Rattle.std.specs.Prelude.{IfSome, IfOk, MatchOption}
-use Rattle.cmd_port.specs.Ported.{HasLeft, IsCommented, IsMoved, IsPorted, IsPrinted, IsTurn, is_line_start, comment}
+use Rattle.cmd_port.specs.Ported.{HasLeft, IsCommented, IsKept, IsKeptAs, IsMoved, IsPorted, IsPrinted, IsStep, IsTitled, is_line_start, comment}
 use Rattle.cmd_port.specs.Ported as specs
+use Rattle.cmd_port.specs.Asked.{Package}
 use Rattle.cmd_port.specs.declared.whole.Ported.{Ported}
 use Rattle.lint_errors.specs.Errors.{IsAccepted}
 use Rattle.port_idioms.specs.declared.idioms.Idioms.{Idioms}
@@ -26,17 +27,49 @@ pub words_put : (text : List ℕ) (at : ℕ) (out new words : List ℕ) → IsCo
 words_put text at out new words before is more = subst (IsCommented text at) (sym more) (specs.IsCommented.noted words before is)
 
 -- A source that acrun accepts becomes itself.
-pub same_ported : {E : Type 0} (idioms : Idioms) (r : Result (Option Ported) E) (text : List ℕ) → IsAccepted text
-    → IfOk r (λ o. MatchOption o ⊥ (λ p. (p.text ≡ text) × (p.has_comments ≡ false))) → IfOk r (λ o. IfSome o (λ p. IsPorted idioms text p.has_comments p.text))
-same_ported idioms (Ok (Some p)) text accepted (same, none) =
-    record { mid = text; rewritten = specs.IsMoved.same; printed = subst (λ b. IsPrinted text b p.text) (sym none) (same, accepted) }
-same_ported idioms (Ok None) text accepted m = tt
-same_ported idioms (Err e) text accepted m = tt
+pub unchanged_kept : {E : Type 0} (naming : Option Package) (r : Result (Option Ported) E) (text : List ℕ) → IsAccepted text
+    → IfOk r (λ o. MatchOption o ⊥ (λ p. (p.text ≡ text) × (p.has_comments ≡ false))) → IfOk r (λ o. MatchOption o ⊥ (λ p. IsKeptAs naming text p.has_comments p.text))
+unchanged_kept naming (Ok (Some p)) text accepted (same, none) =
+    record { mid = text; kept = inl refl; printed = subst (λ b. IsPrinted text b p.text) (sym none) (same, accepted) }
+unchanged_kept naming (Ok None) text accepted m = m
+unchanged_kept naming (Err e) text accepted m = tt
 
-pub turn_more : {V : Type 0} (idioms : Idioms) (items : V → List ℕ) (text mid now : List ℕ) (o : Option V) (next : V) → o ≡ Some next → now ≡ mid
-    → IfSome o (λ v. IsTurn idioms now (items v)) → IsMoved idioms text mid → IsMoved idioms text (items next)
-turn_more idioms items text mid now o next is same turn before =
-    specs.IsMoved.turned before (subst (λ m. IsTurn idioms m (items next)) same (subst (λ o. IfSome o (λ v. IsTurn idioms now (items v))) is turn))
+-- Or AC_INIT alone changes in it.
+pub retitled_kept : {E : Type 0} (naming : Option Package) (r : Result (Option Ported) E) (text mid : List ℕ) → IsTitled naming text mid
+    → IfOk r (λ o. MatchOption o ⊥ (λ p. IsPrinted mid p.has_comments p.text)) → IfOk r (λ o. MatchOption o ⊥ (λ p. IsKeptAs naming text p.has_comments p.text))
+retitled_kept naming (Ok (Some p)) text mid titled printed = record { mid = mid; kept = inr titled; printed = printed }
+retitled_kept naming (Ok None) text mid titled m = m
+retitled_kept naming (Err e) text mid titled m = tt
+
+kept_moved : (idioms : Idioms) (naming : Option Package) (text mid : List ℕ) → IsKept naming text mid → IsMoved idioms naming text mid
+kept_moved idioms naming text mid (inl same) = subst (IsMoved idioms naming text) (sym same) specs.IsMoved.same
+kept_moved idioms naming text mid (inr titled) = specs.IsMoved.stepped specs.IsMoved.same (specs.IsStep.titled titled)
+
+pub kept_ported : {E : Type 0} (idioms : Idioms) (naming : Option Package) (r : Result (Option Ported) E) (text : List ℕ)
+    → IfOk r (λ o. MatchOption o ⊥ (λ p. IsKeptAs naming text p.has_comments p.text)) → IfOk r (λ o. IfSome o (λ p. IsPorted idioms naming text p.has_comments p.text))
+kept_ported idioms naming (Ok (Some p)) text kept = record { mid = kept.mid; rewritten = kept_moved idioms naming text kept.mid kept.kept; printed = kept.printed }
+kept_ported idioms naming (Ok None) text kept = tt
+kept_ported idioms naming (Err e) text kept = tt
+
+-- If nothing is stated, it is printed as it is.
+same_kept : (naming : Option Package) (text mid : List ℕ) → naming ≡ None → IsKept naming text mid → mid ≡ text
+same_kept naming text mid none (inl same) = same
+same_kept naming text mid none (inr titled) = absurd (subst (λ n. IsTitled n text mid) none titled)
+
+same_printed : (text mid out : List ℕ) (has : Bool) → IsAccepted text → mid ≡ text → IsPrinted mid has out → (out ≡ text) × (has ≡ false)
+same_printed text mid out false accepted same (is, of) = (is ∙ same, refl)
+same_printed text mid out true accepted same (commented, refused, left) = absurd (refused (subst IsAccepted (sym same) accepted))
+
+pub kept_stays : {E : Type 0} (naming : Option Package) (r : Result (Option Ported) E) (text : List ℕ) → IsAccepted text → naming ≡ None
+    → IfOk r (λ o. MatchOption o ⊥ (λ p. IsKeptAs naming text p.has_comments p.text)) → IfOk r (λ o. MatchOption o ⊥ (λ p. (p.text ≡ text) × (p.has_comments ≡ false)))
+kept_stays naming (Ok (Some p)) text accepted none kept = same_printed text kept.mid p.text p.has_comments accepted (same_kept naming text kept.mid none kept.kept) kept.printed
+kept_stays naming (Ok None) text accepted none kept = kept
+kept_stays naming (Err e) text accepted none kept = tt
+
+pub step_more : {V : Type 0} (idioms : Idioms) (naming : Option Package) (items : V → List ℕ) (text mid now : List ℕ) (o : Option V) (next : V) → o ≡ Some next → now ≡ mid
+    → IfSome o (λ v. IsStep idioms naming now (items v)) → IsMoved idioms naming text mid → IsMoved idioms naming text (items next)
+step_more idioms naming items text mid now o next is same step before =
+    specs.IsMoved.stepped before (subst (λ m. IsStep idioms naming m (items next)) same (subst (λ o. IfSome o (λ v. IsStep idioms naming now (items v))) is step))
 
 -- A text with comments is printed.
 pub commented_printed : {E : Type 0} (r : Result Ported E) (slice text : List ℕ) → slice ≡ text → (IsAccepted text → ⊥) → IfOk r (λ p. IsCommented slice (length slice) p.text)

@@ -9,7 +9,7 @@ use Rattle.std.specs.Io.KnownBytes.{Appends}
 use Rattle.port_idioms.specs.declared.idioms.Idioms.{Idioms}
 use Rattle.cmd_port.specs.Ported.{IsPorted}
 use Rattle.port_idioms.specs.declared.idioms.Idioms.TheVariants.{Exact, All}
-use Rattle.cmd_port.specs.Asked.{Request, here, is_switch, named, request_of}
+use Rattle.cmd_port.specs.Asked.{Package, Request, after_one, after_two, by_two, here, is_package, is_switch, named, packaged, plain_of, request_of, stated_by, with_stated}
 use Rattle.cmd_port.specs.Printed.{IsPrinted, IsAnswer, status_of}
 
 pub put_lent : (slice text : List ℕ) (result : ℕ) (a b : Option (List ℕ)) → slice ≡ text → (result ≢ 2 → Appends a b slice) → result ≢ 2 → Appends a b text
@@ -18,16 +18,16 @@ put_lent slice text result a b lent put ne = subst (λ t. Appends a b t) lent (p
 pub status_lent : (status wanted result : ℕ) → status ≡ wanted → (result ≢ 2 → result ≡ status) → result ≢ 2 → result ≡ wanted
 status_lent status wanted result is same ne = same ne ∙ is
 
-pub answered : (idioms : Idioms) (text slice out : List ℕ) (has : Bool) (result : ℕ) (a b : Option (List ℕ)) → slice ≡ text → IsPorted idioms slice has out
+pub answered : (idioms : Idioms) (naming : Option Package) (text slice out : List ℕ) (has : Bool) (result : ℕ) (a b : Option (List ℕ)) → slice ≡ text → IsPorted idioms naming slice has out
     → (result ≢ 2 → result ≡ status_of has) → (result ≢ 2 → Appends a b out)
-    → result ≢ 2 → (o : List ℕ) × IsPrinted idioms text o result × Appends a b o
-answered idioms text slice out has result a b lent ported same put ne =
-    (out, record { has_comments = has; ported = subst (λ t. IsPorted idioms t has out) lent ported; status_is = same ne }, put ne)
+    → result ≢ 2 → (o : List ℕ) × IsPrinted idioms naming text o result × Appends a b o
+answered idioms naming text slice out has result a b lent ported same put ne =
+    (out, record { has_comments = has; ported = subst (λ t. IsPorted idioms naming t has out) lent ported; status_is = same ne }, put ne)
 
-pub read : (files : Option Known) (idioms : Idioms) (is_stream : Bool) (name text directory slice : List ℕ) (result : ℕ) (a b : Option (List ℕ)) → IsNamed files is_stream name text directory
-    → (result ≢ 2 → (o : List ℕ) × IsPrinted idioms text o result × Appends a b o)
-    → result ≢ 2 → (o : List ℕ) × ((t : List ℕ) × (d : List ℕ) × IsNamed files is_stream name t d × IsPrinted idioms t o result) × Appends a b o
-read files idioms is_stream name text directory slice result a b named gives ne = let g = gives ne in (g.0, (text, directory, named, g.1), g.2)
+pub read : (files : Option Known) (idioms : Idioms) (naming : Option Package) (is_stream : Bool) (name text directory slice : List ℕ) (result : ℕ) (a b : Option (List ℕ)) → IsNamed files is_stream name text directory
+    → (result ≢ 2 → (o : List ℕ) × IsPrinted idioms naming text o result × Appends a b o)
+    → result ≢ 2 → (o : List ℕ) × ((t : List ℕ) × (d : List ℕ) × IsNamed files is_stream name t d × IsPrinted idioms naming t o result) × Appends a b o
+read files idioms naming is_stream name text directory slice result a b named gives ne = let g = gives ne in (g.0, (text, directory, named, g.1), g.2)
 
 -- ---- the words
 
@@ -38,10 +38,10 @@ from_here idioms request is input =
     let no_input : is_input request.source ≡ false = ap (λ r. is_input r.source) (sym same) in
     true≢false (sym input ∙ no_input)
 
-from_named : (idioms : Idioms) (word : List ℕ) (request : Request) (b : Bool) → (if b then None else Some (record { idioms = idioms; source = word })) ≡ Some request → request.source ≡ word
+from_named : (idioms : Idioms) (word : List ℕ) (request : Request) (b : Bool) → (if b then None else Some (record { idioms = idioms; naming = None; source = word })) ≡ Some request → request.source ≡ word
 from_named idioms word request true is = absurd cc
 from_named idioms word request false is =
-    let given : Request = record { idioms = idioms; source = word } in
+    let given : Request = record { idioms = idioms; naming = None; source = word } in
     let same : given ≡ request = cc in
     ap (λ r. r.source) (sym same)
 
@@ -69,11 +69,76 @@ among_two : (first second source : List ℕ) → (source ≡ second) ⊎ (source
 among_two first second source (inr same) input = ap (λ b. b || list_any is_input (second ∷ [])) (ap is_input (sym same) ∙ input)
 among_two first second source (inl same) input = ap (λ b. is_input first || b) (among_one second source same input) ∙ or_true (is_input first)
 
+plain_among : (words : List (List ℕ)) (request : Request) → plain_of words ≡ Some request → is_input request.source ≡ true → list_any is_input words ≡ true
+plain_among [] request is input = absurd (from_here Exact request is input)
+plain_among (word ∷ []) request is input = among_one word request.source (from_one word request (is_switch word) is input) input
+plain_among (first ∷ second ∷ []) request is input = among_two first second request.source (from_two first second request (is_switch first) is) input
+plain_among (first ∷ second ∷ third ∷ more) request is input = absurd cc
+
+-- A name and a version leave the source as it was.
+from_packaged : (naming : Package) (asked request : Request) (idioms : Idioms) → packaged naming asked idioms ≡ Some request → request.source ≡ asked.source
+from_packaged naming asked request Exact is = absurd cc
+from_packaged naming asked request All is =
+    let given : Request = record { idioms = All; naming = Some naming; source = asked.source } in
+    let same : given ≡ request = cc in
+    ap (λ r. r.source) (sym same)
+
+stated_among : (naming : Option Package) (asked : Option Request) (request : Request) (words : List (List ℕ)) → with_stated naming asked ≡ Some request
+    → ((r : Request) → asked ≡ Some r → is_input r.source ≡ true → list_any is_input words ≡ true) → is_input request.source ≡ true → list_any is_input words ≡ true
+stated_among None asked request words is among input = absurd cc
+stated_among (Some naming) None request words is among input = absurd cc
+stated_among (Some naming) (Some asked) request words is among input =
+    among asked refl (ap is_input (sym (from_packaged naming asked request asked.idioms is)) ∙ input)
+
+or_more : (a b : Bool) → b ≡ true → (a || b) ≡ true
+or_more a b is = ap (λ b. a || b) is ∙ or_true a
+
+or_between : (a b c : Bool) → (a || c) ≡ true → (a || (b || c)) ≡ true
+or_between true b c is = refl
+or_between false b c is = or_more b c is
+
+or_after : (a b c : Bool) → (a || (b || false)) ≡ true → (a || (b || (c || false))) ≡ true
+or_after true b c is = refl
+or_after false true c is = refl
+or_after false false c is = absurd (true≢false (sym is))
+
+two_stated : (first second third : List ℕ) (request : Request) (b : Bool) → (if b then with_stated (stated_by third) (by_two first second) else None) ≡ Some request
+    → is_input request.source ≡ true → list_any is_input (first ∷ second ∷ third ∷ []) ≡ true
+two_stated first second third request true is input =
+    stated_among (stated_by third) (by_two first second) request (first ∷ second ∷ third ∷ []) is
+    (λ r some said. or_after (is_input first) (is_input second) (is_input third) (plain_among (first ∷ second ∷ []) r some said)) input
+two_stated first second third request false is input = absurd cc
+
+after_two_among : (first second : List ℕ) (more : List (List ℕ)) (request : Request) → after_two first second more ≡ Some request → is_input request.source ≡ true
+    → list_any is_input (first ∷ second ∷ more) ≡ true
+after_two_among first second [] request is input = plain_among (first ∷ second ∷ []) request is input
+after_two_among first second (third ∷ []) request is input = two_stated first second third request (is_package third) is input
+after_two_among first second (third ∷ fourth ∷ more) request is input = absurd cc
+
+one_stated : (first second : List ℕ) (more : List (List ℕ)) (request : Request) (b : Bool)
+    → (if b then with_stated (stated_by second) (plain_of (first ∷ more)) else after_two first second more) ≡ Some request
+    → is_input request.source ≡ true → list_any is_input (first ∷ second ∷ more) ≡ true
+one_stated first second more request true is input =
+    stated_among (stated_by second) (plain_of (first ∷ more)) request (first ∷ second ∷ more) is
+    (λ r some said. or_between (is_input first) (is_input second) (list_any is_input more) (plain_among (first ∷ more) r some said)) input
+one_stated first second more request false is input = after_two_among first second more request is input
+
+after_one_among : (first : List ℕ) (more : List (List ℕ)) (request : Request) → after_one first more ≡ Some request → is_input request.source ≡ true
+    → list_any is_input (first ∷ more) ≡ true
+after_one_among first [] request is input = plain_among (first ∷ []) request is input
+after_one_among first (second ∷ more) request is input = one_stated first second more request (is_package second) is input
+
+none_stated : (first : List ℕ) (more : List (List ℕ)) (request : Request) (b : Bool)
+    → (if b then with_stated (stated_by first) (plain_of more) else after_one first more) ≡ Some request
+    → is_input request.source ≡ true → list_any is_input (first ∷ more) ≡ true
+none_stated first more request true is input =
+    stated_among (stated_by first) (plain_of more) request (first ∷ more) is
+    (λ r some said. or_more (is_input first) (list_any is_input more) (plain_among more r some said)) input
+none_stated first more request false is input = after_one_among first more request is input
+
 pub named_among : (words : List (List ℕ)) (request : Request) → request_of words ≡ Some request → is_input request.source ≡ true → list_any is_input words ≡ true
 named_among [] request is input = absurd (from_here Exact request is input)
-named_among (word ∷ []) request is input = among_one word request.source (from_one word request (is_switch word) is input) input
-named_among (first ∷ second ∷ []) request is input = among_two first second request.source (from_two first second request (is_switch first) is) input
-named_among (first ∷ second ∷ third ∷ more) request is input = absurd cc
+named_among (first ∷ more) request is input = none_stated first more request (is_package first) is input
 
 pub stream_is : (reads : Bool) (source : List ℕ) (b : Bool) → is_input source ≡ b → (is_input source ≡ true → reads ≡ true) → (reads && is_input source) ≡ is_input source
 stream_is true source b is all = refl
@@ -82,7 +147,7 @@ stream_is false source true is all = absurd (true≢false (sym (all is)))
 
 pub by_words : (files : Option Known) (words : List (List ℕ)) (asked : Option Request) (request : Request) (reads : Bool) (result : ℕ) (a b : Option (List ℕ)) → asked ≡ request_of words → asked ≡ Some request
     → reads ≡ list_any is_input words
-    → (result ≢ 2 → (o : List ℕ) × ((t : List ℕ) × (d : List ℕ) × IsNamed files (reads && is_input request.source) request.source t d × IsPrinted request.idioms t o result) × Appends a b o)
+    → (result ≢ 2 → (o : List ℕ) × ((t : List ℕ) × (d : List ℕ) × IsNamed files (reads && is_input request.source) request.source t d × IsPrinted request.idioms request.naming t o result) × Appends a b o)
     → result ≢ 2 → (o : List ℕ) × IsAnswer files (request_of words) o result × Appends a b o
 by_words files words asked request reads result a b is some all gives ne =
     let g = gives ne in

@@ -1,13 +1,15 @@
 -- What a source becomes. The offsets are those of the text that is read. All of this is own.
-use Rattle.std.specs.Prelude.{◌≡◌, ℕ, ◌-◌, ◌≤◌, ◌==◌, nat_eq, ◌||◌, ◌&&◌, not, Bool, true, false, List, [], ◌∷◌, ◌++◌, length, slice_index, slice_range, codes}
+use Rattle.std.specs.Prelude.{◌≡◌, ◌⊎◌, ℕ, ◌-◌, ◌≤◌, ◌==◌, nat_eq, ◌||◌, ◌&&◌, not, Bool, true, false, List, [], ◌∷◌, ◌++◌, length, slice_index, slice_range, Option, Some, None, codes}
 use Rattle.std.specs.List.{flat_map, starts_with}
 use Rattle.lint_errors.specs.Errors.{IsAccepted}
 use Rattle.port_calls.specs.Rewritten.{IsRewritten}
+use Rattle.port_calls.specs.Stated.{IsStated}
 use Rattle.port_idioms.specs.declared.idioms.Idioms.{Idioms}
 use Rattle.port_idioms.specs.declared.idioms.Idioms.TheVariants.{Exact, All}
 use Rattle.port_shell.specs.Formed.{IsFormed}
 use Rattle.port_shell.specs.Told.{IsTold}
 use Rattle.text_cut.specs.Cuts.{parts}
+use Rattle.cmd_port.specs.Asked.{Package}
 
 -- ---- comments
 
@@ -65,13 +67,33 @@ pub record IsTurn (idioms : Idioms) (text out : List ℕ) : Type 0 where
   pub statements : IsFormed idioms mid formed
   pub messages : IsToldBy idioms formed out
 
--- The same as often as there is something to rewrite.
-pub data IsMoved (idioms : Idioms) : List ℕ → List ℕ → Type 0 where
-  same : {text : List ℕ} → IsMoved idioms text text
-  turned : {text mid out : List ℕ} → IsMoved idioms text mid → IsTurn idioms mid out → IsMoved idioms text out
+-- A name and a version are stated, and one call of AC_INIT gets them. All else stays.
+abbrev pub IsTitled : Option Package → List ℕ → List ℕ → Type 0
+IsTitled None text out = ⊥
+IsTitled (Some naming) text out = IsStated naming.name naming.version text out
+
+-- One step is a turn, or gives AC_INIT the name and the version.
+pub data IsStep (idioms : Idioms) (naming : Option Package) (text out : List ℕ) : Type 0 where
+  turned : IsTurn idioms text out → IsStep idioms naming text out
+  titled : IsTitled naming text out → IsStep idioms naming text out
+
+-- Steps are taken as often as there is something to change.
+pub data IsMoved (idioms : Idioms) (naming : Option Package) : List ℕ → List ℕ → Type 0 where
+  same : {text : List ℕ} → IsMoved idioms naming text text
+  stepped : {text mid out : List ℕ} → IsMoved idioms naming text mid → IsStep idioms naming mid out → IsMoved idioms naming text out
 
 -- The text becomes this one, with comments or without.
-pub record IsPorted (idioms : Idioms) (text : List ℕ) (has_comments : Bool) (out : List ℕ) : Type 0 where
+pub record IsPorted (idioms : Idioms) (naming : Option Package) (text : List ℕ) (has_comments : Bool) (out : List ℕ) : Type 0 where
   pub mid : List ℕ
-  pub rewritten : IsMoved idioms text mid
+  pub rewritten : IsMoved idioms naming text mid
+  pub printed : IsPrinted mid has_comments out
+
+-- A text that acrun accepts stays, but for one call of AC_INIT, which may get the name and the version that are stated.
+abbrev pub IsKept : Option Package → List ℕ → List ℕ → Type 0
+IsKept naming text mid = (mid ≡ text) ⊎ IsTitled naming text mid
+
+-- What is printed of it, with comments or without.
+pub record IsKeptAs (naming : Option Package) (text : List ℕ) (has_comments : Bool) (out : List ℕ) : Type 0 where
+  pub mid : List ℕ
+  pub kept : IsKept naming text mid
   pub printed : IsPrinted mid has_comments out

@@ -19,6 +19,7 @@ use file_disk::Disk;
 use lint_errors::{errors_of, read};
 use lint_excerpts::excerpt_of;
 use lint_sources::{Linted, differences_of, has_input, read_named};
+use port_calls::Package;
 use port_idioms::Idioms;
 use std::alloc::{AllocError, Global};
 use std::io::{Read, Write};
@@ -195,6 +196,7 @@ fn port_source<D: Disk, W: Write, E: Hears>(
     alloc: Global,
     disk: &D,
     idioms: Idioms,
+    naming: Option<Package<'_>>,
     linted: &Linted,
     output: &mut W,
     errors: &mut E,
@@ -204,12 +206,14 @@ fn port_source<D: Disk, W: Write, E: Hears>(
         → (errors.new ≡ errors.old)
         ⊎ ((page : List ℕ) × Appends (E.contents errors.old) (E.contents errors.new) page) }
     ensures ported { result ≢ 2
-        → (out : List ℕ) × specs.IsPrinted idioms linted.now.text out result
+        → (out : List ℕ)
+        × specs.IsPrinted idioms (option_map wanted.package_of naming.entry) linted.now.text out
+        result
         × Appends (W.contents output.old) (W.contents output.new) out }
     ensures refused { result ≡ 2
         → Says E.contents E.has_failed errors.old errors.new (IsSaidOf linted.now.text) }
 {
-    match port(alloc, idioms, linted.text.as_slice()) {
+    match port(alloc, idioms, naming, linted.text.as_slice()) {
         Ok(Some(ported)) => print_ported(alloc, disk, linted, &ported, output, errors),
         Ok(None) => tell_quotes(alloc, linted, errors),
         Err(_) => tell_memory(errors),
@@ -223,6 +227,7 @@ fn port_named<D: Disk, R: Read, W: Write, E: Hears>(
     disk: &D,
     reads: bool,
     idioms: Idioms,
+    naming: Option<Package<'_>>,
     name: &[u8],
     input: &mut R,
     output: &mut W,
@@ -237,14 +242,15 @@ fn port_named<D: Disk, R: Read, W: Write, E: Hears>(
         → (out : List ℕ)
         × ((text : List ℕ) × (directory : List ℕ)
         × IsNamed (D.known disk.now) (reads && calls.is_input name.now) name.now text
-        directory × specs.IsPrinted idioms text out result)
+        directory
+        × specs.IsPrinted idioms (option_map wanted.package_of naming.entry) text out result)
         × Appends (W.contents output.old) (W.contents output.new) out }
     ensures refused { result ≡ 2
         → Says E.contents E.has_failed errors.old errors.new (
         IsSaidFor (D.known disk.now) (reads && calls.is_input name.now) name.now) }
 {
     match read_named(alloc, disk, reads, input, name) {
-        Ok(Some(linted)) => port_source(alloc, disk, idioms, &linted, output, errors),
+        Ok(Some(linted)) => port_source(alloc, disk, idioms, naming, &linted, output, errors),
         Ok(None) => tell_file(errors, name),
         Err(_) => tell_memory(errors),
     }
@@ -252,9 +258,10 @@ fn port_named<D: Disk, R: Read, W: Write, E: Hears>(
 
 /// Prints the source that the words name, with its calls rewritten, and returns the exit status.
 ///
-/// The words are `--idioms` or not, and at most one name: `-` for standard input, or the path of a
-/// source or of a directory with a `configure.ac`. Without a name, `configure.ac` is read. Without
-/// `--idioms`, exact idioms alone are written. Nothing is run, and no file is written.
+/// The words are `--idioms` or not, with it `--package=NAME,VERSION` or not, and at most one name: `-`
+/// for standard input, or the path of a source or of a directory with a `configure.ac`. Without a
+/// name, `configure.ac` is read. Without `--idioms`, exact idioms alone are written. NAME and VERSION
+/// come into an AC_INIT that has none that are kept. Nothing is run, and no file is written.
 ///
 /// Standard error gets the warnings of `lint` that something in the text that is printed means
 /// another thing to Autoconf. They don't change the status.
@@ -302,6 +309,7 @@ pub fn run_port<D: Disk, R: Read, W: Write, E: Hears>(
             disk,
             reads,
             request.idioms,
+            request.naming,
             request.source,
             input,
             output,

@@ -3,7 +3,8 @@
 //!
 //! [`port`] replaces each call that has an exact idiom: one that leaves the same definitions and
 //! output variables. With `--idioms` it also replaces calls by idioms that differ, each below a
-//! line `dnl acrun: in place of ..` that says in what. It also replaces statements of a shell that
+//! line `dnl acrun: in place of ..` that says in what. With `--package=NAME,VERSION` as well, AC_INIT
+//! gets both, if it has none that are kept. It also replaces statements of a shell that
 //! mean the same as a call, such as `if`. All else is copied to the byte. What is still an error
 //! has a line `dnl acrun: ..` above it, in the words of `lint`.
 //!

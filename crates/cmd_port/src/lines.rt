@@ -95,7 +95,7 @@ struct Open {
 /// The calls that are open at a place, outermost first, the index of the next call, and the lines
 /// so far.
 #[derive(Drop)]
-struct Walk {
+struct LineWalk {
     open: Vec<Open>,
     next: usize,
     opened: Opened,
@@ -113,7 +113,7 @@ fn forget_quote(lines: &mut [Line], quote: usize) {
 }
 
 /// Begins to read other text between calls.
-fn restart(walk: &mut Walk) {
+fn restart(walk: &mut LineWalk) {
     if let Some(quote) = walk.opened.open_quote() {
         forget_quote(&mut walk.lines, quote);
     }
@@ -121,7 +121,7 @@ fn restart(walk: &mut Walk) {
 }
 
 /// Takes out the calls that end before an offset.
-fn close_calls(calls: &[CallAt], at: usize, walk: &mut Walk) {
+fn close_calls(calls: &[CallAt], at: usize, walk: &mut LineWalk) {
     for _ in 0..calls.len() {
         let Some(last) = walk.open.last() else {
             return;
@@ -163,7 +163,7 @@ fn is_at_argument(text: &[u8], calls: &[CallAt], at: usize, open: &mut [Open]) -
 }
 
 /// Adds the calls that begin before an offset.
-fn open_calls(calls: &[CallAt], at: usize, walk: &mut Walk) -> Result<(), AllocError> {
+fn open_calls(calls: &[CallAt], at: usize, walk: &mut LineWalk) -> Result<(), AllocError> {
     for index in walk.next..calls.len() {
         if calls[index].start >= at {
             break;
@@ -221,7 +221,7 @@ fn front_of(text: &[u8], lines: &[Line]) -> Option<usize> {
 }
 
 /// Returns the line that begins at an offset.
-fn line_at(text: &[u8], calls: &[CallAt], at: usize, walk: &Walk) -> Line {
+fn line_at(text: &[u8], calls: &[CallAt], at: usize, walk: &LineWalk) -> Line {
     let mut line = Line {
         start: at,
         below: at,
@@ -244,7 +244,7 @@ fn go_to(
     calls: &[CallAt],
     at: usize,
     is_start: bool,
-    walk: &mut Walk,
+    walk: &mut LineWalk,
 ) -> Result<(), AllocError> {
     close_calls(calls, at, walk);
     open_calls(calls, at, walk)?;
@@ -260,7 +260,7 @@ fn go_to(
 
 /// Returns the lines of a text with these calls.
 fn plain_lines(alloc: Global, text: &[u8], calls: &[CallAt]) -> Result<Vec<Line>, AllocError> {
-    let mut walk = Walk {
+    let mut walk = LineWalk {
         open: Vec::new(alloc),
         next: 0,
         opened: Opened::new(),
@@ -274,7 +274,7 @@ fn plain_lines(alloc: Global, text: &[u8], calls: &[CallAt]) -> Result<Vec<Line>
     }
     go_to(text, calls, text.len(), is_start, &mut walk)?;
     restart(&mut walk);
-    let Walk { lines, .. } = walk;
+    let LineWalk { lines, .. } = walk;
     Ok(lines)
 }
 

@@ -1,10 +1,11 @@
 //! Calls and statements of a shell are rewritten by turns, until nothing is left that can be
 //! rewritten.
 
-ghost use Rattle.std.specs.Prelude.{IfOk, IfSome};
+ghost use Rattle.std.specs.Prelude.{IfOk, IfSome, option_map};
+ghost use Rattle.cmd_port.specs.Asked.{package_of};
 ghost use Rattle.cmd_port.specs.Ported as specs;
 
-use port_calls::replaced;
+use port_calls::{Package, replaced, with_package};
 use port_idioms::Idioms;
 use port_shell::{formed, told};
 use std::alloc::{AllocError, Global};
@@ -39,13 +40,54 @@ fn turned(alloc: Global, idioms: Idioms, text: &[u8]) -> Result<Option<Vec<u8>>,
     }
 }
 
-/// Returns the text with its calls and its statements of a shell rewritten.
-pub(crate) fn moved(alloc: Global, idioms: Idioms, text: &[u8]) -> Result<Vec<u8>, AllocError>
-    ensures { IfOk result (λ v. specs.IsMoved idioms text.now v.items) }
+/// Returns the text in which AC_INIT has the name and the version that are stated, or `None` if none
+/// are, or if nothing changes.
+pub(crate) fn titled(
+    alloc: Global,
+    naming: Option<Package<'_>>,
+    text: &[u8],
+) -> Result<Option<Vec<u8>>, AllocError>
+    ensures { IfOk result (λ o.
+        IfSome o (λ v. specs.IsTitled (option_map package_of naming.entry) text.now v.items)) }
+{
+    match naming {
+        Some(naming) => with_package(alloc, naming, text),
+        None => Ok(None),
+    }
+}
+
+/// Returns the text after one step: a turn, or if nothing can be rewritten, with the name and the
+/// version that are stated. Returns `None` if nothing changes.
+fn stepped(
+    alloc: Global,
+    idioms: Idioms,
+    naming: Option<Package<'_>>,
+    text: &[u8],
+) -> Result<Option<Vec<u8>>, AllocError>
+    ensures { IfOk result (λ o.
+        IfSome o (λ v.
+        specs.IsStep idioms (option_map package_of naming.entry) text.now v.items)) }
+{
+    match turned(alloc, idioms, text)? {
+        Some(next) => Ok(Some(next)),
+        None => titled(alloc, naming, text),
+    }
+}
+
+/// Returns the text with its calls and its statements of a shell rewritten, and with the name and the
+/// version that are stated.
+pub(crate) fn moved(
+    alloc: Global,
+    idioms: Idioms,
+    naming: Option<Package<'_>>,
+    text: &[u8],
+) -> Result<Vec<u8>, AllocError>
+    ensures { IfOk result (λ v.
+        specs.IsMoved idioms (option_map package_of naming.entry) text.now v.items) }
 {
     let mut out = Vec::from_slice(alloc, text)?;
     for _ in 0..TURNS {
-        match turned(alloc, idioms, out.as_slice())? {
+        match stepped(alloc, idioms, naming, out.as_slice())? {
             Some(next) => out = next,
             None => break,
         }
