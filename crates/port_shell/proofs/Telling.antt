@@ -5,7 +5,7 @@ use Rattle.port_echo.specs.Echo.{IsEcho, IsMessage, Prints}
 use Rattle.port_echo.specs.Commands.{IsCommandLine}
 use Rattle.lint_errors.specs.Errors.{IsAccepted}
 use Rattle.port_shell.specs.Calls.{IsPut, source_with}
-use Rattle.port_shell.specs.Told.{IsToldTo, IsEchoThen, IsExit, Fails, Speaks, Unsets, Appends, noted, noted_so, longer}
+use Rattle.port_shell.specs.Told.{IsToldTo, IsEchoThen, IsExit, Fails, Speaks, Unsets, Appends, IsSilenced, noted, noted_so, longer}
 use Rattle.port_shell.specs.Told as specs
 
 pub told_bound : (text : List ℕ) (at : ℕ) (out : List ℕ) → IsToldTo text at out → at ≤ length text
@@ -15,6 +15,7 @@ told_bound text at out (specs.IsToldTo.told echo end message call before is puts
 told_bound text at out (specs.IsToldTo.spoken place end command name args said call before is speaks puts) = is.order.2
 told_bound text at out (specs.IsToldTo.cleared place end command name before is unsets) = is.order.2
 told_bound text at out (specs.IsToldTo.appended place end command name word before is appends accepted) = is.order.2
+told_bound text at out (specs.IsToldTo.silenced place end command said put before is silenced) = is.order.2
 
 pub told_step : (text : List ℕ) (read : ℕ) (out : List ℕ) (start at end : ℕ) (message call put : List ℕ) (new_at : ℕ) (new : List ℕ)
     → IsToldTo text read out → IsEcho text start at end message → IsPut (codes "AC_MSG_RESULT") (message ∷ []) call → read ≤ start → start ≤ length text
@@ -54,11 +55,24 @@ appended_step text read out start at end command name word put new_at new before
     (subst (IsToldTo text end) (sym (new_is ∙ ap (λ p. (out ++ slice_range text read start) ++ p) put_is))
     (specs.IsToldTo.appended at end command name word (specs.IsToldTo.copied start before from within) is appends accepted))
 
+pub silenced_step : (text : List ℕ) (read : ℕ) (out : List ℕ) (start at end : ℕ) (command said put line : List ℕ) (new_at : ℕ) (new : List ℕ)
+    → IsToldTo text read out → IsCommandLine text start at end command → IsSilenced command said put → read ≤ start → start ≤ length text
+    → line ≡ noted_so (slice_range text start at) said put
+    → (new_at ≡ end) × (new ≡ (out ++ slice_range text read start) ++ line) → IsToldTo text new_at new
+silenced_step text read out start at end command said put line new_at new before is silenced from within line_is (at_is, new_is) =
+    subst (λ a. IsToldTo text a new) (sym at_is)
+    (subst (IsToldTo text end) (sym (new_is ∙ ap (λ p. (out ++ slice_range text read start) ++ p) line_is))
+    (specs.IsToldTo.silenced at end command said put (specs.IsToldTo.copied start before from within) is silenced))
+
 -- A message and a status that the command ends with.
 pub failing : (command : List ℕ) (to from : ℕ) (message status : List ℕ) → IsEchoThen command to from → IsExit command from status
     → Prints (slice_range command 5 to) message × IsMessage message → Speaks command (codes "AC_MSG_ERROR") (message ∷ status ∷ []) (codes "echo and exit: the message is an error")
 failing command to from message status front exits (prints, shown) =
     specs.Speaks.fails message status (record { to = to; from = from; front = front; prints = prints; can_be_shown = shown; exits = exits })
+
+-- The parts of an assignment.
+pub set_by : (text name rest word : List ℕ) → text ≡ name ++ rest → rest ≡ codes "=" ++ word → text ≡ name ++ (codes "=" ++ word)
+set_by text name rest word whole parts = whole ∙ ap (λ r. name ++ r) parts
 
 -- The parts of a command that `+=` is between.
 pub joined_by : (command name rest word : List ℕ) → command ≡ name ++ rest → rest ≡ codes "+=" ++ word → command ≡ name ++ (codes "+=" ++ word)

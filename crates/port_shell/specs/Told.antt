@@ -1,5 +1,5 @@
--- What the lines with an `echo`, an `exit` or an `unset` become. The offsets are those of the text that is read. All of this is own.
-use Rattle.std.specs.Prelude.{◌≡◌, ℕ, ◌+◌, ◌<◌, ◌≤◌, ◌==◌, ◌||◌, nat_lt, ◌&&◌, Bool, true, false, List, [], ◌∷◌, ◌++◌, length, slice_index, slice_range, codes}
+-- What the lines with an `echo`, an `exit`, an `unset` or an `export` become. The offsets are those of the text that is read. All of this is own.
+use Rattle.std.specs.Prelude.{◌≡◌, ℕ, ◌+◌, ◌<◌, ◌≤◌, ◌==◌, ◌||◌, nat_lt, ◌&&◌, Bool, true, false, List, [], ◌∷◌, ◌++◌, length, flat_map, slice_index, slice_range, codes, if◌then◌else◌}
 use Rattle.std.specs.List.{list_all}
 use Rattle.std.specs.Char.{is_ascii_alphanumeric}
 use Rattle.port_compounds.specs.Places.{AreSpaces, IsWord}
@@ -59,6 +59,22 @@ pub record Unsets (command name : List ℕ) : Type 0 where
   pub some : 0 < length name
   pub plain : list_all is_of_name name ≡ true
 
+-- A byte of a variable's name, or a space.
+abbrev pub is_of_names : ℕ → Bool
+is_of_names b = is_of_name b || b == 32
+
+-- The text is names with spaces between them.
+abbrev pub AreNames : List ℕ → Type 0
+AreNames names = (0 < length names) × (list_all is_of_names names ≡ true)
+
+-- The byte, or `= ` in the place of a space.
+abbrev pub set_byte : ℕ → List ℕ
+set_byte b = if b == 32 then 61 ∷ 32 ∷ [] else b ∷ []
+
+-- An assignment of nothing to each of these names.
+unfoldable pub each_cleared : List ℕ → List ℕ
+each_cleared names = flat_map set_byte names ++ 61 ∷ []
+
 -- A digit. (own)
 abbrev pub is_digit : ℕ → Bool
 is_digit b = nat_lt 47 b && nat_lt b 58
@@ -71,6 +87,26 @@ pub record Appends (command name word : List ℕ) : Type 0 where
   pub no_digit : is_digit (slice_index name 0) ≡ false
   pub one : IsOneWord word
 
+-- The text assigns one word to a variable.
+pub record IsSet (text : List ℕ) : Type 0 where
+  pub name : List ℕ
+  pub word : List ℕ
+  pub is : text ≡ name ++ (codes "=" ++ word)
+  pub some : 0 < length name
+  pub plain : list_all is_of_name name ≡ true
+  pub no_digit : is_digit (slice_index name 0) ≡ false
+  pub one : IsOneWord word
+
+-- A text that takes the place of a command, and in what it differs. `export` changes what programs see, and acrun gives none of them a
+-- variable of the source. (POSIX shell, "export", "unset")
+pub data IsSilenced (command : List ℕ) : List ℕ → List ℕ → Type 0 where
+  exports : (names : List ℕ) → command ≡ codes "export " ++ names → AreNames names
+      → IsSilenced command (codes "export: no program that acrun starts sees the variable") (58 ∷ [])
+  exports_set : (set : List ℕ) → command ≡ codes "export " ++ set → IsSet set
+      → IsSilenced command (codes "export: no program that acrun starts sees the variable") set
+  unsets : (names : List ℕ) → command ≡ codes "unset " ++ names → AreNames names → IsAccepted (source_with (each_cleared names))
+      → IsSilenced command (codes "unset: the variables are empty") (each_cleared names)
+
 -- The assignment of the variable's value, with the word after it.
 unfoldable pub longer : List ℕ → List ℕ → List ℕ
 longer name word = (name ++ 61 ∷ 34 ∷ 36 ∷ []) ++ (name ++ 34 ∷ word)
@@ -81,8 +117,8 @@ noted_so indent said put = ((indent ++ codes "dnl acrun: in place of ") ++ said)
 
 -- So much of a text has been read, and this was written: everything is copied, but a line that prints a message by `echo` may become a
 -- comment and the call of AC_MSG_RESULT with the message, after the line's indent. A line with another command may become a comment and the
--- call that takes its place; one that unsets a variable, a comment and an assignment of nothing; and one that appends a word to a variable,
--- a comment and an assignment.
+-- call that takes its place; one that unsets a variable, a comment and an assignment of nothing; one that unsets several or exports some, a
+-- comment and assignments or `:`; and one that appends a word to a variable, a comment and an assignment.
 pub data IsToldTo (text : List ℕ) : ℕ → List ℕ → Type 0 where
   begun : IsToldTo text 0 []
   copied : {at : ℕ} {out : List ℕ} (next : ℕ) → IsToldTo text at out → at ≤ next → next ≤ length text → IsToldTo text next (out ++ slice_range text at next)
@@ -93,6 +129,8 @@ pub data IsToldTo (text : List ℕ) : ℕ → List ℕ → Type 0 where
       → IsToldTo text end (out ++ noted_so (slice_range text start at) said call)
   cleared : {start : ℕ} {out : List ℕ} (at end : ℕ) (command name : List ℕ) → IsToldTo text start out → IsCommandLine text start at end command → Unsets command name
       → IsToldTo text end (out ++ noted_so (slice_range text start at) (codes "unset: the variable is empty") (name ++ 61 ∷ []))
+  silenced : {start : ℕ} {out : List ℕ} (at end : ℕ) (command said put : List ℕ) → IsToldTo text start out → IsCommandLine text start at end command
+      → IsSilenced command said put → IsToldTo text end (out ++ noted_so (slice_range text start at) said put)
   appended : {start : ℕ} {out : List ℕ} (at end : ℕ) (command name word : List ℕ) → IsToldTo text start out → IsCommandLine text start at end command
       → Appends command name word → IsAccepted (source_with (longer name word)) → IsToldTo text end (out ++ noted_so (slice_range text start at) (codes "+=: some shells take it for a command") (longer name word))
 

@@ -303,6 +303,226 @@ fn pass_unset(
     write_change(text, start, end, put.as_slice(), pass)
 }
 
+// ---- an `export`, and an `unset` of several names
+
+/// What `export` has no part in.
+const EXPORTED: &[u8] = b"export: no program that acrun starts sees the variable";
+
+fn is_of_names(byte: u8) -> bool
+    ensures { result ≡ specs.is_of_names byte }
+{
+    is_of_name(byte) || byte == b' '
+}
+
+/// Returns whether a text has bytes of names and spaces alone.
+fn has_names_alone(text: &[u8]) -> bool
+    ensures { result ≡ list_all specs.is_of_names text.now }
+{
+    text.iter().all(|byte| is_of_names(*byte))
+}
+
+/// Returns whether a text is names with spaces between them.
+fn are_names(text: &[u8]) -> bool
+    ensures { IsTrue result → specs.AreNames text.now }
+{
+    0 < text.len() && has_names_alone(text)
+}
+
+/// Appends a byte, or `= ` in the place of a space.
+fn put_set_byte(out: &mut Vec<u8>, byte: u8) -> Result<(), AllocError>
+    ensures { OnOk result (out.new.items ≡ out.old.items ++ specs.set_byte byte) }
+{
+    if byte == b' ' {
+        return out.extend_from_slice(b"= ");
+    }
+    out.push(byte)?;
+    Ok(())
+}
+
+/// Returns an assignment of nothing to each of some names.
+#[tactic(auto, unfolding(crate::specs::Told::each_cleared))]
+fn each_cleared(alloc: Global, names: &[u8]) -> Result<Vec<u8>, AllocError>
+    ensures { IfOk result (λ v. v.items ≡ specs.each_cleared names.now) }
+{
+    let mut out = Vec::new(alloc);
+    for byte in names {
+        put_set_byte(&mut out, *byte)?;
+    }
+    out.push(b'=')?;
+    Ok(out)
+}
+
+/// Writes a comment and what takes the place of a command, unless the line was in what was
+/// rewritten.
+fn put_silenced(
+    alloc: Global,
+    text: &[u8],
+    start: usize,
+    at: usize,
+    end: usize,
+    command: &[u8],
+    said: &[u8],
+    put: &[u8],
+    pass: &mut Pass,
+) -> Result<(), AllocError>
+    requires line { IsCommandLine text.now start at end command.now }
+    requires silenced { specs.IsSilenced command.now said.now put.now }
+    requires begun { specs.IsToldTo text.now pass.old.at pass.old.out.items }
+    ensures { OnOk result (specs.IsToldTo text.now pass.new.at pass.new.out.items) }
+{
+    let _ = command;
+    if start < pass.at || at < start || text.len() < at {
+        return Ok(());
+    }
+    let line = noted_so(alloc, &text[start..at], said, put)?;
+    write_change(text, start, end, line.as_slice(), pass)
+}
+
+/// Writes an assignment of nothing to each of some names in place of their `unset`.
+fn put_cleared(
+    alloc: Global,
+    text: &[u8],
+    start: usize,
+    at: usize,
+    end: usize,
+    command: &[u8],
+    names: &[u8],
+    pass: &mut Pass,
+) -> Result<(), AllocError>
+    requires line { IsCommandLine text.now start at end command.now }
+    requires is { command.now ≡ codes "unset " ++ names.now }
+    requires names { specs.AreNames names.now }
+    requires accepted { IsAccepted (source_with (specs.each_cleared names.now)) }
+    requires begun { specs.IsToldTo text.now pass.old.at pass.old.out.items }
+    ensures { OnOk result (specs.IsToldTo text.now pass.new.at pass.new.out.items) }
+{
+    let put = each_cleared(alloc, names)?;
+    let said = b"unset: the variables are empty";
+    put_silenced(
+        alloc,
+        text,
+        start,
+        at,
+        end,
+        command,
+        said,
+        put.as_slice(),
+        pass,
+    )
+}
+
+/// Returns whether acrun accepts an assignment of nothing to each of some names.
+fn is_cleared_accepted(alloc: Global, names: &[u8]) -> Result<bool, AllocError>
+    ensures { IfOk result (λ b.
+        IsTrue b → IsAccepted (source_with (specs.each_cleared names.now))) }
+{
+    let cleared = each_cleared(alloc, names)?;
+    is_accepted(alloc, cleared.as_slice())
+}
+
+/// Writes an assignment of nothing to each of some names in place of their `unset`, unless acrun
+/// doesn't accept it.
+fn pass_cleared(
+    alloc: Global,
+    text: &[u8],
+    start: usize,
+    at: usize,
+    end: usize,
+    command: &[u8],
+    names: &[u8],
+    pass: &mut Pass,
+) -> Result<(), AllocError>
+    requires line { IsCommandLine text.now start at end command.now }
+    requires is { command.now ≡ codes "unset " ++ names.now }
+    requires names { specs.AreNames names.now }
+    requires begun { specs.IsToldTo text.now pass.old.at pass.old.out.items }
+    ensures { OnOk result (specs.IsToldTo text.now pass.new.at pass.new.out.items) }
+{
+    if !is_cleared_accepted(alloc, names)? {
+        return Ok(());
+    }
+    put_cleared(alloc, text, start, at, end, command, names, pass)
+}
+
+/// Writes what takes the place of an `unset` of this, if it is names.
+fn pass_unset_each(
+    alloc: Global,
+    text: &[u8],
+    start: usize,
+    at: usize,
+    end: usize,
+    command: &[u8],
+    rest: &[u8],
+    pass: &mut Pass,
+) -> Result<(), AllocError>
+    requires line { IsCommandLine text.now start at end command.now }
+    requires is { command.now ≡ codes "unset " ++ rest.now }
+    requires begun { specs.IsToldTo text.now pass.old.at pass.old.out.items }
+    ensures { OnOk result (specs.IsToldTo text.now pass.new.at pass.new.out.items) }
+{
+    if !are_names(rest) {
+        return Ok(());
+    }
+    pass_cleared(alloc, text, start, at, end, command, rest, pass)
+}
+
+/// Returns whether a text assigns a word to the variable of a name.
+fn is_set_to(text: &[u8], name: &[u8], word: &[u8]) -> bool
+    requires { text.now ≡ name.now ++ (codes "=" ++ word.now) }
+    ensures { IsTrue result → specs.IsSet text.now }
+{
+    let _ = text;
+    is_one_word(word) && is_variable(name)
+}
+
+/// Returns whether a text of a name and a rest assigns one word.
+#[tactic(auto, using(crate::proofs::Telling::set_by))]
+fn is_set_by(text: &[u8], name: &[u8], rest: &[u8]) -> bool
+    requires { text.now ≡ name.now ++ rest.now }
+    ensures { IsTrue result → specs.IsSet text.now }
+{
+    match rest_after(rest, b"=") {
+        Some(word) => is_set_to(text, name, word),
+        None => false,
+    }
+}
+
+/// Returns whether a text that begins with a name of some length assigns one word.
+fn is_set(text: &[u8], length: usize) -> bool
+    ensures { IsTrue result → specs.IsSet text.now }
+{
+    if text.len() < length {
+        return false;
+    }
+    let (name, rest) = text.split_at(length);
+    is_set_by(text, name, rest)
+}
+
+/// Writes what takes the place of an `export` of this, if it is names or an assignment.
+fn pass_export(
+    alloc: Global,
+    text: &[u8],
+    start: usize,
+    at: usize,
+    end: usize,
+    command: &[u8],
+    rest: &[u8],
+    pass: &mut Pass,
+) -> Result<(), AllocError>
+    requires line { IsCommandLine text.now start at end command.now }
+    requires is { command.now ≡ codes "export " ++ rest.now }
+    requires begun { specs.IsToldTo text.now pass.old.at pass.old.out.items }
+    ensures { OnOk result (specs.IsToldTo text.now pass.new.at pass.new.out.items) }
+{
+    if are_names(rest) {
+        return put_silenced(alloc, text, start, at, end, command, EXPORTED, b":", pass);
+    }
+    if is_set(rest, name_length(rest)) {
+        return put_silenced(alloc, text, start, at, end, command, EXPORTED, rest, pass);
+    }
+    Ok(())
+}
+
 // ---- a message before `exit`
 
 /// Returns the offset of the last `;` of a command, or 0.
@@ -729,8 +949,14 @@ fn pass_silent(
     if let Some(status) = status_of(command) {
         return pass_status(alloc, text, start, at, end, command, status, pass);
     }
-    match name_of(command) {
-        Some(name) => pass_unset(alloc, text, start, at, end, command, name, pass),
+    if let Some(name) = name_of(command) {
+        return pass_unset(alloc, text, start, at, end, command, name, pass);
+    }
+    if let Some(rest) = rest_after(command, b"unset ") {
+        return pass_unset_each(alloc, text, start, at, end, command, rest, pass);
+    }
+    match rest_after(command, b"export ") {
+        Some(rest) => pass_export(alloc, text, start, at, end, command, rest, pass),
         None => pass_other(alloc, text, start, at, end, command, pass),
     }
 }

@@ -151,7 +151,7 @@ impl Compounds {
         word: ShellWord,
         is_quoted: bool,
     ) -> Result<(), AllocError> {
-        let is_word = matches!(text, b"echo" | b"exit" | b"unset") && word.is_plain;
+        let is_word = matches!(text, b"echo" | b"exit" | b"unset" | b"export") && word.is_plain;
         let is_line = (is_word || is_appending(text)) && !is_quoted;
         if is_line && self.begins_call() && !self.is_function {
             self.found.push(StatementCut::Line(word.start))?;

@@ -33,6 +33,11 @@ echo '' => dnl acrun: in place of echo: -q drops the line^JAC_MSG_RESULT([])
 // other commands
 echo a^J  exit 1 => dnl acrun: in place of echo: -q drops the line^JAC_MSG_RESULT([a])^J  dnl acrun: in place of exit: an error is printed^J  AC_MSG_ERROR([exit 1], [1])
 unset a_b => dnl acrun: in place of unset: the variable is empty^Ja_b=
+  unset a b_2 =>   dnl acrun: in place of unset: the variables are empty^J  a= b_2=
+export a_b => dnl acrun: in place of export: no program that acrun starts sees the variable^J:
+export a b => dnl acrun: in place of export: no program that acrun starts sees the variable^J:
+if a; then^J  export b="c d"^Jfi => if a; then^J  dnl acrun: in place of export: no program that acrun starts sees the variable^J  b="c d"^Jfi
+export PKG_CONFIG_PATH=/a:$b => dnl acrun: in place of export: no program that acrun starts sees the variable^JPKG_CONFIG_PATH=/a:$b
 // a message before an error
 echo "no $a"; exit 1 => dnl acrun: in place of echo and exit: the message is an error^JAC_MSG_ERROR([no $a], [1])
   echo no a ;  exit 2 =>   dnl acrun: in place of echo and exit: the message is an error^J  AC_MSG_ERROR([no a], [2])
@@ -77,7 +82,17 @@ exit 10 => the same
 exit $a => the same
 exit => the same
 exit 1 # a => the same
-unset a b => the same
+unset a  b => the same
+unset -f a => the same
+unset => the same
+export a=$(b) => the same
+export a=b c => the same
+export -p => the same
+export 1a=b => the same
+export $a => the same
+export => the same
+a; export b => the same
+a && export b => the same
 unset -v a => the same
 unset $a => the same
 unset => the same
