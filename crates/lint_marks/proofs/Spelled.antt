@@ -4,7 +4,7 @@ use Rattle.std.proofs.lemmas.List.{drop-drop, length-append, length-drop}
 use Rattle.std.proofs.lemmas.List.Sums.{prefix_len-le-length}
 use Rattle.std.proofs.lemmas.Bool.{eqb-true, eqb-false, cases_Bool, or_cases}
 use Rattle.m4quote.specs.ItemValue.{Span, ItemValue}
-use Rattle.m4quote.specs.Text.{is_word_byte, is_space, blank_len}
+use Rattle.m4quote.specs.Text.{is_word_byte, is_blank, blank_len}
 use Rattle.m4quote.specs.Spelling.{Balanced, empty, byte, group, IsOrdinary, IsFront, quoted, comment, dropped, name, other_word, other_byte, IsInside, no_more, piece, parens, AreArguments, last, more, Spells, nothing, bare_text, dropped_line, bare_name, with_arguments, IsSpelling}
 use Rattle.lint_marks.specs.Fronts.{IsPiece, ArePieces}
 use Rattle.lint_marks.specs.Fronts as cut
@@ -48,7 +48,7 @@ front_more (other_byte other) most le = other_byte other
 
 -- ---- bytes of calls
 
-blank_is : (b : ℕ) → is_space b ≡ true → ((b ≡ 32) ⊎ (b ≡ 9)) ⊎ (b ≡ 10)
+blank_is : (b : ℕ) → is_blank b ≡ true → ((b ≡ 32) ⊎ (b ≡ 9)) ⊎ (b ≡ 10)
 blank_is b blank =
     elim (or_cases (b == 32 || b == 9) (b == 10) blank) [
       | inl front ↦
@@ -62,7 +62,7 @@ blank_is b blank =
 ordinary : (b c : ℕ) → b ≡ c → c ≢ 91 → c ≢ 93 → c ≢ 35 → is_word_byte c ≡ false → IsOrdinary b
 ordinary b c e opens closes hash word = record { opens = λ h. opens (sym e ∙ h); closes = λ h. closes (sym e ∙ h); hash = λ h. hash (sym e ∙ h); word = ap is_word_byte e ∙ word }
 
-blank_ordinary : (b : ℕ) → is_space b ≡ true → IsOrdinary b
+blank_ordinary : (b : ℕ) → is_blank b ≡ true → IsOrdinary b
 blank_ordinary b blank =
     elim (blank_is b blank) [
       | inl (inl e) ↦ ordinary b 32 e (eqb-false 32 91 refl) (eqb-false 32 93 refl) (eqb-false 32 35 refl) refl
@@ -96,7 +96,7 @@ inside_pieces (parens {room} {k} {n} {commas} {text} {rest} inner closes outer) 
 blanks : (room : ℕ) (text : List ℕ) → ArePieces room text (blank_len text)
 blanks room [] = cut.no_more
 blanks room (b ∷ bs) =
-    elim (cases_Bool (is_space b)) [
+    elim (cases_Bool (is_blank b)) [
       | inl blank ↦ counted room (1 + blank_len bs) (blank_len (b ∷ bs)) (b ∷ bs) (rw blank refl) (after_byte room b (blank_len bs) bs (blank_ordinary b blank) (blanks room bs))
       | inr other ↦ counted room 0 (blank_len (b ∷ bs)) (b ∷ bs) (rw other refl) cut.no_more
     ]
