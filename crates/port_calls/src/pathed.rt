@@ -42,11 +42,18 @@ fn is_path_byte(byte: u8) -> bool
     is_value_byte(byte) || byte == b'$' || byte == b'{' || byte == b'}'
 }
 
+/// Returns whether a text has nothing but such bytes.
+fn are_path_bytes(path: &[u8]) -> bool
+    ensures { result ≡ list_all specs.is_path_byte path.now }
+{
+    path.iter().all(|byte| is_path_byte(*byte))
+}
+
 /// Returns whether a text may be a path.
 fn is_path(path: &[u8]) -> bool
     ensures { result ≡ specs.is_path path.now }
 {
-    0 < path.len() && path.iter().all(|byte| is_path_byte(*byte))
+    0 < path.len() && are_path_bytes(path)
 }
 
 /// Returns the path that an argument is, if it may be one.
@@ -89,6 +96,7 @@ fn set_back() -> &'static [u8]
 }
 
 /// Returns the line that sets PATH to a path.
+#[tactic(auto, unfolding(crate::specs::Pathed::setting))]
 fn setting(alloc: Global, path: &[u8]) -> Result<Vec<u8>, AllocError>
     ensures { IfOk result (λ v. v.items ≡ specs.setting path.now) }
 {
@@ -100,6 +108,7 @@ fn setting(alloc: Global, path: &[u8]) -> Result<Vec<u8>, AllocError>
 }
 
 /// Returns the call without its last argument, of which this is the front.
+#[tactic(auto, unfolding(crate::specs::Pathed::shortened))]
 fn shortened(alloc: Global, front: &[u8]) -> Result<Vec<u8>, AllocError>
     ensures { IfOk result (λ v. v.items ≡ specs.shortened front.now) }
 {
@@ -109,6 +118,7 @@ fn shortened(alloc: Global, front: &[u8]) -> Result<Vec<u8>, AllocError>
 }
 
 /// Returns what the comment says.
+#[tactic(auto, unfolding(crate::specs::Pathed::said))]
 fn said() -> &'static [u8]
     ensures { result.now ≡ specs.said }
 {
