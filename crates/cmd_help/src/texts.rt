@@ -103,9 +103,9 @@ that something in the text that is printed means another thing to Autoconf.
              below a line `dnl acrun: in place of MACRO: ..` that says in what;
              such a line is not counted as left to do
   --package=NAME,VERSION
-             with --idioms: write this name and this version into AC_INIT, below
-             such a line, if it has none, or one that a command or a macro makes;
-             both have letters, digits, spaces and _ . - + ~ alone
+             with --idioms: write this name and this version into AC_INIT,
+             below such a line, if it has none, or one that a command or a
+             macro makes; both have letters, digits, spaces and _ . - + ~ alone
 
 Exit status: 0 nothing is left to do; 1 there are such lines; 2 a file can't be
 read, its quotes have an error, or the words are wrong.
