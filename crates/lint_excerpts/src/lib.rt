@@ -20,13 +20,13 @@
 //! shown besides is tested.
 //!
 //! Read `specs/Plain` and `draft`, on which texts are written, then `marked`, which shows a line
-//! and marks a part of it, `excerpt`, and `specs/Json` and `json`.
+//! and marks a part of it, `excerpt`, and `specs/Json` and `object`.
 #![tactic(auto)]
 
 mod draft;
 mod excerpt;
-mod json;
 mod marked;
+mod object;
 
 pub use excerpt::excerpt_of;
-pub use json::json_of;
+pub use object::json_of;

@@ -1,5 +1,5 @@
 use Rattle.lint_excerpts.proofs.Joined.{four}
-use Rattle.lint_excerpts.proofs.json.put_words.Goals as goal
+use Rattle.lint_excerpts.proofs.object.put_words.Goals as goal
 
 pub returns-clause-put : goal.returns-clause-put
 returns-clause-put c =
