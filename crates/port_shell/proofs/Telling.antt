@@ -1,11 +1,11 @@
 -- What one step of telling makes.
-use Rattle.std.proofs.Common.{◌≡◌, ℕ, ◌≤◌, List, [], ◌∷◌, ◌++◌, length, Result, Ok, Err, is_ok, OnOk, if◌then◌else◌, slice_range, sym, subst, ap, ◌∙◌, arith}
+use Rattle.std.proofs.Common.{◌≡◌, ℕ, ◌≤◌, List, [], ◌∷◌, ◌++◌, length, Result, Ok, Err, is_ok, OnOk, if◌then◌else◌, slice_range, sym, subst, ap, ◌∙◌, arith, inl, inr}
 use Rattle.std.specs.Prelude.{codes}
 use Rattle.port_echo.specs.Echo.{IsEcho, IsMessage, Prints}
 use Rattle.port_echo.specs.Commands.{IsCommandLine}
 use Rattle.lint_errors.specs.Errors.{IsAccepted}
 use Rattle.port_shell.specs.Calls.{IsPut, source_with}
-use Rattle.port_shell.specs.Told.{IsToldTo, IsEchoThen, IsExit, Fails, Speaks, Unsets, Appends, IsSilenced, noted, noted_so, longer}
+use Rattle.port_shell.specs.Told.{IsToldTo, IsEchoThen, IsExit, Fails, Speaks, Unsets, Appends, IsSilenced, IsSetTo, noted, noted_so, longer}
 use Rattle.port_shell.specs.Told as specs
 
 pub told_bound : (text : List ℕ) (at : ℕ) (out : List ℕ) → IsToldTo text at out → at ≤ length text
@@ -71,8 +71,11 @@ failing command to from message status front exits (prints, shown) =
     specs.Speaks.fails message status (record { to = to; from = from; front = front; prints = prints; can_be_shown = shown; exits = exits })
 
 -- The parts of an assignment.
-pub set_by : (text name rest word : List ℕ) → text ≡ name ++ rest → rest ≡ codes "=" ++ word → text ≡ name ++ (codes "=" ++ word)
-set_by text name rest word whole parts = whole ∙ ap (λ r. name ++ r) parts
+pub set_by : (text name rest word : List ℕ) → text ≡ name ++ rest → rest ≡ codes "=" ++ word → IsSetTo text name word
+set_by text name rest word whole parts = inl (whole ∙ ap (λ r. name ++ r) parts)
+
+pub quoted_set_by : (text inner name rest word : List ℕ) → text ≡ codes "[" ++ inner → inner ≡ name ++ rest → rest ≡ codes "]=" ++ word → IsSetTo text name word
+quoted_set_by text inner name rest word whole named parts = inr (whole ∙ ap (λ r. codes "[" ++ r) (named ∙ ap (λ r. name ++ r) parts))
 
 -- The parts of a command that `+=` is between.
 pub joined_by : (command name rest word : List ℕ) → command ≡ name ++ rest → rest ≡ codes "+=" ++ word → command ≡ name ++ (codes "+=" ++ word)

@@ -1,5 +1,5 @@
 -- What the lines with an `echo`, an `exit`, an `unset` or an `export` become. The offsets are those of the text that is read. All of this is own.
-use Rattle.std.specs.Prelude.{◌≡◌, ℕ, ◌+◌, ◌<◌, ◌≤◌, ◌==◌, ◌||◌, nat_lt, ◌&&◌, Bool, true, false, List, [], ◌∷◌, ◌++◌, length, flat_map, slice_index, slice_range, codes, if◌then◌else◌}
+use Rattle.std.specs.Prelude.{◌≡◌, ◌⊎◌, ℕ, ◌+◌, ◌<◌, ◌≤◌, ◌==◌, ◌||◌, nat_lt, ◌&&◌, Bool, true, false, List, [], ◌∷◌, ◌++◌, length, flat_map, slice_index, slice_range, codes, if◌then◌else◌}
 use Rattle.std.specs.List.{list_all}
 use Rattle.std.specs.Char.{is_ascii_alphanumeric}
 use Rattle.port_compounds.specs.Places.{AreSpaces, IsWord}
@@ -87,11 +87,15 @@ pub record Appends (command name word : List ℕ) : Type 0 where
   pub no_digit : is_digit (slice_index name 0) ≡ false
   pub one : IsOneWord word
 
+-- The text is this name, `=` and this word. The name may be in brackets, so that m4 doesn't take it for a macro.
+abbrev pub IsSetTo : List ℕ → List ℕ → List ℕ → Type 0
+IsSetTo text name word = (text ≡ name ++ (codes "=" ++ word)) ⊎ (text ≡ codes "[" ++ (name ++ (codes "]=" ++ word)))
+
 -- The text assigns one word to a variable.
 pub record IsSet (text : List ℕ) : Type 0 where
   pub name : List ℕ
   pub word : List ℕ
-  pub is : text ≡ name ++ (codes "=" ++ word)
+  pub is : IsSetTo text name word
   pub some : 0 < length name
   pub plain : list_all is_of_name name ≡ true
   pub no_digit : is_digit (slice_index name 0) ≡ false

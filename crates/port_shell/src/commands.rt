@@ -468,7 +468,7 @@ fn pass_unset_each(
 
 /// Returns whether a text assigns a word to the variable of a name.
 fn is_set_to(text: &[u8], name: &[u8], word: &[u8]) -> bool
-    requires { text.now ≡ name.now ++ (codes "=" ++ word.now) }
+    requires { specs.IsSetTo text.now name.now word.now }
     ensures { IsTrue result → specs.IsSet text.now }
 {
     let _ = text;
@@ -488,7 +488,7 @@ fn is_set_by(text: &[u8], name: &[u8], rest: &[u8]) -> bool
 }
 
 /// Returns whether a text that begins with a name of some length assigns one word.
-fn is_set(text: &[u8], length: usize) -> bool
+fn is_plain_set(text: &[u8], length: usize) -> bool
     ensures { IsTrue result → specs.IsSet text.now }
 {
     if text.len() < length {
@@ -496,6 +496,43 @@ fn is_set(text: &[u8], length: usize) -> bool
     }
     let (name, rest) = text.split_at(length);
     is_set_by(text, name, rest)
+}
+
+/// Returns whether a text of a bracket, a name and a rest assigns one word.
+#[tactic(auto, using(crate::proofs::Telling::quoted_set_by))]
+fn is_quoted_set_by(text: &[u8], inner: &[u8], name: &[u8], rest: &[u8]) -> bool
+    requires text { text.now ≡ codes "[" ++ inner.now }
+    requires inner { inner.now ≡ name.now ++ rest.now }
+    ensures { IsTrue result → specs.IsSet text.now }
+{
+    let _ = inner;
+    match rest_after(rest, b"]=") {
+        Some(word) => is_set_to(text, name, word),
+        None => false,
+    }
+}
+
+/// Returns whether a text of a bracket and of what begins with a name of some length assigns one
+/// word.
+fn is_quoted_set(text: &[u8], inner: &[u8], length: usize) -> bool
+    requires { text.now ≡ codes "[" ++ inner.now }
+    ensures { IsTrue result → specs.IsSet text.now }
+{
+    if inner.len() < length {
+        return false;
+    }
+    let (name, rest) = inner.split_at(length);
+    is_quoted_set_by(text, inner, name, rest)
+}
+
+/// Returns whether a text assigns one word to a variable.
+fn is_set(text: &[u8]) -> bool
+    ensures { IsTrue result → specs.IsSet text.now }
+{
+    match rest_after(text, b"[") {
+        Some(inner) => is_quoted_set(text, inner, name_length(inner)),
+        None => is_plain_set(text, name_length(text)),
+    }
 }
 
 /// Writes what takes the place of an `export` of this, if it is names or an assignment.
@@ -517,7 +554,7 @@ fn pass_export(
     if are_names(rest) {
         return put_silenced(alloc, text, start, at, end, command, EXPORTED, b":", pass);
     }
-    if is_set(rest, name_length(rest)) {
+    if is_set(rest) {
         return put_silenced(alloc, text, start, at, end, command, EXPORTED, rest, pass);
     }
     Ok(())

@@ -38,6 +38,7 @@ export a_b => dnl acrun: in place of export: no program that acrun starts sees t
 export a b => dnl acrun: in place of export: no program that acrun starts sees the variable^J:
 if a; then^J  export b="c d"^Jfi => if a; then^J  dnl acrun: in place of export: no program that acrun starts sees the variable^J  b="c d"^Jfi
 export PKG_CONFIG_PATH=/a:$b => dnl acrun: in place of export: no program that acrun starts sees the variable^JPKG_CONFIG_PATH=/a:$b
+export [PKG_CONFIG_PATH]=/a => dnl acrun: in place of export: no program that acrun starts sees the variable^J[PKG_CONFIG_PATH]=/a
 // a message before an error
 echo "no $a"; exit 1 => dnl acrun: in place of echo and exit: the message is an error^JAC_MSG_ERROR([no $a], [1])
   echo no a ;  exit 2 =>   dnl acrun: in place of echo and exit: the message is an error^J  AC_MSG_ERROR([no a], [2])
