@@ -10,6 +10,6 @@ returns-then-lacks_title c = record {
   first = c.in_ok-title.ensures.0;
   second = c.in_ok-title.ensures.1;
   lacks =
-    subst (λ name. LacksTitle c.args.text.now name (text_of (Some (arg_text c.args.text.now c.in_ok-title.title.version)))) c.inner.ensures
-    (subst (λ version. LacksTitle c.args.text.now c.inner.result.now version) c.inner-then-is_init.ensures (c.if-lacks_title.ensures refl));
+      subst (λ name. LacksTitle c.args.text.now name (text_of (Some (arg_text c.args.text.now c.in_ok-title.title.version)))) c.inner.ensures
+      (subst (λ version. LacksTitle c.args.text.now c.inner.result.now version) c.inner-then-is_init.ensures (c.if-lacks_title.ensures refl));
 }
