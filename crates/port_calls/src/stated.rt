@@ -325,6 +325,26 @@ fn can_be_put(
     Ok(can_be_made(&known, text, spot, call))
 }
 
+/// Returns the text in which the call of this index has this name and this version.
+fn with_found(
+    alloc: Global,
+    naming: Package<'_>,
+    text: &[u8],
+    calls: &[CallAt],
+    spot: Spot,
+    i: usize,
+) -> Result<Option<Vec<u8>>, AllocError>
+    requires calls { map macro_call_of calls.now ≡ calls_in text.now }
+    ensures { IfOk result (λ o.
+        IfSome o (λ v.
+        specs.IsStated naming.entry.name.now naming.entry.version.now text.now v.items)) }
+{
+    if calls.len() <= i {
+        return Ok(None);
+    }
+    with_call(alloc, naming, text, calls, spot, &calls[i])
+}
+
 /// Returns the text in which AC_INIT has this name and this version, below a comment, if the first
 /// call of it has two arguments, of which one is not kept: it is empty, acrun doesn't read it, or it
 /// calls a macro. A version without a digit isn't kept either. Returns `None` if nothing changes.
@@ -344,13 +364,8 @@ pub fn with_package(
         specs.IsStated naming.entry.name.now naming.entry.version.now text.now v.items)) }
 {
     let calls = calls_of(alloc, text)?;
-    let calls = calls.as_slice();
-    let Some(init) = init_in(text, calls) else {
+    let Some(init) = init_in(text, calls.as_slice()) else {
         return Ok(None);
     };
-    let i = init.index;
-    if calls.len() <= i {
-        return Ok(None);
-    }
-    with_call(alloc, naming, text, calls, init.spot, &calls[i])
+    with_found(alloc, naming, text, calls.as_slice(), init.spot, init.index)
 }
