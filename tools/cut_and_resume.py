@@ -479,7 +479,7 @@ def broken_sources():
         {"gone1": "ac_cv_prog_T", "here2": "ac_cv_prog_T"})
     moved = found["a test without a saved value gets other replies"] = source(
         CHECK.format(1, "AC_COMPILE_IFELSE([AC_LANG_PROGRAM([], [unsteady])], [my_cv_thing_1='a\nb'], [my_cv_thing_1='b\na'])")
-        + "AC_SUBST([my_cv_thing_1])\nAC_DEFINE_UNQUOTED([D0], [\"$my_cv_thing_1\"])\nv0=$my_cv_thing_1\n" + LAST)
+        + "AC_SUBST([my_cv_thing_1])\nAC_DEFINE_UNQUOTED([THING], [\"$my_cv_thing_1\"])\nv0=$my_cv_thing_1\n" + LAST)
     tried.before_again = moved.before_again = set_moved
     doubled = "v1=$v1$v1\n" * 16
     found["the cache is over its limit"] = source(
