@@ -115,11 +115,27 @@ TRIALS = {
         Trial("[-g]", {"CFLAGS": " -g"}),
         Trial("[-fno-such-flag]", {"CFLAGS": ""}),
     ],
+    "AX_CHECK_COMPILE_FLAG(actions)": [
+        Trial(None, {"has_wall": "yes", "CFLAGS": ""}),
+        Trial("[-fno-such-flag], [has_it=yes], [has_it=no]", {"has_it": "no", "CFLAGS": ""}),
+    ],
+    "AX_CHECK_COMPILE_FLAG(flags)": [
+        Trial(None, {"has_wall": "yes", "CFLAGS": ""}),
+        Trial("[-Wall], [has_it=yes], [has_it=no], [-fno-such-flag]", {"has_it": "no", "CFLAGS": ""}),
+    ],
     "AX_APPEND_FLAG": [Trial(None, {"CFLAGS": " -Wall"}), Trial("[-Wall]", {"CFLAGS": "-g -Wall"}, ("CFLAGS=-g",))],
     "AX_CHECK_LINK_FLAG": [
         Trial(None, {"LDFLAGS": " -Wl,-z,now"}),
         Trial("[-Wl,-z,relro]", {"LDFLAGS": " -Wl,-z,relro"}),
         Trial("[-Wl,--no-such-option]", {"LDFLAGS": ""}),
+    ],
+    "AX_CHECK_LINK_FLAG(actions)": [
+        Trial(None, {"has_now": "yes", "LDFLAGS": ""}),
+        Trial("[-Wl,--no-such-option], [has_it=yes], [has_it=no]", {"has_it": "no", "LDFLAGS": ""}),
+    ],
+    "AX_CHECK_LINK_FLAG(flags)": [
+        Trial(None, {"has_now": "yes", "LDFLAGS": ""}),
+        Trial("[-Wl,-z,now], [has_it=yes], [has_it=no], [-Wl,--no-such-option]", {"has_it": "no", "LDFLAGS": ""}),
     ],
     "AX_PTHREAD": [
         Trial("", {"HAVE_PTHREAD": "1", "PTHREAD_CC": "cc", "PTHREAD_CFLAGS": "-pthread", "PTHREAD_LIBS": ""}),

@@ -9,10 +9,28 @@ fn is(name: &[u8], word: &[u8]) -> bool
     name == word
 }
 
+/// Returns the name of the entry for a check of a flag with so many arguments. For all other calls
+/// it is the name itself.
+fn flag_entry(name: &[u8], count: usize) -> &[u8]
+    ensures { result.now ≡ words.flag_entry name.now count }
+{
+    if is(name, b"AX_CHECK_COMPILE_FLAG") && 3 < count {
+        b"AX_CHECK_COMPILE_FLAG(flags)"
+    } else if is(name, b"AX_CHECK_COMPILE_FLAG") && 1 < count {
+        b"AX_CHECK_COMPILE_FLAG(actions)"
+    } else if is(name, b"AX_CHECK_LINK_FLAG") && 3 < count {
+        b"AX_CHECK_LINK_FLAG(flags)"
+    } else if is(name, b"AX_CHECK_LINK_FLAG") && 1 < count {
+        b"AX_CHECK_LINK_FLAG(actions)"
+    } else {
+        name
+    }
+}
+
 /// Returns the name of the entry for a call of a macro of this name with so many arguments. It is
 /// the name itself, but a check of members with actions or with includes has an entry of its own,
-/// and so have AM_INIT_AUTOMAKE with a name and a version, and PKG_CHECK_MODULES with modules
-/// (own).
+/// and so have a check of a flag with actions, AM_INIT_AUTOMAKE with a name and a version, and
+/// PKG_CHECK_MODULES with modules (own).
 pub fn entry_name(name: &[u8], count: usize) -> &[u8]
     ensures { result.now ≡ words.entry_name name.now count }
 {
@@ -31,7 +49,7 @@ pub fn entry_name(name: &[u8], count: usize) -> &[u8]
     } else if is(name, b"PKG_CHECK_MODULES") && 1 < count {
         b"PKG_CHECK_MODULES(flags)"
     } else {
-        name
+        flag_entry(name, count)
     }
 }
 

@@ -526,13 +526,37 @@ CFLAGS_before=$CFLAGS
 CFLAGS=\"$CFLAGS $1!{FLAG}\"
 AC_CACHE_CHECK([whether the compiler accepts $1!{FLAG}], [my_cv_flag_$1_{FLAG}],
   [AC_COMPILE_IFELSE([AC_LANG_PROGRAM([], [])], [my_cv_flag_$1_{FLAG}=yes], [my_cv_flag_$1_{FLAG}=no])])
-AS_IF([test \"$my_cv_flag_$1_{FLAG}\" != yes], [CFLAGS=$CFLAGS_before])~idiom AX_APPEND_FLAG
+AS_IF([test \"$my_cv_flag_$1_{FLAG}\" != yes], [CFLAGS=$CFLAGS_before])~idiom AX_CHECK_COMPILE_FLAG(actions) AX_CHECK_COMPILER_FLAGS
+CFLAGS_before=$CFLAGS
+CFLAGS=\"$CFLAGS $1{FLAG}\"
+AC_CACHE_CHECK([whether the C compiler accepts $1{FLAG}], [ax_cv_check_cflags__$1_{FLAG}],
+  [AC_COMPILE_IFELSE([AC_LANG_PROGRAM([], [])], [ax_cv_check_cflags__$1_{FLAG}=yes], [ax_cv_check_cflags__$1_{FLAG}=no])])
+CFLAGS=$CFLAGS_before
+AS_IF([test \"$ax_cv_check_cflags__$1_{FLAG}\" = yes], [$2{ACCEPTED}], [$3{REFUSED}])~idiom AX_CHECK_COMPILE_FLAG(flags)
+CFLAGS_before=$CFLAGS
+CFLAGS=\"$CFLAGS $4{FLAGS} $1{FLAG}\"
+AC_CACHE_CHECK([whether the C compiler accepts $1{FLAG}], [ax_cv_check_cflags_$4_{FLAGS}_$1_{FLAG}],
+  [AC_COMPILE_IFELSE([AC_LANG_PROGRAM([], [])], [ax_cv_check_cflags_$4_{FLAGS}_$1_{FLAG}=yes], [ax_cv_check_cflags_$4_{FLAGS}_$1_{FLAG}=no])])
+CFLAGS=$CFLAGS_before
+AS_IF([test \"$ax_cv_check_cflags_$4_{FLAGS}_$1_{FLAG}\" = yes], [$2{ACCEPTED}], [$3{REFUSED}])~idiom AX_APPEND_FLAG
 CFLAGS=\"$CFLAGS $1{FLAGS}\"~idiom AX_CHECK_LINK_FLAG
 LDFLAGS_before=$LDFLAGS
 LDFLAGS=\"$LDFLAGS $1!{-Wl,FLAG}\"
 AC_CACHE_CHECK([whether the linker accepts $1!{-Wl,FLAG}], [my_cv_flag_$1_{FLAG}],
   [AC_LINK_IFELSE([AC_LANG_PROGRAM([], [])], [my_cv_flag_$1_{FLAG}=yes], [my_cv_flag_$1_{FLAG}=no])])
-AS_IF([test \"$my_cv_flag_$1_{FLAG}\" != yes], [LDFLAGS=$LDFLAGS_before])~idiom AX_PTHREAD ACX_PTHREAD
+AS_IF([test \"$my_cv_flag_$1_{FLAG}\" != yes], [LDFLAGS=$LDFLAGS_before])~idiom AX_CHECK_LINK_FLAG(actions)
+LDFLAGS_before=$LDFLAGS
+LDFLAGS=\"$LDFLAGS $1{FLAG}\"
+AC_CACHE_CHECK([whether the linker accepts $1{FLAG}], [ax_cv_check_ldflags__$1_{FLAG}],
+  [AC_LINK_IFELSE([AC_LANG_PROGRAM([], [])], [ax_cv_check_ldflags__$1_{FLAG}=yes], [ax_cv_check_ldflags__$1_{FLAG}=no])])
+LDFLAGS=$LDFLAGS_before
+AS_IF([test \"$ax_cv_check_ldflags__$1_{FLAG}\" = yes], [$2{ACCEPTED}], [$3{REFUSED}])~idiom AX_CHECK_LINK_FLAG(flags)
+LDFLAGS_before=$LDFLAGS
+LDFLAGS=\"$LDFLAGS $4{FLAGS} $1{FLAG}\"
+AC_CACHE_CHECK([whether the linker accepts $1{FLAG}], [ax_cv_check_ldflags_$4_{FLAGS}_$1_{FLAG}],
+  [AC_LINK_IFELSE([AC_LANG_PROGRAM([], [])], [ax_cv_check_ldflags_$4_{FLAGS}_$1_{FLAG}=yes], [ax_cv_check_ldflags_$4_{FLAGS}_$1_{FLAG}=no])])
+LDFLAGS=$LDFLAGS_before
+AS_IF([test \"$ax_cv_check_ldflags_$4_{FLAGS}_$1_{FLAG}\" = yes], [$2{ACCEPTED}], [$3{REFUSED}])~idiom AX_PTHREAD ACX_PTHREAD
 AC_SEARCH_LIBS([pthread_create], [pthread],
   [AC_DEFINE([HAVE_PTHREAD], [1], [Define to 1 if you have POSIX threads.])])
 AC_SUBST([PTHREAD_CC], [\"$CC\"])

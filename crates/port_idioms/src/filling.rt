@@ -267,6 +267,14 @@ fn around_dot(text: &[u8]) -> Option<(&[u8], &[u8])>
     }
 }
 
+/// Returns whether the name of a shell variable can be made of a text without a shell.
+fn can_name(text: &[u8]) -> bool {
+    !text.is_empty()
+        && text
+            .iter()
+            .all(|byte| is_plain_byte(*byte) || *byte == b',')
+}
+
 /// Returns whether a text with these blanks after it can have a form.
 fn can_have(form: Form, text: &[u8], blanks: &[u8]) -> bool {
     match form {
@@ -274,6 +282,7 @@ fn can_have(form: Form, text: &[u8], blanks: &[u8]) -> bool {
         Form::Whole => true,
         Form::OneWord => is_word(text),
         Form::WholeWord => is_word(text) && blanks.is_empty(),
+        Form::ShellName => can_name(text),
         _ => is_plain(text),
     }
 }

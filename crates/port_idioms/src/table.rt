@@ -274,6 +274,11 @@ AM_XGETTEXT_OPTION 1 1 a rule of the Makefile makes the catalogues
 AS_EXIT 1 1 a message is printed, and acrun refuses 0 as the status
 AS_UNSET 1 1 the variable is empty and not unset
 AS_VAR_SET_IF 1 3 a variable that is set to nothing counts as one that is not set
+AX_CHECK_COMPILER_FLAGS 2 3 the flag is tried for C alone, and -Werror is not added to it
+AX_CHECK_COMPILE_FLAG(actions) 2 3 the flag is tried for C alone, and -Werror is not added to it
+AX_CHECK_COMPILE_FLAG(flags) 4 4 the flag is tried for C alone, and -Werror is not added to it
+AX_CHECK_LINK_FLAG(actions) 2 3 the flag is tried for C alone
+AX_CHECK_LINK_FLAG(flags) 4 4 the flag is tried for C alone
 AX_PTHREAD 0 0 the library is added to LIBS, and PTHREAD_CFLAGS is -pthread without a check
 GCC 0 0 AC_PROG_CC does not set it here, so a program asks for __GNUC__
 LT_INIT 0 1 there is no libtool, so a rule of the Makefile links the library

@@ -289,3 +289,24 @@ m4_define([pkg], [a])^JAC_INIT([], []) => the same
 fn namings(rt: HostRuntime) -> Result<(), Fail> {
     try_rows(rt.alloc(), &Naming, NAMINGS)
 }
+
+/// A text with calls that try flags, and what becomes of it if all idioms are wanted.
+const FLAGS: &[u8] = br##"
+AX_CHECK_COMPILE_FLAG([-Wall], [a="$a -Wall"]) => dnl acrun: in place of AX_CHECK_COMPILE_FLAG(actions): the flag is tried for C alone, and -Werror is not added to it^JCFLAGS_before=$CFLAGS^JCFLAGS="$CFLAGS -Wall"^JAC_CACHE_CHECK([whether the C compiler accepts -Wall], [ax_cv_check_cflags___Wall],^J  [AC_COMPILE_IFELSE([AC_LANG_PROGRAM([], [])], [ax_cv_check_cflags___Wall=yes], [ax_cv_check_cflags___Wall=no])])^JCFLAGS=$CFLAGS_before^JAS_IF([test "$ax_cv_check_cflags___Wall" = yes], [a="$a -Wall"], [])
+AX_CHECK_LINK_FLAG(-Wa, b=1, [b=0]) => dnl acrun: in place of AX_CHECK_LINK_FLAG(actions): the flag is tried for C alone^JLDFLAGS_before=$LDFLAGS^JLDFLAGS="$LDFLAGS -Wa"^JAC_CACHE_CHECK([whether the linker accepts -Wa], [ax_cv_check_ldflags___Wa],^J  [AC_LINK_IFELSE([AC_LANG_PROGRAM([], [])], [ax_cv_check_ldflags___Wa=yes], [ax_cv_check_ldflags___Wa=no])])^JLDFLAGS=$LDFLAGS_before^JAS_IF([test "$ax_cv_check_ldflags___Wa" = yes], [b=1], [b=0])
+AX_CHECK_LINK_FLAG([-Wl,-z,now], [b=1], [], [-g]) => dnl acrun: in place of AX_CHECK_LINK_FLAG(flags): the flag is tried for C alone^JLDFLAGS_before=$LDFLAGS^JLDFLAGS="$LDFLAGS -g -Wl,-z,now"^JAC_CACHE_CHECK([whether the linker accepts -Wl,-z,now], [ax_cv_check_ldflags__g__Wl__z_now],^J  [AC_LINK_IFELSE([AC_LANG_PROGRAM([], [])], [ax_cv_check_ldflags__g__Wl__z_now=yes], [ax_cv_check_ldflags__g__Wl__z_now=no])])^JLDFLAGS=$LDFLAGS_before^JAS_IF([test "$ax_cv_check_ldflags__g__Wl__z_now" = yes], [b=1], [])
+AX_CHECK_COMPILER_FLAGS([-std=c99 -g], [], [b=1]) => dnl acrun: in place of AX_CHECK_COMPILER_FLAGS: the flag is tried for C alone, and -Werror is not added to it^JCFLAGS_before=$CFLAGS^JCFLAGS="$CFLAGS -std=c99 -g"^JAC_CACHE_CHECK([whether the C compiler accepts -std=c99 -g], [ax_cv_check_cflags___std_c99__g],^J  [AC_COMPILE_IFELSE([AC_LANG_PROGRAM([], [])], [ax_cv_check_cflags___std_c99__g=yes], [ax_cv_check_cflags___std_c99__g=no])])^JCFLAGS=$CFLAGS_before^JAS_IF([test "$ax_cv_check_cflags___std_c99__g" = yes], [], [b=1])
+// it has no action, or what is to be tried is not plain
+AX_CHECK_COMPILE_FLAG([-Wall]) => the same
+AX_CHECK_COMPILE_FLAG([$a], [b=1]) => the same
+AX_CHECK_COMPILE_FLAG([-D"a"], [b=1]) => the same
+AX_CHECK_COMPILE_FLAG([-Wall], [b=1], [], []) => the same
+AX_CHECK_COMPILE_FLAG([-Wall], [b=1], [], [$c]) => the same
+AX_CHECK_COMPILE_FLAG([-Wall], [b=1], [], [-g], [c]) => the same
+AX_APPEND_COMPILE_FLAGS([-Wall], [CFLAGS]) => the same
+"##;
+
+#[test]
+fn flags(rt: HostRuntime) -> Result<(), Fail> {
+    try_rows(rt.alloc(), &AllCalls, FLAGS)
+}
