@@ -1,5 +1,6 @@
 mod HereLines
 mod Marking
+mod Kept
 pub mod Fronts
 mod Places
 mod Spelled

@@ -31,14 +31,14 @@ quotes_after q (suc n) [] = q
 quotes_after q (suc n) (b ∷ bs) = quotes_after (m4.after q (b ∷ bs)) n bs
 
 -- a here-document is the same to m4
-quotes_step : (s : TextScan) (b : ℕ) (bs : List ℕ) → (text_after s (b ∷ bs)).scan.quotes ≡ m4.after s.scan.quotes (b ∷ bs)
+quotes_step : (s : TextScan) (b : ℕ) (bs : List ℕ) → (text_after s (b ∷ bs)).quotes ≡ m4.after s.quotes (b ∷ bs)
 quotes_step s b bs =
     elim (cases_Bool (is_here s.heres)) [
       | inl here ↦ rw here refl
       | inr other ↦ rw other refl
     ]
 
-quotes_of : (n : ℕ) (s : TextScan) (text : List ℕ) → (after_bytes s n text).scan.quotes ≡ quotes_after s.scan.quotes n text
+quotes_of : (n : ℕ) (s : TextScan) (text : List ℕ) → (after_bytes s n text).quotes ≡ quotes_after s.quotes n text
 unfolding after_bytes quotes_after
 quotes_of zero s text = refl
 quotes_of (suc n) s [] = refl
@@ -74,6 +74,6 @@ pieces_end (one_more {room} {k} {n} {text} piece more) q fits between =
     subst (λ (r : Quotes). IsBetween r (drop (k + n) text)) (sym (joined k n q text))
     (subst (λ (t : List ℕ). IsBetween (quotes_after (quotes_after q k text) n (drop k text)) t) (drop-drop n k text) last)
 
-pub after_pieces : (room n : ℕ) (text : List ℕ) → room ≤ 255 → ArePieces room text n → IsBetween (scan_at n text).scan.quotes (drop n text)
+pub after_pieces : (room n : ℕ) (text : List ℕ) → room ≤ 255 → ArePieces room text n → IsBetween (scan_at n text).quotes (drop n text)
 after_pieces room n text fits pieces =
     subst (λ (q : Quotes). IsBetween q (drop n text)) (sym (quotes_of n text_start text)) (pieces_end pieces m4.none_open fits (in_open never))

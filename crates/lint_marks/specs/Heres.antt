@@ -1,56 +1,15 @@
 -- Here-documents: texts that a shell reads from lines after a command. (POSIX shell, 2.7.4)
-use Rattle.std.specs.Prelude.{ℕ, ◌+◌, ◌-◌, min, Bool, true, ◌&&◌, ◌||◌, not, List, [], ◌∷◌, length, take, drop, ◌==◌, if◌then◌else◌}
+use Rattle.std.specs.Prelude.{ℕ, ◌+◌, ◌-◌, min, Bool, true, ◌&&◌, not, List, [], ◌∷◌, length, take, drop, ◌==◌, if◌then◌else◌}
 use Rattle.std.specs.List.{prefix_len}
 use Rattle.std.specs.Str.{bytes_eq}
-use Rattle.m4quote.specs.Text.{open_bracket, line_len, whole_line_len}
-use Rattle.shellword.specs.Text.{backslash, single_quote, double_quote, newline, begins_with}
-pub use Rattle.text_cut.specs.Cuts.{is_space}
-use Rattle.shell_bare.specs.Text.{is_part_end}
+use Rattle.m4quote.specs.Text.{line_len, whole_line_len}
+use Rattle.shellword.specs.Text.{newline, begins_with}
+use Rattle.lint_marks.specs.Delimiters.{less, dash, delimiter}
 use Rattle.lint_marks.specs.declared.heres.HereTexts.{HereTexts}
-
--- `<`. (POSIX shell, 2.7)
-abbrev pub less : ℕ
-less = 60
-
--- `-`. (POSIX shell, 2.7.4)
-abbrev pub dash : ℕ
-dash = 45
-
--- A byte of an operator, which ends a word. (POSIX shell, 2.3)
-abbrev pub is_operator : ℕ → Bool
-is_operator b = b == less || b == 62 || b == 38 || b == 124 || b == 40 || b == 41
-
--- A byte of a word that is no quote. (POSIX shell, 2.3)
-abbrev pub is_in_word : ℕ → Bool
-is_in_word b = not (is_part_end b) && not (is_operator b)
 
 -- A tab. (POSIX shell, 2.7.4)
 abbrev pub is_tab : ℕ → Bool
 is_tab b = b == 9
-
--- The text after `<<` without the `-`. (POSIX shell, 2.7.4)
-abbrev pub after_dash : List ℕ → List ℕ
-after_dash text = if begins_with dash text then drop 1 text else text
-
--- The text without blanks at its front. (own)
-abbrev pub after_blanks : List ℕ → List ℕ
-after_blanks text = drop (prefix_len is_space text) text
-
--- The bytes before the first that ends a word. (own)
-abbrev pub front_word : List ℕ → List ℕ
-front_word text = take (prefix_len is_in_word text) text
-
--- A word without a quote at its front and the one that closes it. (own: a quote within a word is no part of a
--- delimiter; brackets around it are m4's)
-abbrev pub unquoted : List ℕ → List ℕ
-unquoted [] = []
-unquoted (b ∷ bs) =
-    if b == backslash then bs
-    else (if b == single_quote || b == double_quote || b == open_bracket then take (length bs - 1) bs else b ∷ bs)
-
--- The delimiter in a text after `<<`, or nothing. (POSIX shell, 2.7.4)
-abbrev pub delimiter : List ℕ → List ℕ
-delimiter text = unquoted (front_word (after_blanks (after_dash text)))
 
 -- A line without the tabs at its front, if they mean nothing. (POSIX shell, 2.7.4)
 abbrev pub without_tabs : Bool → List ℕ → List ℕ
@@ -76,22 +35,26 @@ none_here = record { until = 0; end = 0 }
 abbrev pub is_here : HereTexts → Bool
 is_here h = h.until == 0 && not (h.end == 0)
 
--- The text begins with `<<` and a delimiter. (POSIX shell, 2.7.4)
+-- The text begins with `<<`. (POSIX shell, 2.7.4)
 abbrev pub begins_here : List ℕ → Bool
-begins_here text = begins_with less text && begins_with less (drop 1 text) && not (length (delimiter (drop 2 text)) == 0)
+begins_here text = begins_with less text && begins_with less (drop 1 text)
 
 -- The offset at which a here-document begins whose `<<` is at the front of a text: after this line, or after those that
 -- are to come already. (POSIX shell, 2.7.4; that a quoted newline ends the line is own)
 abbrev pub here_start : HereTexts → List ℕ → ℕ
 here_start h text = if h.end == 0 then whole_line_len text else min h.end (length text)
 
--- With the here-document whose `<<` is at the front of a text. (own)
-abbrev pub with_here : HereTexts → List ℕ → HereTexts
-with_here h text = record {
+-- With the here-document whose `<<` is at the front of a text, and that has this delimiter. (own)
+abbrev pub with_word : HereTexts → List ℕ → List ℕ → HereTexts
+with_word h word text = record {
   until = if h.end == 0 then whole_line_len text else h.until;
-  end = here_start h text + here_len (begins_with dash (drop 2 text)) (delimiter (drop 2 text)) true (drop (here_start h text) text);
+  end = here_start h text + here_len (begins_with dash (drop 2 text)) word true (drop (here_start h text) text);
 }
 
--- After one byte. (own)
-abbrev pub one_on : HereTexts → HereTexts
-one_on h = record { until = h.until - 1; end = h.end - 1 }
+-- With the here-document whose `<<` is at the front of a text, if a delimiter follows. (POSIX shell, 2.7.4)
+abbrev pub with_here : HereTexts → List ℕ → HereTexts
+with_here h text = if length (delimiter (drop 2 text)) == 0 then h else with_word h (delimiter (drop 2 text)) text
+
+-- After this many bytes. (own)
+abbrev pub past : ℕ → HereTexts → HereTexts
+past n h = record { until = h.until - n; end = h.end - n }

@@ -54,6 +54,17 @@ begins_dropped q text = is_text q.part && q.depth == 0 && not q.is_name && begin
 abbrev pub is_outer_bracket : Quotes → ℕ → Bool
 is_outer_bracket q b = is_text q.part && (b == open_bracket && q.depth == 0 || b == close_bracket && q.depth == 1)
 
+-- The place is in a dropped line. (own)
+abbrev pub is_dropped : QuotePart → Bool
+is_dropped Dropped = true
+is_dropped Comment = false
+is_dropped Text = false
+
+-- m4 takes the byte with which a text begins away: it is one of a dropped line, or a bracket of the outermost quotes.
+-- (GNU M4's manual, "Quoted strings" and "Dnl")
+abbrev pub is_removed : Quotes → ℕ → List ℕ → Bool
+is_removed q b text = is_dropped q.part || begins_dropped q text || is_outer_bracket q b
+
 -- After the first byte of a text. (GNU M4's manual, "Quoted strings", "Comments" and "Dnl")
 abbrev pub after : Quotes → List ℕ → Quotes
 after q [] = q

@@ -47,7 +47,7 @@ pub fn map_laws()
         → get_or (marks_of text) n other ≡ mark_of (scan_at n text) }
     // If the text up to a place consists of pieces, the next piece may begin there.
     ensures pieces { (room n : ℕ) (text : List ℕ) → room ≤ 255 → specs.ArePieces room text n
-        → specs.IsBetween (scan_at n text).scan.quotes (drop n text) }
+        → specs.IsBetween (scan_at n text).quotes (drop n text) }
     // A text that is read as calls and bare text consists of pieces.
     ensures spelled { (at : ℕ) (text : List ℕ) (items : List ItemValue) → IsSpelling at text items
         → specs.ArePieces 64 text (length text) }

@@ -1,13 +1,14 @@
 //! Here-documents: texts that a shell reads from lines after a command (POSIX shell, 2.7.4).
 
-ghost use Rattle.std.specs.Prelude.{◌≡◌, ◌≤◌, true, length, drop};
+ghost use Rattle.std.specs.Prelude.{◌≡◌, ◌≤◌, true, length, drop, IfOk};
 ghost use Rattle.std.specs.List.{prefix_len};
 ghost use Rattle.m4quote.specs.Text as bytes;
 ghost use Rattle.shellword.specs.Text.{begins_with};
+ghost use Rattle.lint_marks.specs.Delimiters.{dash};
 ghost use Rattle.lint_marks.specs.Heres as specs;
 
-use shell_bare::is_part_end;
-use text_cut::is_space;
+use crate::delimiter::delimiter;
+use std::alloc::{AllocError, Global};
 
 /// The here-documents that are to come on the lines after a place.
 #[derive(Clone, Copy)]
@@ -35,79 +36,12 @@ fn whole_line_len(text: &[u8]) -> usize
     if len < text.len() { len + 1 } else { len }
 }
 
-fn is_operator(byte: u8) -> bool
-    ensures { result ≡ specs.is_operator byte }
-{
-    matches!(byte, b'<' | b'>' | b'&' | b'|' | b'(' | b')')
-}
-
-fn is_in_word(byte: u8) -> bool
-    ensures { result ≡ specs.is_in_word byte }
-{
-    !is_part_end(byte) && !is_operator(byte)
-}
-
-/// Returns the number of blanks at the front.
-fn blank_len(text: &[u8]) -> usize
-    ensures value { result ≡ prefix_len specs.is_space text.now }
-    ensures within { result ≤ length text.now }
-{
-    text.iter().take_while(|byte| is_space(**byte)).count()
-}
-
 /// Returns the number of tabs at the front.
 fn tab_len(text: &[u8]) -> usize
     ensures value { result ≡ prefix_len specs.is_tab text.now }
     ensures within { result ≤ length text.now }
 {
     text.iter().take_while(|byte| **byte == b'\t').count()
-}
-
-/// Returns the number of bytes before the first that ends a word.
-fn word_len(text: &[u8]) -> usize
-    ensures value { result ≡ prefix_len specs.is_in_word text.now }
-    ensures within { result ≤ length text.now }
-{
-    text.iter().take_while(|byte| is_in_word(**byte)).count()
-}
-
-fn after_dash(text: &[u8]) -> &[u8]
-    ensures { result.now ≡ specs.after_dash text.now }
-{
-    match text {
-        [b'-', rest @ ..] => rest,
-        _ => text,
-    }
-}
-
-fn after_blanks(text: &[u8]) -> &[u8]
-    ensures { result.now ≡ specs.after_blanks text.now }
-{
-    &text[blank_len(text)..]
-}
-
-fn front_word(text: &[u8]) -> &[u8]
-    ensures { result.now ≡ specs.front_word text.now }
-{
-    &text[..word_len(text)]
-}
-
-/// Returns a word without the quotes around it.
-fn unquoted(word: &[u8]) -> &[u8]
-    ensures { result.now ≡ specs.unquoted word.now }
-{
-    match word {
-        [b'\\', rest @ ..] => rest,
-        [b'\'' | b'"' | b'[', rest @ ..] => &rest[..rest.len().saturating_sub(1)],
-        _ => word,
-    }
-}
-
-/// Returns the delimiter in a text after `<<`, or nothing.
-fn delimiter(text: &[u8]) -> &[u8]
-    ensures { result.now ≡ specs.delimiter text.now }
-{
-    unquoted(front_word(after_blanks(after_dash(text))))
 }
 
 /// Returns a line without the tabs at its front, if they mean nothing.
@@ -144,14 +78,11 @@ fn here_len(text: &[u8], word: &[u8], drops_tabs: bool) -> usize
     text.len()
 }
 
-/// Returns whether a text begins with `<<` and a delimiter.
+/// Returns whether a text begins with `<<`.
 pub(crate) fn begins_here(text: &[u8]) -> bool
     ensures { result ≡ specs.begins_here text.now }
 {
-    match text {
-        [b'<', b'<', rest @ ..] => !delimiter(rest).is_empty(),
-        _ => false,
-    }
+    matches!(text, [b'<', b'<', ..])
 }
 
 /// Returns a text without two bytes at its front.
@@ -165,7 +96,7 @@ fn after_operator(text: &[u8]) -> &[u8]
 }
 
 fn has_dash(text: &[u8]) -> bool
-    ensures { result ≡ begins_with specs.dash text.now }
+    ensures { result ≡ begins_with dash text.now }
 {
     matches!(text, [b'-', ..])
 }
@@ -197,13 +128,13 @@ impl HereTexts {
         }
     }
 
-    /// Returns them with the one whose `<<` is at the front of a text.
-    pub(crate) fn with(self, text: &[u8]) -> HereTexts
-        ensures { result ≡ specs.with_here self text.now }
+    /// Returns them with the one whose `<<` is at the front of a text, and that has this delimiter.
+    fn with_word(self, word: &[u8], text: &[u8]) -> HereTexts
+        ensures { result ≡ specs.with_word self word.now text.now }
     {
         let start = self.start(text);
         let rest = after_operator(text);
-        let len = here_len(&text[start..], delimiter(rest), has_dash(rest));
+        let len = here_len(&text[start..], word, has_dash(rest));
         let until = if self.end == 0 {
             whole_line_len(text)
         } else {
@@ -215,13 +146,24 @@ impl HereTexts {
         }
     }
 
-    /// Returns them after one byte.
-    pub(crate) fn one_on(self) -> HereTexts
-        ensures { result ≡ specs.one_on self }
+    /// Returns them with the one whose `<<` is at the front of a text, if a delimiter follows.
+    pub(crate) fn with(self, alloc: Global, text: &[u8]) -> Result<HereTexts, AllocError>
+        ensures { IfOk result (λ h. h ≡ specs.with_here self text.now) }
+    {
+        let word = delimiter(alloc, after_operator(text))?;
+        if word.len() == 0 {
+            return Ok(self);
+        }
+        Ok(self.with_word(word.as_slice(), text))
+    }
+
+    /// Returns them after this many bytes.
+    pub(crate) fn past(self, len: usize) -> HereTexts
+        ensures { result ≡ specs.past len self }
     {
         HereTexts {
-            until: self.until.saturating_sub(1),
-            end: self.end.saturating_sub(1),
+            until: self.until.saturating_sub(len),
+            end: self.end.saturating_sub(len),
         }
     }
 }

@@ -1,12 +1,13 @@
 //! The marks of a text.
 
-ghost use Rattle.std.specs.Prelude.{◌≡◌, IfOk};
+ghost use Rattle.std.specs.Prelude.{◌≡◌, IfOk, OnOk};
+ghost use Rattle.lint_marks.specs.Heres.{is_here};
 ghost use Rattle.lint_marks.specs.Marks as specs;
 
 use crate::heres::{HereTexts, begins_here};
-use crate::quotes::QuotePart;
-use crate::scan::{Scan, ShellState};
-use shell_bare::BareContext;
+use crate::nest::ShellNest;
+use crate::nesting::{NestPlace, Nesting};
+use crate::quotes::{QuotePart, Quotes};
 use std::alloc::{AllocError, Global};
 
 /// What a place is in. If it is in a comment of m4 and in quotes of the shell, it is in a comment.
@@ -28,6 +29,8 @@ pub enum MarkKind {
     Single,
     /// Double quotes of the shell.
     Double,
+    /// Backquotes of the shell, or what `$(` or `${` begins.
+    Substitution,
 }
 
 /// What is open at a place.
@@ -39,107 +42,193 @@ pub struct Mark {
     pub kind: MarkKind,
 }
 
+/// Returns what a word has open.
+fn kind_of_nesting(nesting: Nesting) -> MarkKind
+    ensures { result ≡ specs.kind_of_nesting nesting }
+{
+    match nesting {
+        Nesting::Single => MarkKind::Single,
+        Nesting::Double => MarkKind::Double,
+        Nesting::Back => MarkKind::Substitution,
+        Nesting::Paren => MarkKind::Substitution,
+        Nesting::Brace => MarkKind::Substitution,
+    }
+}
+
+/// Returns what a place outside quotes and substitutions is in.
+fn kind_of_place(place: NestPlace) -> MarkKind
+    ensures { result ≡ specs.kind_of_place place }
+{
+    match place {
+        NestPlace::Start => MarkKind::Start,
+        NestPlace::Word => MarkKind::Word,
+        NestPlace::Comment => MarkKind::Comment,
+    }
+}
+
+/// Returns what a place is in that is in no comment.
+fn kind_within(inner: Option<Nesting>, place: NestPlace) -> MarkKind
+    ensures { result ≡ specs.kind_within inner place }
+{
+    match inner {
+        None => kind_of_place(place),
+        Some(nesting) => kind_of_nesting(nesting),
+    }
+}
+
 /// Returns what a place of text is in.
-fn kind_of_shell(shell: ShellState) -> MarkKind
-    ensures { result ≡ specs.kind_of_shell shell }
+fn kind_of_shell(shell: &ShellNest) -> MarkKind
+    ensures { result ≡ specs.kind_of_shell shell.now }
 {
     if shell.is_escaped {
-        return MarkKind::Escaped;
-    }
-    match shell.place {
-        BareContext::Start => MarkKind::Start,
-        BareContext::Word => MarkKind::Word,
-        BareContext::Single => MarkKind::Single,
-        BareContext::Double => MarkKind::Double,
-        BareContext::Comment => MarkKind::Comment,
+        MarkKind::Escaped
+    } else if shell.place.is_comment() {
+        MarkKind::Comment
+    } else {
+        kind_within(shell.nested.innermost(), shell.place)
     }
 }
 
 /// What is open at a place, with the here-documents that are to come.
-#[derive(Clone, Copy)]
+#[derive(Drop)]
 pub struct TextScan {
-    /// What m4 and the shell have open.
-    pub scan: Scan,
+    /// What m4 has open.
+    pub quotes: Quotes,
+    /// What the shell has open.
+    pub shell: ShellNest,
     /// The here-documents.
     pub heres: HereTexts,
 }
 
 impl TextScan {
     /// Returns what is open at the start of a text.
-    pub fn new() -> TextScan
+    pub fn new(alloc: Global) -> TextScan
         ensures { result ≡ specs.text_start }
     {
         TextScan {
-            scan: Scan::new(),
+            quotes: Quotes::new(),
+            shell: ShellNest::new(alloc),
             heres: HereTexts::new(),
         }
     }
 
-    /// Returns whether the `<<` of a here-document is at the front of a text.
-    fn starts_here(self, byte: u8, text: &[u8]) -> bool
-        ensures { result ≡ specs.starts_here self.scan byte text.now }
+    /// Returns whether a command may have its words here: the place is in no quotes, no
+    /// substitution, no comment and no here-document, and no backslash is before it.
+    pub fn is_outside(&self) -> bool
+        ensures { result ≡ specs.is_outside_all self.now }
     {
-        self.scan.shell.is_bare() && begins_here(text) && !self.scan.is_unseen(byte, text)
+        self.shell.is_bare() && !self.heres.is_here()
+    }
+
+    /// Returns whether the place is in a here-document.
+    pub fn is_here(&self) -> bool
+        ensures { result ≡ is_here self.now.heres }
+    {
+        self.heres.is_here()
+    }
+
+    /// Returns whether the place is in a comment of the shell that is in no substitution.
+    pub fn is_comment(&self) -> bool
+        ensures { result ≡ specs.is_outer_comment self.now }
+    {
+        self.shell.nested.is_closed() && self.shell.place.is_comment() && !self.heres.is_here()
+    }
+
+    /// Returns whether the `<<` of a here-document is at the front of a text.
+    fn starts_here(&self, byte: u8, text: &[u8]) -> bool
+        ensures { result ≡ specs.starts_here self.now byte text.now }
+    {
+        self.shell.is_bare() && begins_here(text) && !self.quotes.is_removed(byte, text)
     }
 
     /// Returns the here-documents after a byte that is in none.
-    fn heres_after(self, byte: u8, text: &[u8]) -> HereTexts
-        ensures { result ≡ specs.heres_after self byte text.now }
+    fn heres_after(&self, alloc: Global, byte: u8, text: &[u8]) -> Result<HereTexts, AllocError>
+        ensures { IfOk result (λ h. h ≡ specs.heres_after self.now byte text.now) }
     {
         if self.starts_here(byte, text) {
-            self.heres.with(text).one_on()
-        } else {
-            self.heres.one_on()
+            let heres = self.heres.with(alloc, text)?;
+            return Ok(heres.past(1));
         }
+        Ok(self.heres.past(1))
     }
 
-    /// Returns what is open after a byte of a here-document, of which the shell reads no words.
-    fn after_here(self, text: &[u8]) -> TextScan
-        ensures { result ≡ specs.after_here self text.now }
+    /// Goes past a byte that the shell sees, unless m4 takes it away.
+    fn read_shell(&mut self, byte: u8, text: &[u8]) -> Result<(), AllocError>
+        ensures shell { OnOk result (self.new.shell ≡ specs.nest_seen self.old byte text.now) }
+        ensures quotes { OnOk result (self.new.quotes ≡ self.old.quotes) }
+        ensures heres { OnOk result (self.new.heres ≡ self.old.heres) }
     {
-        TextScan {
-            scan: Scan {
-                quotes: self.scan.quotes.after(text),
-                shell: self.scan.shell,
-            },
-            heres: self.heres.one_on(),
+        if self.quotes.is_removed(byte, text) {
+            return Ok(());
         }
+        self.shell.read(byte)?;
+        Ok(())
     }
 
-    /// Returns what is open after the first byte of the text that begins at this place.
-    pub fn after(self, text: &[u8]) -> TextScan
-        ensures { result ≡ specs.text_after self text.now }
+    /// Goes past a byte that is in no here-document.
+    fn read_seen(&mut self, alloc: Global, byte: u8, text: &[u8]) -> Result<(), AllocError>
+        ensures { OnOk result (self.new ≡ specs.after_seen self.old byte text.now) }
+    {
+        let heres = self.heres_after(alloc, byte, text)?;
+        self.read_shell(byte, text)?;
+        self.heres = heres;
+        self.quotes = self.quotes.after(text);
+        Ok(())
+    }
+
+    /// Goes past a byte of a here-document, of which the shell reads no words.
+    fn read_here(&mut self, text: &[u8])
+        ensures { self.new ≡ specs.after_here self.old text.now }
+    {
+        self.heres = self.heres.past(1);
+        self.quotes = self.quotes.after(text);
+    }
+
+    /// Goes past the first byte of the text that begins at this place.
+    ///
+    /// # Errors
+    ///
+    /// Fails if memory runs out.
+    pub fn read(&mut self, alloc: Global, text: &[u8]) -> Result<(), AllocError>
+        ensures { OnOk result (self.new ≡ specs.text_after self.old text.now) }
     {
         match text {
-            [] => self,
+            [] => Ok(()),
             [byte, ..] => {
                 if self.heres.is_here() {
-                    return self.after_here(text);
+                    self.read_here(text);
+                    return Ok(());
                 }
-                TextScan {
-                    scan: self.scan.after(text),
-                    heres: self.heres_after(*byte, text),
-                }
+                self.read_seen(alloc, *byte, text)
             }
         }
     }
 
+    /// Goes past a call of this many bytes. A comment may begin after it.
+    pub fn pass_call(&mut self, len: usize)
+        ensures { self.new ≡ specs.text_after_call len self.old }
+    {
+        self.quotes.is_name = false;
+        self.shell.move_to(NestPlace::Start);
+        self.heres = self.heres.past(len);
+    }
+
     /// Returns what a place of text is in.
-    fn kind_of_text(self) -> MarkKind
-        ensures { result ≡ specs.kind_of_text self }
+    fn kind_of_text(&self) -> MarkKind
+        ensures { result ≡ specs.kind_of_text self.now }
     {
         if self.heres.is_here() {
             MarkKind::Here
         } else {
-            kind_of_shell(self.scan.shell)
+            kind_of_shell(&self.shell)
         }
     }
 
     /// Returns what a place is in.
-    fn kind(self) -> MarkKind
-        ensures { result ≡ specs.kind_of self }
+    fn kind(&self) -> MarkKind
+        ensures { result ≡ specs.kind_of self.now }
     {
-        match self.scan.quotes.part {
+        match self.quotes.part {
             QuotePart::Text => self.kind_of_text(),
             QuotePart::Comment => MarkKind::Comment,
             QuotePart::Dropped => MarkKind::Dropped,
@@ -147,11 +236,11 @@ impl TextScan {
     }
 
     /// Returns the mark of a place at which this is open.
-    pub fn mark(self) -> Mark
-        ensures { result ≡ specs.mark_of self }
+    pub fn mark(&self) -> Mark
+        ensures { result ≡ specs.mark_of self.now }
     {
         Mark {
-            depth: self.scan.quotes.depth,
+            depth: self.quotes.depth,
             kind: self.kind(),
         }
     }
@@ -162,10 +251,10 @@ pub fn marks_of(alloc: Global, text: &[u8]) -> Result<Vec<Mark>, AllocError>
     ensures exact { IfOk result (λ v. v.items ≡ specs.marks_of text.now) }
 {
     let mut marks = Vec::with_capacity(alloc, text.len())?;
-    let mut scan = TextScan::new();
+    let mut scan = TextScan::new(alloc);
     for i in 0..text.len() {
         marks.push(scan.mark())?;
-        scan = scan.after(&text[i..]);
+        scan.read(alloc, &text[i..])?;
     }
     Ok(marks)
 }

@@ -117,6 +117,16 @@ impl Quotes {
         self.is_text() && (byte == b'[' && self.depth == 0 || byte == b']' && self.depth == 1)
     }
 
+    /// Returns whether m4 takes the first byte of the text at this place away: it is one of a dropped
+    /// line, or a bracket that m4 removes.
+    pub fn is_removed(self, byte: u8, text: &[u8]) -> bool
+        ensures { result ≡ specs.is_removed self byte text.now }
+    {
+        matches!(self.part, QuotePart::Dropped)
+            || self.begins_dropped(text)
+            || self.is_outer_bracket(byte)
+    }
+
     /// Returns what is open after a byte that begins no dropped line.
     fn after_byte(self, byte: u8) -> Quotes
         ensures { result ≡ specs.after_byte self byte }

@@ -3,7 +3,7 @@
 ghost use Rattle.std.specs.Prelude.{◌≡◌};
 ghost use Rattle.lint_marks.specs.Marks as specs;
 
-use crate::quotes::{QuotePart, Quotes};
+use crate::quotes::Quotes;
 use shell_bare::{BareContext, after_quoted, escapes, following};
 
 /// What a shell has open at a place.
@@ -107,9 +107,7 @@ impl Scan {
     pub fn is_unseen(self, byte: u8, text: &[u8]) -> bool
         ensures { result ≡ specs.is_unseen self byte text.now }
     {
-        matches!(self.quotes.part, QuotePart::Dropped)
-            || self.quotes.begins_dropped(text)
-            || self.quotes.is_outer_bracket(byte)
+        self.quotes.is_removed(byte, text)
     }
 
     /// Returns what the shell has open after the first byte of the text at this place.

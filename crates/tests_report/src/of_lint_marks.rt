@@ -15,6 +15,7 @@ fn sign_of(kind: MarkKind) -> &'static [u8] {
         MarkKind::Word => b"w",
         MarkKind::Single => b"s",
         MarkKind::Double => b"d",
+        MarkKind::Substitution => b"n",
     }
 }
 
@@ -56,9 +57,17 @@ xdnl [dnl] => .wwww..www 0000001111
 a \^J#b => .w.e.c 000000
 '\'a => .ssw 0000
 // here-documents
-cat <<EOF^Jit's^JEOF^J'a => .www.wwwwwhhhhhhhhh.s 000000000000000000000
-<<a <<-'b'^J1^Ja^J2^J^Ib^Jx => .www.wwwsswhhhhhhhhh. 000000000000000000000
+cat <<EOF^Jit's^JEOF^J'a => .www...wwwhhhhhhhhh.s 000000000000000000000
+<<a <<-'b'^J1^Ja^J2^J^Ib^Jx => ...w...wsswhhhhhhhhh. 000000000000000000000
 '<<a'^Jb => .ssssw. 0000000
+cat <<'E F'^J'^JE F^J'a => .www...sssswhhhhhh.s 00000000000000000000
+// substitutions, which nest
+"$(a "b")"c => .ddnnnddndw 00000000000
+x=`it 's'`# => .wwnnnnssnw 00000000000
+"${a-'}'}" => .ddnnnssnd 0000000000
+$((1<<2))^J'a => .wnnnnnnnw.s 000000000000
+\$(a => .ew. 0000
+$(#'^J)# => .wnccnw 0000000
 "##;
 
 #[test]
