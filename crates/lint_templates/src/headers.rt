@@ -1,47 +1,111 @@
 //! Warnings about the templates of headers.
 
-ghost use Rattle.std.specs.Prelude.{◌≡◌, OnOk};
+ghost use Rattle.std.specs.Prelude.{◌≡◌, ◌≤◌, ◌<◌, ◌+◌, ◌^◌, ◌++◌, ◌∷◌, [], true, flat_map, length, option_map, IfOk, IfSome, OnOk};
+ghost use Rattle.deftable.specs.NameList.{has_name};
 ghost use Rattle.lint_findings.specs.Within.{KeepsWithin};
+ghost use Rattle.lint_table.specs.Keys.{name_of};
+ghost use Rattle.lint_table.specs.declared.key.Key.{Key};
+ghost use Rattle.lint_templates.specs.Listed as listing;
+ghost use Rattle.lint_templates.specs.Names.{with_all};
+ghost use Rattle.lint_templates.specs.Unlisted as specs;
 
 use crate::advice::{default_header, definition_advice};
 use crate::given::{Given, add_name};
 use crate::messages::{TemplateName, near_of, warn_of_name};
 use bstr::ByteSlice;
-use deftable::{SubstList, is_shell_name};
+use deftable::{Bytes, SubstList, is_shell_name};
 use lint_findings::{Finding, Span};
-use lint_table::{Page, WordPart, keys, warn_by_key};
-use lint_text::{after_blanks, first_name};
+use lint_table::{Key, Page, WordPart, keys, warn_by_key};
+use lint_text::{after_blanks, first_name, from};
 use std::alloc::{AllocError, Global};
 
-/// Returns the identifier of a line with `#undef`, or with `#define` if that is asked for too, with
-/// its offset in the line.
-fn named(line: &[u8], takes_define: bool) -> Option<(usize, &[u8])> {
-    let hash = after_blanks(line).strip_prefix(b"#")?;
-    let keyword = first_name(after_blanks(hash));
-    let rest = after_blanks(hash).strip_prefix(keyword)?;
-    if keyword != b"undef".as_slice() && !(takes_define && keyword == b"define".as_slice()) {
-        return None;
+/// Returns the text after the `#` that a text begins with.
+fn after_hash(text: &[u8]) -> Option<&[u8]>
+    ensures { option_map (λ rest. rest.now) result ≡ listing.after_hash text.now }
+{
+    match text {
+        [b'#', rest @ ..] => Some(rest),
+        _ => None,
     }
-    let name = first_name(after_blanks(rest));
-    let at = line.len().saturating_sub(after_blanks(rest).len());
-    if at > 0 && is_shell_name(name) {
-        Some((at, name))
+}
+
+/// Returns whether a word before a name lists it: `undef`, or `define` if that is asked for too.
+fn is_listing(takes_define: bool, word: &[u8]) -> bool
+    ensures { result ≡ listing.is_listing takes_define word.now }
+{
+    word == b"undef".as_slice() || takes_define && word == b"define".as_slice()
+}
+
+/// Returns the text, if it begins with a name that has the form of one.
+fn named(text: &[u8]) -> Option<&[u8]>
+    ensures { option_map (λ rest. rest.now) result ≡ listing.named text.now }
+{
+    if is_shell_name(first_name(text)) {
+        Some(text)
     } else {
         None
     }
 }
 
+/// Returns the text from the name on, after a word that lists it.
+fn after_word(takes_define: bool, text: &[u8]) -> Option<&[u8]>
+    ensures { option_map (λ rest. rest.now) result ≡ listing.after_word takes_define text.now }
+{
+    let word = first_name(text);
+    if !is_listing(takes_define, word) {
+        return None;
+    }
+    named(after_blanks(from(text, word.len())))
+}
+
+/// Returns the text of a line from the name on that it lists with `#undef`, or with `#define` if
+/// that is asked for too.
+#[tactic(auto, unfolding(crate::specs::Listed::from_name))]
+fn from_name(takes_define: bool, line: &[u8]) -> Option<&[u8]>
+    ensures { option_map (λ rest. rest.now) result ≡ listing.from_name takes_define line.now }
+{
+    match after_hash(after_blanks(line)) {
+        Some(text) => after_word(takes_define, after_blanks(text)),
+        None => None,
+    }
+}
+
+/// Adds a name, if these names don't have it.
+fn add_unlisted(names: &mut SubstList, listed: &SubstList, name: &[u8]) -> Result<(), AllocError>
+    ensures { OnOk result (
+        names.new ≡ with_all names.old (specs.one_unlisted listed.now name.now)) }
+{
+    if listed.has(name) {
+        return Ok(());
+    }
+    add_name(names, name)
+}
+
+/// Adds those of some names that these don't have.
+fn add_all_unlisted(
+    names: &mut SubstList,
+    listed: &SubstList,
+    defined: &[Bytes],
+) -> Result<(), AllocError>
+    ensures { OnOk result (
+        names.new ≡ with_all names.old (flat_map (specs.one_unlisted listed.now) defined.now)) }
+{
+    for name in defined {
+        add_unlisted(names, listed, name.as_slice())?;
+    }
+    Ok(())
+}
+
 /// Returns the definitions that a source may make and that this template doesn't list. A name that
 /// the template lists too isn't what another one was meant to be.
-fn unlisted(alloc: Global, given: &Given, text: &[u8]) -> Result<SubstList, AllocError> {
+#[tactic(auto, unfolding(crate::specs::Unlisted::unlisted))]
+fn unlisted(alloc: Global, given: &Given, text: &[u8]) -> Result<SubstList, AllocError>
+    ensures { IfOk result (λ names. names ≡ specs.unlisted given.now.defined text.now) }
+{
     let mut listed = SubstList::new(alloc);
     add_listed(&mut listed, text)?;
     let mut names = SubstList::new(alloc);
-    for name in given.defined.names() {
-        if !listed.has(name.as_slice()) {
-            add_name(&mut names, name.as_slice())?;
-        }
-    }
+    add_all_unlisted(&mut names, &listed, given.defined.names())?;
     Ok(names)
 }
 
@@ -172,13 +236,14 @@ fn warn_of_line(
 ) -> Result<(), AllocError>
     ensures within { OnOk result (KeepsWithin file text.now out.old.items out.new.items) }
 {
-    let Some((column, name)) = named(line, false) else {
+    let Some(rest) = from_name(false, line) else {
         return Ok(());
     };
+    let name = first_name(rest);
     if known.all.has(name) {
         return Ok(());
     }
-    let start = at.saturating_add(column);
+    let start = at.saturating_add(line.len().saturating_sub(rest.len()));
     let header = default_header(name);
     if !header.is_empty() {
         return found.defaults.add(start, name, header);
@@ -249,29 +314,52 @@ pub fn warn_of_header(
     Ok(())
 }
 
+/// Adds the name that a line lists, if it lists one.
+fn add_of_line(names: &mut SubstList, line: &[u8]) -> Result<(), AllocError>
+    ensures { OnOk result (names.new ≡ with_all names.old (listing.name_in true line.now)) }
+{
+    match from_name(true, line) {
+        Some(rest) => add_name(names, first_name(rest)),
+        None => Ok(()),
+    }
+}
+
 /// Adds the names that the template of a header undefines or defines.
 ///
 /// # Errors
 ///
 /// Fails only if memory runs out.
-pub fn add_listed(names: &mut SubstList, text: &[u8]) -> Result<(), AllocError> {
-    for line in text.split(|byte| *byte == b'\n') {
-        if let Some((_, name)) = named(line, true) {
-            add_name(names, name)?;
-        }
+#[tactic(auto, unfolding(crate::specs::Listed::with_listed))]
+pub fn add_listed(names: &mut SubstList, text: &[u8]) -> Result<(), AllocError>
+    // Each name that a line lists is added, and no other.
+    ensures { OnOk result (names.new ≡ listing.with_listed names.old text.now) }
+{
+    for line in text.lines_with_terminator() {
+        add_of_line(names, line)?;
     }
     Ok(())
 }
 
-/// Returns where a source names a text first, or its start if it doesn't.
-fn first_span(source: &[u8], sought: &[u8]) -> Span
-    ensures { result.file ≡ 0 }
+/// Returns the offset at which a source has a text first.
+#[tactic(auto, using(crate::proofs::Lost::first_is))]
+fn first_place(source: &[u8], sought: &[u8]) -> Option<usize>
+    ensures value { result ≡ specs.first_place source.now sought.now }
+    ensures within { IfSome result (λ at. at + length sought.now ≤ length source.now) }
 {
-    match source.find(sought) {
+    source.find(sought)
+}
+
+/// Returns the part of a source that begins there and is as long as a text, or its start if there
+/// is no such place.
+fn span_at(place: Option<usize>, sought: &[u8]) -> Span
+    requires { IfSome place (λ at. at + length sought.now < 2 ^ 64) }
+    ensures { result ≡ specs.span_at place sought.now }
+{
+    match place {
         Some(start) => Span {
             file: 0,
             start,
-            end: start.saturating_add(sought.len()),
+            end: start + sought.len(),
         },
         None => Span {
             file: 0,
@@ -281,39 +369,81 @@ fn first_span(source: &[u8], sought: &[u8]) -> Span
     }
 }
 
+/// The macro that names headers.
+const HEADERS_MACRO: &[u8] = b"AC_CONFIG_HEADERS";
+
 /// Returns where a source makes a definition: where it names it, or else where it names its
 /// headers.
 fn span_of_definition(source: &[u8], name: &[u8]) -> Span
-    ensures { result.file ≡ 0 }
+    ensures { result ≡ specs.span_of_definition source.now name.now }
 {
-    if source.contains_str(name) {
-        return first_span(source, name);
+    match first_place(source, name) {
+        Some(start) => span_at(Some(start), name),
+        None => span_at(first_place(source, HEADERS_MACRO), HEADERS_MACRO),
     }
-    first_span(source, b"AC_CONFIG_HEADERS")
 }
 
-/// Warns of a definition that no template of a header has.
+/// Returns whether a definition goes nowhere: these names don't have it, and it is none of AC_INIT.
+fn is_lost(listed: &SubstList, name: &[u8]) -> bool
+    ensures { result ≡ specs.is_lost listed.now name.now }
+{
+    !listed.has(name) && !name.starts_with(b"PACKAGE_")
+}
+
+/// Warns of a definition at a place, in the words of a key.
 fn warn_of_definition(
     alloc: Global,
-    names: &SubstList,
+    key: Key,
     source: &[u8],
     name: &[u8],
     out: &mut Vec<Finding>,
 ) -> Result<(), AllocError>
+    ensures added { OnOk result (
+        out.new.items ≡ out.old.items ++ (specs.lost_definition key source.now name.now ∷ [])) }
     ensures within { OnOk result (KeepsWithin 0 source.now out.old.items out.new.items) }
 {
-    if names.has(name) || name.starts_with(b"PACKAGE_") {
+    let span = span_of_definition(source, name);
+    warn_by_key(alloc, out, source, span, key, &[WordPart::AsItIs(name)])?;
+    Ok(())
+}
+
+/// Warns of a definition, if it goes nowhere.
+fn warn_if_lost(
+    alloc: Global,
+    key: Key,
+    listed: &SubstList,
+    source: &[u8],
+    name: &[u8],
+    out: &mut Vec<Finding>,
+) -> Result<(), AllocError>
+    ensures added { OnOk result (
+        out.new.items ≡ out.old.items ++ specs.one_lost key listed.now source.now name.now) }
+    ensures within { OnOk result (KeepsWithin 0 source.now out.old.items out.new.items) }
+{
+    if !is_lost(listed, name) {
         return Ok(());
     }
-    let span = span_of_definition(source, name);
-    warn_by_key(
-        alloc,
-        out,
-        source,
-        span,
-        keys::NOT_IN_HEADER,
-        &[WordPart::AsItIs(name)],
-    )
+    warn_of_definition(alloc, key, source, name, out)
+}
+
+/// Warns of each definition that goes nowhere, in the words of a key.
+fn warn_of_lost(
+    alloc: Global,
+    key: Key,
+    defined: &[Bytes],
+    source: &[u8],
+    listed: &SubstList,
+    out: &mut Vec<Finding>,
+) -> Result<(), AllocError>
+    ensures added { OnOk result (
+        out.new.items
+        ≡ out.old.items ++ specs.lost_definitions key listed.now source.now defined.now) }
+    ensures within { OnOk result (KeepsWithin 0 source.now out.old.items out.new.items) }
+{
+    for name in defined {
+        warn_if_lost(alloc, key, listed, source, name.as_slice(), out)?;
+    }
+    Ok(())
 }
 
 /// Adds a warning for each definition that a source may make and that is not listed by a template
@@ -329,11 +459,19 @@ pub fn warn_of_unlisted(
     listed: &SubstList,
     out: &mut Vec<Finding>,
 ) -> Result<(), AllocError>
+    // One warning is added for each definition that isn't listed, in order, and no other. A name of
+    // AC_INIT needs no line.
+    ensures added { OnOk result (
+        specs.AreLost given.now.defined listed.now source.now out.old.items out.new.items) }
     // If the findings of the source were in its text, they still are.
     ensures within { OnOk result (KeepsWithin 0 source.now out.old.items out.new.items) }
 {
-    for name in given.defined.names() {
-        warn_of_definition(alloc, listed, source, name.as_slice(), out)?;
-    }
-    Ok(())
+    warn_of_lost(
+        alloc,
+        keys::NOT_IN_HEADER,
+        given.defined.names(),
+        source,
+        listed,
+        out,
+    )
 }

@@ -1,0 +1,4 @@
+pub mod Names
+pub mod Given
+pub mod Listed
+pub mod Unlisted
