@@ -19,6 +19,11 @@ done < "$here/sources.txt"
     printf '])\nAC_OUTPUT\n'
 } > messages-many.ac
 {
+    printf 'AC_INIT([x],[1])\n'
+    yes 'AC_MSG_NOTICE([\`])' | head -n 1005
+    printf 'AC_OUTPUT\n'
+} > messages-all.ac
+{
     "$acrun" lint $(cat names) || echo "status $?"
     for name in package headers; do
         cp -R "$here/$name" "$name"
@@ -27,6 +32,8 @@ done < "$here/sources.txt"
     "$acrun" lint --json macros-unknown.ac columns.ac - < macro-misspelt.ac || echo "status $?"
     # Each of 300 words is read, and each of 60 errors within one call is found.
     "$acrun" lint $(yes without-findings.ac | head -n 299) messages-many.ac | grep -c '^messages-many.ac:' || true
+    # Of 1,005 findings the first thousand are shown.
+    "$acrun" lint messages-all.ac | tail -n 1
 } > printed
 if [ "$2" = --write ]; then
     cp printed "$here/expected.txt"
