@@ -1,7 +1,7 @@
 //! Warnings about calls.
 
 use crate::extent::{NamedCall, assigns, bare, is_given, named_calls, text_at, warn_of_part};
-use crate::foreign::warn_of_texts;
+use crate::foreign::warn_of_macro;
 use crate::includes::warn_of_includes;
 use crate::rows::{FULL_NAME, HELD, LIBRARY_ACTION, Row, SILENT};
 use crate::shellwords::warn_of_shell_words;
@@ -47,9 +47,23 @@ fn warn_of_action(
     warn_if(alloc, call.text, action, is_idle, keys::DNL_ACTION, out)
 }
 
-/// Returns whether an argument holds a text that isn't empty.
+/// Returns whether an argument holds a text that isn't empty. Arguments and texts are short, so it is
+/// sought by its first byte.
 fn holds(argument: &[u8], sought: &[u8]) -> bool {
-    !sought.is_empty() && argument.contains_str(sought)
+    let Some(first) = sought.first() else {
+        return false;
+    };
+    let mut rest = argument;
+    for _ in 0..argument.len() {
+        let Some(at) = rest.find_byte(*first) else {
+            return false;
+        };
+        if from(rest, at).starts_with(sought) {
+            return true;
+        }
+        rest = from(rest, at.saturating_add(1));
+    }
+    false
 }
 
 /// Returns whether an argument holds what a row says.
@@ -138,12 +152,14 @@ fn warn_of_argument(
 /// Warns of arguments by what they are.
 fn warn_of_arguments(
     alloc: Global,
+    index: &Index,
     call: NamedCall<'_>,
     out: &mut Vec<Finding>,
 ) -> Result<(), AllocError> {
-    for (index, extent) in call.at.args.iter().enumerate() {
-        if let Some(kind) = call.kind(index) {
+    for (i, extent) in call.at.args.iter().enumerate() {
+        if let Some(kind) = call.kind(i) {
             warn_of_argument(alloc, call, kind, *extent, out)?;
+            warn_of_macro(alloc, index, call, kind, *extent, out)?;
         }
     }
     let name = call.argument_at(&FULL_NAME);
@@ -222,7 +238,7 @@ fn warn_of_call(
     }
     warn_of_action(alloc, call, out)?;
     warn_of_rows(alloc, call, rows, out)?;
-    warn_of_arguments(alloc, call, out)?;
+    warn_of_arguments(alloc, index, call, out)?;
     warn_of_missing(alloc, call, out)?;
     let is_login = is_login && is_of_shell(call);
     warn_if(
@@ -233,8 +249,7 @@ fn warn_of_call(
         keys::LOGIN_SHELL,
         out,
     )?;
-    warn_of_semicolon(alloc, call, out)?;
-    warn_of_texts(alloc, index, call, out)
+    warn_of_semicolon(alloc, call, out)
 }
 
 /// Warns of the calls.

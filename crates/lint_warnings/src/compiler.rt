@@ -33,14 +33,11 @@ fn finds_compiler(text: &[u8], call: &CallAt) -> bool {
     if name == b"AC_PROG_CC".as_slice() {
         return true;
     }
-    let is_named = bare(text_at(text, call.args.first().copied())) == b"CC".as_slice();
-    let has_value = name != b"AC_SUBST".as_slice() || is_given(text, call.args.get(1));
-    is_named
-        && has_value
-        && matches!(
-            NamedCall::new(text, call).kind(0),
-            Some(ArgumentKind::Variable)
-        )
+    let is_named = matches!(
+        NamedCall::new(text, call).kind(0),
+        Some(ArgumentKind::Variable)
+    ) && bare(text_at(text, call.args.first().copied())) == b"CC".as_slice();
+    is_named && (name != b"AC_SUBST".as_slice() || is_given(text, call.args.get(1)))
 }
 
 /// Returns the first call that needs a compiler, if nothing before it looks for one or names one.

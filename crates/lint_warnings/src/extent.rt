@@ -2,7 +2,7 @@
 
 use crate::rows::ArgumentPlace;
 use ac_calls::{CallAt, Extent};
-use ac_macros::{ArgumentKind, Row, argument_kind};
+use ac_macros::{ArgumentKind, argument_kind};
 use lint_findings::{Finding, Span};
 use lint_table::{Key, warn_by_key};
 use lint_text::{before, from, is_word_byte, part};
@@ -63,8 +63,6 @@ pub(crate) struct NamedCall<'a> {
     /// The text of the source.
     pub(crate) text: &'a [u8],
     pub(crate) name: &'a [u8],
-    /// The row of its macro, if the table of macros has it.
-    row: Option<Row>,
     /// Where it and its arguments are.
     pub(crate) at: &'a CallAt,
 }
@@ -75,7 +73,6 @@ impl<'a> NamedCall<'a> {
         NamedCall {
             text,
             name: name_of(text, call),
-            row: call.row,
             at: call,
         }
     }
@@ -83,7 +80,7 @@ impl<'a> NamedCall<'a> {
     /// Returns what an argument is, if the call has it and its macro is known. The arguments are
     /// counted from 0.
     pub(crate) fn kind(self, index: usize) -> Option<ArgumentKind> {
-        let row = self.row?;
+        let row = self.at.row?;
         let count = self.at.args.len();
         if index < count {
             Some(argument_kind(row.named, count, index))

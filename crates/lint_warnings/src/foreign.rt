@@ -3,6 +3,7 @@
 use crate::extent::{NamedCall, bare, span_of};
 use ac_calls::Extent;
 use ac_macros::ArgumentKind;
+use bstr::ByteSlice;
 use lint_findings::Finding;
 use lint_macros::{Index, MacroKind};
 use lint_table::{Page, WordPart, keys};
@@ -113,7 +114,7 @@ fn macro_in(
     argument: &[u8],
 ) -> Result<Option<(usize, usize)>, AllocError> {
     // The name of each macro has a `_`.
-    if !argument.contains(&b'_') {
+    if argument.find_byte(b'_').is_none() {
         return Ok(None);
     }
     if bare(argument).starts_with(HELP) {
@@ -182,18 +183,17 @@ fn is_text(kind: ArgumentKind) -> bool {
     )
 }
 
-/// Warns of names of macros in the arguments of a call that are text.
-pub(crate) fn warn_of_texts(
+/// Warns if an argument of this kind is text and has the name of a macro.
+pub(crate) fn warn_of_macro(
     alloc: Global,
     index: &Index,
     call: NamedCall<'_>,
+    kind: ArgumentKind,
+    extent: Extent,
     out: &mut Vec<Finding>,
 ) -> Result<(), AllocError> {
-    for (i, extent) in call.at.args.iter().enumerate() {
-        match call.kind(i) {
-            Some(kind) if is_text(kind) => warn_of_text(alloc, index, call, *extent, out)?,
-            _ => {}
-        }
+    if is_text(kind) {
+        return warn_of_text(alloc, index, call, extent, out);
     }
     Ok(())
 }

@@ -8,7 +8,7 @@ use deftable::is_shell_name;
 use lint_findings::Finding;
 use lint_marks::ShellState;
 use lint_table::{Key, Page, WordPart, keys, warn_by_key};
-use lint_text::{first_name, from, part};
+use lint_text::{first_name, from, is_word_byte, part};
 use shell_bare::{BareContext, is_part_end};
 use std::alloc::{AllocError, Global};
 
@@ -42,17 +42,51 @@ fn fill(roles: &mut [Role], start: usize, end: usize, role: Role) {
     }
 }
 
-/// Returns what each byte of a source with these calls is a part of.
-fn roles_of(alloc: Global, text: &[u8], calls: &[NamedCall<'_>]) -> Result<Vec<Role>, AllocError> {
-    let mut roles = vec![in alloc; Role::Statements; text.len()]?;
-    for call in calls {
-        fill(&mut roles, call.at.start, call.at.end, Role::Other);
-        for (index, arg) in call.at.args.iter().enumerate() {
-            let role = role_of(call.kind(index));
-            fill(&mut roles, arg.start, arg.end, role);
+/// What the bytes of a source are parts of.
+#[derive(Drop)]
+struct Roles {
+    /// That of each byte, but for those that are passed over.
+    of_bytes: Vec<Role>,
+    /// The calls without words of a shell, in order. They are passed over.
+    passed: Vec<Extent>,
+}
+
+/// Returns whether an argument of a call has words of a shell.
+fn has_words(call: NamedCall<'_>) -> bool {
+    for index in 0..call.at.args.len() {
+        if role_of(call.kind(index)) != Role::Other {
+            return true;
         }
     }
-    Ok(roles)
+    false
+}
+
+/// Sets what the bytes of a call are parts of.
+fn fill_call(roles: &mut [Role], call: NamedCall<'_>) {
+    fill(roles, call.at.start, call.at.end, Role::Other);
+    for (index, arg) in call.at.args.iter().enumerate() {
+        let role = role_of(call.kind(index));
+        if role != Role::Other {
+            fill(roles, arg.start, arg.end, role);
+        }
+    }
+}
+
+/// Returns what the bytes of a source with these calls are parts of.
+fn roles_of(alloc: Global, text: &[u8], calls: &[NamedCall<'_>]) -> Result<Roles, AllocError> {
+    let mut of_bytes = vec![in alloc; Role::Statements; text.len()]?;
+    let mut passed = Vec::new(alloc);
+    for call in calls {
+        if has_words(*call) {
+            fill_call(&mut of_bytes, *call);
+        } else {
+            passed.push(Extent {
+                start: call.at.start,
+                end: call.at.end,
+            })?;
+        }
+    }
+    Ok(Roles { of_bytes, passed })
 }
 
 /// A walk over the bytes of a source.
@@ -87,6 +121,12 @@ impl WordWalk {
     /// Returns whether the byte is outside quotes and comments.
     fn is_bare(&self) -> bool {
         matches!(self.shell.place, BareContext::Start | BareContext::Word)
+    }
+
+    /// Returns whether the byte is in a word, in quotes or in a comment, and no backslash is before
+    /// it. There a letter, a digit or `_` opens and closes nothing.
+    fn is_within(&self) -> bool {
+        !self.shell.is_escaped && !matches!(self.shell.place, BareContext::Start)
     }
 
     /// Begins a word at an offset.
@@ -174,6 +214,12 @@ fn push_word(text: &[u8], at: usize, out: &mut Vec<Extent>) -> Result<(), AllocE
     Ok(())
 }
 
+/// Returns whether a quote is after the byte at an offset.
+fn is_before_quote(text: &[u8], at: usize) -> bool {
+    let rest = from(text, at.saturating_add(1));
+    rest.starts_with(b"'") || rest.starts_with(b"\"")
+}
+
 /// Reads a byte that is in no quotes, and before which there is no backslash.
 fn read_bare(
     text: &[u8],
@@ -188,12 +234,10 @@ fn read_bare(
             push_word(text, at, &mut found.words)?;
         }
     }
-    let rest = from(text, at);
     if byte == b'~' && walk.is_front && found.tilde.is_none() {
         found.tilde = Some(at);
     }
-    let is_quote = rest.starts_with(b"$'") || rest.starts_with(b"$\"");
-    if is_quote && found.dollar.is_none() {
+    if byte == b'$' && found.dollar.is_none() && is_before_quote(text, at) {
         found.dollar = Some(at);
     }
     if ends_word(byte) {
@@ -206,7 +250,8 @@ fn read_bare(
 
 /// Returns whether the line from an offset on is one that m4 drops.
 fn is_dropped(text: &[u8], at: usize, walk: &WordWalk) -> bool {
-    walk.shell.is_start() && first_name(from(text, at)) == b"dnl".as_slice()
+    let rest = from(text, at);
+    walk.shell.is_start() && rest.starts_with(b"dnl") && first_name(rest).len() == 3
 }
 
 /// Returns whether m4 drops a byte, which is a bracket.
@@ -222,6 +267,10 @@ fn read_byte(
     walk: &mut WordWalk,
     found: &mut FoundWords,
 ) -> Result<(), AllocError> {
+    if walk.is_within() && is_word_byte(byte) {
+        walk.is_front = walk.is_front && !walk.is_bare();
+        return Ok(());
+    }
     if walk.shell.is_escaped {
         walk.is_front = false;
     } else if is_bracket(byte, walk) {
@@ -236,21 +285,55 @@ fn read_byte(
     Ok(())
 }
 
+/// Reads the byte at an offset, which is a part of this.
+fn read_in_role(
+    text: &[u8],
+    at: usize,
+    byte: u8,
+    role: Role,
+    walk: &mut WordWalk,
+    found: &mut FoundWords,
+) -> Result<(), AllocError> {
+    if role != walk.role {
+        *walk = WordWalk::new(role);
+    }
+    if role == Role::Other {
+        return Ok(());
+    }
+    read_byte(text, at, byte, walk, found)
+}
+
+/// Returns the offset after a call that is passed over, if one of them begins at an offset.
+fn end_of_passed(passed: &[Extent], index: usize, at: usize) -> Option<usize> {
+    let extent = passed.get(index)?;
+    if extent.start == at {
+        Some(extent.end)
+    } else {
+        None
+    }
+}
+
 /// Returns what is found in a source, of whose bytes it is known what they are parts of.
-fn found_in(alloc: Global, text: &[u8], roles: &[Role]) -> Result<FoundWords, AllocError> {
+fn found_in(alloc: Global, text: &[u8], roles: &Roles) -> Result<FoundWords, AllocError> {
     let mut found = FoundWords {
         tilde: None,
         dollar: None,
         words: Vec::new(alloc),
     };
     let mut walk = WordWalk::new(Role::Other);
-    for (at, byte) in text.iter().enumerate() {
-        let role = roles.get(at).copied().unwrap_or(Role::Other);
-        if role != walk.role {
-            walk = WordWalk::new(role);
-        }
-        if role != Role::Other {
-            read_byte(text, at, *byte, &mut walk, &mut found)?;
+    let mut at: usize = 0;
+    let mut index: usize = 0;
+    for _ in 0..text.len() {
+        if let Some(end) = end_of_passed(roles.passed.as_slice(), index, at) {
+            walk = WordWalk::new(Role::Other);
+            index = index.saturating_add(1);
+            at = end;
+        } else {
+            let (Some(byte), Some(role)) = (text.get(at), roles.of_bytes.get(at)) else {
+                return Ok(found);
+            };
+            read_in_role(text, at, *byte, *role, &mut walk, &mut found)?;
+            at = at.saturating_add(1);
         }
     }
     Ok(found)
@@ -303,7 +386,7 @@ pub(crate) fn warn_of_shell_words(
     out: &mut Vec<Finding>,
 ) -> Result<(), AllocError> {
     let roles = roles_of(alloc, text, calls)?;
-    let found = found_in(alloc, text, roles.as_slice())?;
+    let found = found_in(alloc, text, &roles)?;
     warn_at(alloc, text, found.tilde, 1, keys::TILDE, out)?;
     warn_at(alloc, text, found.dollar, 2, keys::DOLLAR_QUOTE, out)?;
     warn_of_test_words(alloc, text, found.words.as_slice(), out)
