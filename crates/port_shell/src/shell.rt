@@ -1,5 +1,5 @@
-//! What each byte of a list of statements is to a shell. It has more open than `lint_marks` knows:
-//! backquotes, `$(` and `${`, which nest, and here-documents whose delimiter has a blank in quotes.
+//! What each byte of a list of statements is to a shell. What is open there a `TextScan` of
+//! `lint_marks` says, too, which this doesn't ask yet.
 
 use std::alloc::{AllocError, Global};
 
