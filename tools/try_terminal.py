@@ -4,8 +4,9 @@
     python3 tools/try_terminal.py PROGRAM
 
 Progress, the last line with its time, words after a fault, colours, and control bytes as `\\xNN` are for a terminal. Each is looked
-for on the stream that is a terminal, and must not be on one that is none. The last line is 'terminal: as it should be', or there
-is a line for each run that is wrong, and the exit status is 1.
+for on the stream that is a terminal, and must not be on one that is none. A file in a directory of another group is looked at too,
+which no test of a crate can make. The last line is 'terminal: as it should be', or there is a line for each run that is wrong, and
+the exit status is 1.
 """
 import os
 import pathlib
@@ -137,6 +138,22 @@ class Trial:
         _, out, _, _ = run(self.program, ["lint"], ["stdout"], NO_COLOR="1")
         self.look("lint has no colours if NO_COLOR is set", "error" in out and "\x1b" not in out, out)
 
+    def permissions(self):
+        """A file of the user keeps its permissions, also in a directory whose files are of another group."""
+        groups = [1] if os.geteuid() == 0 else [it for it in os.getgroups() if it != os.geteuid()]
+        if not groups:
+            return
+        os.mkdir("group")
+        os.chown("group", -1, groups[0])
+        os.chmod("group", 0o2755)
+        pathlib.Path("group/made").write_text("")
+        os.chmod("group/made", 0o640)
+        pathlib.Path("made.in").write_text("text\n")
+        pathlib.Path("configure.ac").write_text("AC_INIT([demo],[1.0])\nAC_CONFIG_FILES([group/made:made.in])\nAC_OUTPUT\n")
+        status, _, err, _ = run(self.program, ["configure"], [])
+        mode = oct(os.stat("group/made").st_mode & 0o777)
+        self.look("a file keeps its permissions in a directory of another group", (status, mode) == (0, "0o640"), status, mode, err)
+
 
 def main():
     if len(sys.argv) != 2:
@@ -152,6 +169,7 @@ def main():
         trial.control_bytes()
         trial.again()
         trial.words()
+        trial.permissions()
         os.chdir("/")
     if trial.is_right:
         print("terminal: as it should be")
