@@ -250,7 +250,7 @@ def uses():
                     direct.append((it[1], parts_from(text, it.end() + parts.end())))
                 else:
                     handed.append(it[1])
-            for it in re.finditer(r"\.put\(\s*(?!keys::)[\w.]+(?:\([^()]*\))?,\s*&(?=\[)", text):
+            for it in re.finditer(r"(?:\.put\(|\bwarn_by_key\((?:\s*\w+,){4})\s*(?!keys::)[\w.]+(?:\([^()]*\))?,\s*&(?=\[)", text):
                 later.append(parts_from(text, it.end()))
             found[file.relative_to(ROOT)] = (direct, handed, later)
     return found
