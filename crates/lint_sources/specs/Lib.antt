@@ -1,3 +1,4 @@
+pub mod Definitions
 pub mod Differing
 pub mod Listed
 pub mod Missing

@@ -1,5 +1,8 @@
 //! The warnings of `lint_warnings` and `lint_templates`.
 
+ghost use Rattle.std.specs.Prelude.{OnOk};
+ghost use Rattle.lint_sources.specs.Definitions as specs;
+
 use crate::listing::{Lister, listed_names};
 use crate::sheets::Sheets;
 use crate::warnings::{Part, Warner};
@@ -17,6 +20,10 @@ use std::alloc::{AllocError, Global};
 struct HeaderLister;
 
 impl Lister for HeaderLister {
+    ghost use Rattle.lint_sources.specs.Definitions.{listing};
+
+    ghost lists = { λ _ names text. listing names text };
+
     fn list(&self, names: &mut SubstList, text: &[u8]) -> Result<(), AllocError> {
         add_listed(names, text)
     }
@@ -101,10 +108,14 @@ fn warn_of_definitions(
     text: &[u8],
     sheets: &Sheets,
     out: &mut Vec<Finding>,
-) -> Result<(), AllocError> {
+) -> Result<(), AllocError>
+    ensures { OnOk result (
+        specs.AreUnlisted given.now.defined text.now sheets.now out.old.items out.new.items) }
+{
     if sheets.count() == sheets.files() {
         return Ok(());
     }
     let listed = listed_names(alloc, &HeaderLister, sheets)?;
-    warn_of_unlisted(alloc, given, text, &listed, out)
+    warn_of_unlisted(alloc, given, text, &listed, out)?;
+    Ok(())
 }

@@ -1,0 +1,9 @@
+use Rattle.std.proofs.Common.{◌∙◌, sym}
+use Rattle.lint_sources.specs.Definitions.{no_header, headers}
+use Rattle.lint_sources.proofs.linter.warn_of_definitions.Goals as goal
+
+pub returns-then-count-files : goal.returns-then-count-files
+returns-then-count-files c = no_header (sym c.count.ensures ∙ c.if-count-files.true ∙ c.files.ensures)
+
+pub returns : goal.returns
+returns c = headers c.in_ok-listed.listed c.in_ok-listed.ensures c.in_ok-warn_of_unlisted.ensures.added
