@@ -5,8 +5,8 @@ use Rattle.std.proofs.lemmas.List.{length-append, drop-drop, drop_min}
 use Rattle.std.proofs.Math.Seq.{drop-append-add, take-append-add, take-append_seam}
 use Rattle.m4quote.specs.declared.fault.QuoteFault.{QuoteFault}
 use Rattle.m4quote.specs.declared.fault.QuoteFault.TheVariants.{StrayClose}
-use Rattle.m4quote.specs.declared.front.Kind.{Kind}
-use Rattle.m4quote.specs.declared.front.Kind.TheVariants.{Quoted}
+use Rattle.m4quote.specs.declared.front.FrontKind.{FrontKind}
+use Rattle.m4quote.specs.declared.front.FrontKind.TheVariants.{Quoted}
 use Rattle.m4quote.specs.Text.{is_word_byte, word_len, word, line_len, whole_line_len, is_dnl, is_macro_name}
 use Rattle.m4quote.specs.Spelling.{Balanced, empty, byte, group, IsFront, quoted, comment, dropped, name, other_word, other_byte}
 use Rattle.m4quote.specs.Used.{unquoted_front, Unquotes, nothing, front, UnquoteBreaks, stray_close, unclosed, following}
@@ -152,7 +152,7 @@ one_end {room} {other} {inside} {inside'} a b rest rest' same =
     let len : length inside' + 1 ≡ length inside + 1 = ok_is _ _ (sym (end_of b (room + other) rest' (omega arith)) ∙ ap (closing 0 (suc (room + other)) 1 0) (sym same) ∙ end_of a (room + other) rest (omega arith)) in
     after_run inside' rest' ∙ ap (drop (length inside' + 1)) (sym same) ∙ ap (λ n. drop n (inside ++ 93 ∷ rest)) len ∙ sym (after_run inside rest)
 
-piece_tail : {room : ℕ} {text : List ℕ} {kind : Kind} {n : ℕ} → IsFront room text kind n → Tame text → Tame (drop n text)
+piece_tail : {room : ℕ} {text : List ℕ} {kind : FrontKind} {n : ℕ} → IsFront room text kind n → Tame text → Tame (drop n text)
 piece_tail (quoted {room} {inside} balanced rest) tame =
     let r = run_tail tame (inside ++ 93 ∷ rest) refl in
     let there : rest ≡ drop (length inside + 2) (91 ∷ (inside ++ 93 ∷ rest)) = after_run inside rest ∙ ap (λ n. drop n (91 ∷ (inside ++ 93 ∷ rest))) (let e : suc (length inside + 1) ≡ length inside + 2 = omega arith in e) in
@@ -201,7 +201,7 @@ word_Tame (b ∷ bs) out tame =
       | inr other ↦ rw other tame
     ]
 
-left_Tame : {room : ℕ} {text : List ℕ} {kind : Kind} {n : ℕ} → IsFront room text kind n → (out : List ℕ) → (Ends (drop n text) → Ends out) → Tame out → Tame (unquoted_front kind (take n text) ++ out)
+left_Tame : {room : ℕ} {text : List ℕ} {kind : FrontKind} {n : ℕ} → IsFront room text kind n → (out : List ℕ) → (Ends (drop n text) → Ends out) → Tame out → Tame (unquoted_front kind (take n text) ++ out)
 left_Tame (quoted {room} {inside} balanced rest) out on tame =
     let whole : take (length inside + 2) (91 ∷ (inside ++ 93 ∷ rest)) ≡ 91 ∷ (inside ++ 93 ∷ []) =
     ap (λ n. take n (91 ∷ (inside ++ 93 ∷ rest))) (let e : length inside + 2 ≡ suc (length inside + 1) = omega arith in e) ∙ ap (λ (t : List ℕ). 91 ∷ t) (take-append-add inside (93 ∷ rest) 1) in

@@ -3,7 +3,7 @@ use Rattle.std.proofs.Common.{◌≡◌, ℕ, zero, suc, ◌+◌, ◌<◌, ◌�
 use Rattle.std.proofs.lemmas.List.{length-append}
 use Rattle.m4quote.specs.declared.fault.QuoteFault.{QuoteFault}
 use Rattle.m4quote.specs.declared.fault.QuoteFault.TheVariants.{UnclosedQuote}
-use Rattle.m4quote.specs.declared.front.Kind.{Kind}
+use Rattle.m4quote.specs.declared.front.FrontKind.{FrontKind}
 use Rattle.m4quote.specs.Spelling.{Balanced, empty, byte, group, IsFront, quoted, comment, dropped, name, other_word, other_byte}
 use Rattle.m4quote.specs.Faults.{QuoteBreaks, stays_open, one_too_many, in_quotes, FrontBreaks, stray, no_room, quote_breaks}
 use Rattle.m4quote.specs.Used.{UnquoteBreaks, stray_close, unclosed}
@@ -23,7 +23,7 @@ Balanced-tight (group {room} {inside} {text} within rest) =
     let len = length-append inside (93 ∷ text) in
     group (Balanced-more (Balanced-tight within) (length (inside ++ 93 ∷ text)) (omega arith)) (Balanced-more (Balanced-tight rest) (suc (length (inside ++ 93 ∷ text))) (omega arith))
 
-pub roomy : {room : ℕ} {text : List ℕ} {kind : Kind} {n : ℕ} → IsFront room text kind n → IsFront (length text) text kind n
+pub roomy : {room : ℕ} {text : List ℕ} {kind : FrontKind} {n : ℕ} → IsFront room text kind n → IsFront (length text) text kind n
 roomy (quoted {room} {inside} balanced rest) =
     let len = length-append inside (93 ∷ rest) in
     quoted (Balanced-more (Balanced-tight balanced) (length (inside ++ 93 ∷ rest)) (omega arith)) rest

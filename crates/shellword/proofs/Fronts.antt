@@ -7,7 +7,7 @@ use Rattle.std.proofs.lemmas.List.Sums.{prefix_len-le-length}
 use Rattle.deftable.specs.ShellName.{starts_name, continues_name}
 use Rattle.shellword.specs.declared.front.Context.{Context}
 use Rattle.shellword.specs.declared.front.Context.TheVariants.{Bare, Single, Double, Here}
-use Rattle.shellword.specs.declared.front.Front.{Front}
+use Rattle.shellword.specs.declared.front.WordFront.{WordFront}
 use Rattle.shellword.specs.Text.{single_quote, double_quote, backslash, dollar, backquote, open_brace, close_brace, name_len, follows_dollar, stands_alone}
 use Rattle.shellword.specs.Contexts.{is_special, escapes, escapes_front, escaped_part, byte_in, closes_brace}
 use Rattle.shellword.specs.Scan.{front, backslash_front, braced_front, dollar_front, quote_context, front_of}
@@ -43,11 +43,11 @@ closed_by : (n : ℕ) (inside rest : List ℕ) → drop n inside ≡ close_brace
 closed_by n inside rest e = ap closes_brace e
 
 -- what the reader finds at the front of this text
-abbrev pub Begins : ℕ → Context → List ℕ → Front → Type 0
+abbrev pub Begins : ℕ → Context → List ℕ → WordFront → Type 0
 Begins at c [] f = ⊥
 Begins at c (b ∷ bs) f = front_of at c b bs ≡ Ok f
 
-pub front-read : {c : Context} {text : List ℕ} {f : Front} → IsFront c text f → (at : ℕ) → Begins at c text f
+pub front-read : {c : Context} {text : List ℕ} {f : WordFront} → IsFront c text f → (at : ℕ) → Begins at c text f
 unfolding front_of
 front-read (escaped {c} {b} {rest} h) at = rw (escapes_special c b h, h) refl
 front-read (kept {c} {rest} special h) at = rw (special, kept_front c rest h) refl
@@ -70,7 +70,7 @@ pub brace_there : (text : List ℕ) → closes_brace text ≡ true → (rest : L
 brace_there [] h = absurd cc
 brace_there (b ∷ bs) h = (bs, ap (λ (x : ℕ). x ∷ bs) (eqb-true b close_brace h))
 
-read-braced : (at : ℕ) (c : Context) (bs : List ℕ) (f : Front) → is_special c dollar ≡ true → braced_front at c bs ≡ Ok f → IsFront c (dollar ∷ bs) f
+read-braced : (at : ℕ) (c : Context) (bs : List ℕ) (f : WordFront) → is_special c dollar ≡ true → braced_front at c bs ≡ Ok f → IsFront c (dollar ∷ bs) f
 read-braced at c [] f special e = absurd cc
 read-braced at c (b ∷ inside) f special e =
     elim (chosen (b == open_brace && ltb 0 (name_len inside) && closes_brace (drop (name_len inside) inside)) _ _ _ e) [
@@ -83,7 +83,7 @@ read-braced at c (b ∷ inside) f special e =
       | inr h ↦ absurd (failed h.1)
     ]
 
-read-dollar : (at : ℕ) (c : Context) (bs : List ℕ) (f : Front) → is_special c dollar ≡ true → dollar_front at c bs ≡ Ok f → IsFront c (dollar ∷ bs) f
+read-dollar : (at : ℕ) (c : Context) (bs : List ℕ) (f : WordFront) → is_special c dollar ≡ true → dollar_front at c bs ≡ Ok f → IsFront c (dollar ∷ bs) f
 read-dollar at c bs f special e =
     elim (chosen (ltb 0 (name_len bs)) _ _ _ e) [
       | inl h ↦ subst (IsFront c (dollar ∷ bs)) (ok_is _ _ h.1) (variable special (ltb-true 0 (name_len bs) h.0))
@@ -118,7 +118,7 @@ read-quote Double b bs special x y z =
     subst (λ (n : ℕ). IsFront Double (n ∷ bs) (front None 1 Bare)) (sym (eqb-true b double_quote (one_of_four (b == double_quote) _ _ _ special x y z))) double_closes
 read-quote Here b bs special x y z = absurd (none_of_three _ _ _ special x y z)
 
-pub read-front : (at : ℕ) (c : Context) (b : ℕ) (bs : List ℕ) (f : Front) → front_of at c b bs ≡ Ok f → IsFront c (b ∷ bs) f
+pub read-front : (at : ℕ) (c : Context) (b : ℕ) (bs : List ℕ) (f : WordFront) → front_of at c b bs ≡ Ok f → IsFront c (b ∷ bs) f
 unfolding front_of
 read-front at c b bs f e =
     elim (chosen (is_special c b) _ _ _ e) [
@@ -147,7 +147,7 @@ read-front at c b bs f e =
 inside_len : (n : ℕ) (inside rest : List ℕ) → drop n inside ≡ close_brace ∷ rest → n < length inside
 inside_len n inside rest e = let h = length-drop n inside in let k : length (drop n inside) ≡ suc (length rest) = ap length e in omega arith
 
-pub front-len : {c : Context} {text : List ℕ} {f : Front} → IsFront c text f → (0 < f.len) × (f.len ≤ length text)
+pub front-len : {c : Context} {text : List ℕ} {f : WordFront} → IsFront c text f → (0 < f.len) × (f.len ≤ length text)
 front-len (variable {c} {rest} special some) = (omega arith, omega (arith, name_len-le-length rest))
 front-len (in_braces {c} {inside} {rest} special some closes) = (omega arith, omega (arith, inside_len (name_len inside) inside rest closes))
 front-len other = (omega arith, omega arith)

@@ -7,7 +7,7 @@ use Rattle.shellword.specs.declared.part.Part.{Part}
 use Rattle.shellword.specs.declared.part.Part.TheVariants.{Plain, Quoted, Variable}
 use Rattle.shellword.specs.declared.front.Context.{Context}
 use Rattle.shellword.specs.declared.front.Context.TheVariants.{Bare, Single, Double, Here}
-use Rattle.shellword.specs.declared.front.Front.{Front}
+use Rattle.shellword.specs.declared.front.WordFront.{WordFront}
 use Rattle.shellword.specs.Text.{single_quote, double_quote, backslash, dollar, backquote, newline, open_brace, close_brace, name_len, expands_here, escapes_here, has_no, stands_alone, word_ends}
 use Rattle.shellword.specs.Contexts.{is_special, escapes, escapes_front, escaped_part, byte_in, is_over, is_quoted}
 use Rattle.shellword.specs.Scan.{front}
@@ -268,14 +268,14 @@ braced_is inside rest some closes =
     subst (λ (t : List ℕ). IsVariable (dollar ∷ open_brace ∷ t) (take (name_len inside) inside) rest) whole (w.in_braces (name_at inside some).0)
 
 -- what a step finds: a part, or a quote that opens or closes
-pub data Found : Context → List ℕ → Front → Type 0 where
+pub data Found : Context → List ℕ → WordFront → Type 0 where
   part : {c : Context} {text : List ℕ} {part : Option Part} {len : ℕ} → PartOf c text (option_to_list part) (drop len text) → Found c text (front part len c)
   single_opens : {after : List ℕ} → Found Bare (single_quote ∷ after) (front None 1 Single)
   double_opens : {after : List ℕ} → Found Bare (double_quote ∷ after) (front None 1 Double)
   single_closes : {after : List ℕ} → Found Single (single_quote ∷ after) (front None 1 Bare)
   double_closes : {after : List ℕ} → Found Double (double_quote ∷ after) (front None 1 Bare)
 
-pub step_found : {c : Context} {text : List ℕ} {f : Front} → IsFront c text f → is_over c text ≡ false → Found c text f
+pub step_found : {c : Context} {text : List ℕ} {f : WordFront} → IsFront c text f → is_over c text ≡ false → Found c text f
 step_found s.single_opens more = single_opens
 step_found s.double_opens more = double_opens
 step_found s.single_closes more = single_closes
@@ -310,7 +310,7 @@ part_spelled (double {part = q} one) rest parts p =
     record { inner = q ∷ p.inner; after = p.after; others = p.others; quoted = w.more one p.quoted; parts_are = ap (λ (ps : List Part). q ∷ ps) p.parts_are; word = p.word; over = p.over }
 part_spelled (here one) rest parts p = w.more one p
 
-step_spelled : {c : Context} {text : List ℕ} {f : Front} → Found c text f → (rest : List ℕ) (parts : List Part) → Spelled f.context (drop f.len text) parts rest → Spelled c text (option_to_list f.part ++ parts) rest
+step_spelled : {c : Context} {text : List ℕ} {f : WordFront} → Found c text f → (rest : List ℕ) (parts : List Part) → Spelled f.context (drop f.len text) parts rest → Spelled c text (option_to_list f.part ++ parts) rest
 step_spelled (part one) rest parts p = part_spelled one rest parts p
 step_spelled (single_opens {after}) rest parts p = (
   subst (λ (ps : List Part). AreWordParts (single_quote ∷ after) ps rest) (sym p.parts_are)

@@ -5,7 +5,7 @@ use Rattle.shellword.specs.declared.fault.ShellFault.{ShellFault}
 use Rattle.shellword.specs.declared.fault.ShellFault.TheVariants.{BadWord}
 use Rattle.shellword.specs.declared.part.Part.{Part}
 use Rattle.shellword.specs.declared.front.Context.{Context}
-use Rattle.shellword.specs.declared.front.Front.{Front}
+use Rattle.shellword.specs.declared.front.WordFront.{WordFront}
 use Rattle.shellword.specs.Contexts.{is_over, is_quoted}
 use Rattle.shellword.specs.Scan.{front_of, close, scan}
 use Rattle.fallible.specs.Reading.{◌>>=◌}
@@ -34,7 +34,7 @@ pub scan_failed : (c : Context) (at b : ℕ) (bs : List ℕ) (f : ShellFault) �
 unfolding scan
 scan_failed c at b bs f over found = rw (over, found) refl
 
-pub scan_front : (c : Context) (at b : ℕ) (bs : List ℕ) (f : Front) → is_over c (b ∷ bs) ≡ false → front_of at c b bs ≡ Ok f → 0 < f.len → f.len ≤ length bs + 1
+pub scan_front : (c : Context) (at b : ℕ) (bs : List ℕ) (f : WordFront) → is_over c (b ∷ bs) ≡ false → front_of at c b bs ≡ Ok f → 0 < f.len → f.len ≤ length bs + 1
     → scan 0 c at (b ∷ bs) ≡ with_parts (option_to_list f.part) (scan 0 f.context (at + f.len) (drop f.len (b ∷ bs)))
 unfolding scan
 scan_front c at b bs f over found some within =
@@ -57,7 +57,7 @@ module _ (parts : List Part) (c : Context) (at : ℕ) (text : List ℕ) (total :
     pub loop_failed : (f : ShellFault) → is_over c here ≡ false → front_of at c (get_or text at 0) after ≡ Err f → total ≡ Err f
     loop_failed f over found = sym so_far ∙ rw (is_here, scan_failed c at (get_or text at 0) _ f over found) refl
 
-    pub loop_front : (f : Front) (pushed : List Part) → is_over c here ≡ false → front_of at c (get_or text at 0) after ≡ Ok f → 0 < f.len → f.len ≤ length (take (length text - (at + 1)) (drop (at + 1) text)) + 1
+    pub loop_front : (f : WordFront) (pushed : List Part) → is_over c here ≡ false → front_of at c (get_or text at 0) after ≡ Ok f → 0 < f.len → f.len ≤ length (take (length text - (at + 1)) (drop (at + 1) text)) + 1
         → pushed ≡ parts ++ option_to_list f.part → with_parts pushed (scan 0 f.context (at + f.len) (drop (at + f.len) text)) ≡ total
     loop_front f pushed over found some within e =
         let bs = take (length text - (at + 1)) (drop (at + 1) text) in

@@ -7,7 +7,7 @@ use Rattle.shellword.specs.declared.fault.ShellFault.TheVariants.{BadWord}
 use Rattle.shellword.specs.declared.part.Part.{Part}
 use Rattle.shellword.specs.declared.front.Context.{Context}
 use Rattle.shellword.specs.declared.front.Context.TheVariants.{Bare, Single, Double, Here}
-use Rattle.shellword.specs.declared.front.Front.{Front}
+use Rattle.shellword.specs.declared.front.WordFront.{WordFront}
 use Rattle.shellword.specs.Text.{single_quote, double_quote, backslash, dollar, backquote, open_brace, name_len, has_no, stands_alone}
 use Rattle.shellword.specs.Contexts.{is_special, closes_brace, is_over, is_quoted}
 use Rattle.shellword.specs.Scan.{braced_front, dollar_front, front_of, close, scan}
@@ -78,11 +78,11 @@ abbrev failure : {A : Type 0} → ShellFault → Result A ShellFault
 failure f = Err f
 
 braced_err : (at : ℕ) (c : Context) (bs : List ℕ) (f : ShellFault) → braced_front at c bs ≡ Err f → f ≡ BadWord at
-braced_err at c [] f e = sym (err_is {A = Front} _ _ e)
+braced_err at c [] f e = sym (err_is {A = WordFront} _ _ e)
 braced_err at c (b ∷ inside) f e =
     elim (chosen (b == open_brace && ltb 0 (name_len inside) && closes_brace (drop (name_len inside) inside)) _ _ _ e) [
       | inl h ↦ absurd (passed h.1)
-      | inr h ↦ sym (err_is {A = Front} _ _ h.1)
+      | inr h ↦ sym (err_is {A = WordFront} _ _ h.1)
     ]
 
 dollar_err : (at : ℕ) (c : Context) (bs : List ℕ) (f : ShellFault) → dollar_front at c bs ≡ Err f → (f ≡ BadWord at) × (stands_alone bs ≡ false)
@@ -102,8 +102,8 @@ fails_at_dollar at c bs f special e =
 fails_at_backquote : (at : ℕ) (c : Context) (bs : List ℕ) (f : ShellFault) → is_special c backquote ≡ true → front_of at c backquote bs ≡ Err f → FailsHere at c (backquote ∷ bs) f
 unfolding front_of
 fails_at_backquote at c bs f special e =
-    let there : failure {A = Front} (BadWord at) ≡ Err f = rw special at e in
-    (sym (err_is {A = Front} _ _ there), expands c backquote special refl, command)
+    let there : failure {A = WordFront} (BadWord at) ≡ Err f = rw special at e in
+    (sym (err_is {A = WordFront} _ _ there), expands c backquote special refl, command)
 
 read-refused : (at : ℕ) (c : Context) (b : ℕ) (bs : List ℕ) (f : ShellFault) → front_of at c b bs ≡ Err f → FailsHere at c (b ∷ bs) f
 unfolding front_of
@@ -145,7 +145,7 @@ after_refused : (at : ℕ) (c : Context) (text : List ℕ) → Refuses at c text
 after_refused at c [] h = absurd h
 after_refused at c (b ∷ bs) h = scan_failed c at b bs (BadWord at) h.0 h.1
 
-after_step : (at : ℕ) (c : Context) (text : List ℕ) (f : Front) (g : ShellFault) → is_over c text ≡ false → IsFront c text f → scan 0 f.context (at + f.len) (drop f.len text) ≡ Err g
+after_step : (at : ℕ) (c : Context) (text : List ℕ) (f : WordFront) (g : ShellFault) → is_over c text ≡ false → IsFront c text f → scan 0 f.context (at + f.len) (drop f.len text) ≡ Err g
     → scan 0 c at text ≡ Err g
 after_step at c [] f g more one e = absurd cc
 after_step at c (b ∷ bs) f g more one e =
@@ -290,7 +290,7 @@ single_opened text rest p =
       | inr q ↦ subst (λ (t : List ℕ). WordBreaks (single_quote ∷ t) rest) (sym q.text_is) (refusals.later (w.single_quoted q.inside q.none) q.later)
     ]
 
-step_broken : {c : Context} {text : List ℕ} {f : Front} → Found c text f → (rest : List ℕ) → Broken f.context (drop f.len text) rest → Broken c text rest
+step_broken : {c : Context} {text : List ℕ} {f : WordFront} → Found c text f → (rest : List ℕ) → Broken f.context (drop f.len text) rest → Broken c text rest
 step_broken (parts.part one) rest p = part_broken one rest p
 step_broken (parts.single_opens {after}) rest p = single_opened after rest p
 step_broken (parts.double_opens {after}) rest p = double_opened after rest p

@@ -6,7 +6,7 @@ use Rattle.shellword.specs.declared.fault.ShellFault.TheVariants.{BadWord}
 use Rattle.shellword.specs.declared.part.Part.{Part}
 use Rattle.shellword.specs.declared.front.Context.{Context}
 use Rattle.shellword.specs.declared.front.Context.TheVariants.{Bare, Here}
-use Rattle.shellword.specs.declared.front.Front.{Front}
+use Rattle.shellword.specs.declared.front.WordFront.{WordFront}
 use Rattle.shellword.specs.Text.{is_blank, word_ends, is_parted}
 use Rattle.shellword.specs.Contexts.{is_over, is_quoted}
 use Rattle.shellword.specs.Scan.{front_of, close, scan, word_of, word_front_of, here_of}
@@ -20,7 +20,7 @@ use Rattle.shellword.proofs.Runs.{with_parts, scan_over, scan_front}
 
 -- ---- what is in the text is scanned
 
-after_front : (c : Context) (text : List ℕ) (f : Front) (parts : List Part) (n at : ℕ) → is_over c text ≡ false → IsFront c text f
+after_front : (c : Context) (text : List ℕ) (f : WordFront) (parts : List Part) (n at : ℕ) → is_over c text ≡ false → IsFront c text f
     → scan 0 f.context (at + f.len) (drop f.len text) ≡ Ok (parts, at + f.len + n) → scan 0 c at text ≡ Ok (option_to_list f.part ++ parts, at + (f.len + n))
 after_front c [] f parts n at over h e = absurd cc
 after_front c (b ∷ bs) f parts n at over h e =
@@ -47,7 +47,7 @@ closed-found c at text parts stop over e =
           (0, subst (λ (ps : List Part). Runs c text ps 0) (ap (λ (r : List Part × ℕ). r.0) p) (ends h.0 over), omega (arith, ap (λ (r : List Part × ℕ). r.1) p))
     ]
 
-found-front : (c : Context) (at b : ℕ) (bs : List ℕ) (f : Front) (parts : List Part) (stop : ℕ) → is_over c (b ∷ bs) ≡ false → IsFront c (b ∷ bs) f → 0 < f.len
+found-front : (c : Context) (at b : ℕ) (bs : List ℕ) (f : WordFront) (parts : List Part) (stop : ℕ) → is_over c (b ∷ bs) ≡ false → IsFront c (b ∷ bs) f → 0 < f.len
     → Found f.context (at + 1 + (f.len - 1)) (drop (f.len - 1) bs) parts stop → Found c at (b ∷ bs) (option_to_list f.part ++ parts) stop
 found-front c at b bs f parts stop more there some found =
     let one : suc (f.len - 1) ≡ f.len = omega arith in

@@ -8,21 +8,21 @@ use Rattle.shellword.specs.declared.part.Part.{Part}
 use Rattle.shellword.specs.declared.part.Part.TheVariants.{Variable}
 use Rattle.shellword.specs.declared.front.Context.{Context}
 use Rattle.shellword.specs.declared.front.Context.TheVariants.{Bare, Single, Double, Here}
-use Rattle.shellword.specs.declared.front.Front.{Front}
+use Rattle.shellword.specs.declared.front.WordFront.{WordFront}
 use Rattle.shellword.specs.Text.{is_blank, is_parted, single_quote, backslash, dollar, backquote, open_brace, name_len, stands_alone}
 use Rattle.shellword.specs.Contexts.{is_over, is_quoted, is_special, escapes, escaped_part, byte_in, closes_brace}
 
 -- A front of this part and length, with the context after it.
-abbrev pub front : Option Part → ℕ → Context → Front
+abbrev pub front : Option Part → ℕ → Context → WordFront
 front part len context = record { part = part; len = len; context = context }
 
 -- The front of a backslash before this text.
-abbrev pub backslash_front : Context → List ℕ → Front
+abbrev pub backslash_front : Context → List ℕ → WordFront
 backslash_front c [] = front (Some (byte_in c backslash)) 1 c
 backslash_front c (b ∷ bs) = if escapes c b then front (escaped_part c b) 2 c else front (Some (byte_in c backslash)) 1 c
 
 -- The front of `$` before this text, which doesn't begin with a name.
-abbrev pub braced_front : ℕ → Context → List ℕ → Result Front ShellFault
+abbrev pub braced_front : ℕ → Context → List ℕ → Result WordFront ShellFault
 braced_front at c [] = Err (BadWord at)
 braced_front at c (b ∷ inside) =
     if b == open_brace && nat_lt 0 (name_len inside) && closes_brace (drop (name_len inside) inside)
@@ -30,7 +30,7 @@ braced_front at c (b ∷ inside) =
     else Err (BadWord at)
 
 -- The front of `$` before this text.
-abbrev pub dollar_front : ℕ → Context → List ℕ → Result Front ShellFault
+abbrev pub dollar_front : ℕ → Context → List ℕ → Result WordFront ShellFault
 dollar_front at c text =
     if nat_lt 0 (name_len text) then Ok (front (Some (Variable (take (name_len text) text))) (name_len text + 1) c)
     else (if stands_alone text then Ok (front (Some (byte_in c dollar)) 1 c)
@@ -42,7 +42,7 @@ quote_context Bare b = if b == single_quote then Single else Double
 quote_context c b = Bare
 
 -- The front of b ∷ bs.
-unfoldable pub front_of : ℕ → Context → ℕ → List ℕ → Result Front ShellFault
+unfoldable pub front_of : ℕ → Context → ℕ → List ℕ → Result WordFront ShellFault
 front_of at c b bs =
     if is_special c b then
     (if b == backslash then Ok (backslash_front c bs)

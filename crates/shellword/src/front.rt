@@ -31,7 +31,7 @@ pub(crate) enum Context {
 /// The front of a text: the part that it produces, if any; its length; and the context of the next
 /// byte.
 #[derive(Drop)]
-pub(crate) struct Front {
+pub(crate) struct WordFront {
     pub(crate) part: Option<Part>,
     pub(crate) len: usize,
     pub(crate) context: Context,
@@ -95,18 +95,18 @@ fn escaped_part(context: Context, byte: u8) -> Option<Part>
 }
 
 /// Reads the front of a text that is a backslash and then `rest`.
-fn read_backslash(context: Context, rest: &[u8]) -> Front
+fn read_backslash(context: Context, rest: &[u8]) -> WordFront
     ensures value { result ≡ backslash_front context rest.now }
     ensures not_empty { 0 < result.len }
     ensures within { result.len ≤ length rest.now + 1 }
 {
     match rest.split_first() {
-        Some((byte, _)) if escapes(context, *byte) => Front {
+        Some((byte, _)) if escapes(context, *byte) => WordFront {
             part: escaped_part(context, *byte),
             len: 2,
             context,
         },
-        _ => Front {
+        _ => WordFront {
             part: Some(byte_in(context, b'\\')),
             len: 1,
             context,
@@ -155,7 +155,7 @@ fn variable_front(
     name: &[u8],
     around: usize,
     context: Context,
-) -> Result<Front, ShellFault>
+) -> Result<WordFront, ShellFault>
     requires { around < 4 }
     ensures ok { IfOk result (λ f.
         f ≡ front (Some (Variable name.now)) (length name.now + around) context) }
@@ -163,7 +163,7 @@ fn variable_front(
 {
     let len = name.len() + around;
     let name = Bytes::from_slice(alloc, name)?;
-    Ok(Front {
+    Ok(WordFront {
         part: Some(Part::Variable(name)),
         len,
         context,
@@ -172,7 +172,12 @@ fn variable_front(
 
 /// Reads the front of a text that is `$` and then `rest`, which doesn't begin with a name. Only
 /// `${name}` is read.
-fn read_braced(alloc: Global, at: usize, context: Context, rest: &[u8]) -> Result<Front, ShellFault>
+fn read_braced(
+    alloc: Global,
+    at: usize,
+    context: Context,
+    rest: &[u8],
+) -> Result<WordFront, ShellFault>
     ensures value { Gives (λ f. f) result (braced_front at context rest.now) }
     ensures fault { IfErr result (IsWordFault at) }
     ensures within { IfOk result (λ f. (0 < f.len) × (f.len ≤ length rest.now + 1)) }
@@ -189,7 +194,12 @@ fn read_braced(alloc: Global, at: usize, context: Context, rest: &[u8]) -> Resul
 }
 
 /// Reads the front of a text at offset `at` that is `$` and then `rest`.
-fn read_dollar(alloc: Global, at: usize, context: Context, rest: &[u8]) -> Result<Front, ShellFault>
+fn read_dollar(
+    alloc: Global,
+    at: usize,
+    context: Context,
+    rest: &[u8],
+) -> Result<WordFront, ShellFault>
     ensures value { Gives (λ f. f) result (dollar_front at context rest.now) }
     ensures fault { IfErr result (IsWordFault at) }
     ensures within { IfOk result (λ f. (0 < f.len) × (f.len ≤ length rest.now + 1)) }
@@ -198,7 +208,7 @@ fn read_dollar(alloc: Global, at: usize, context: Context, rest: &[u8]) -> Resul
     if 0 < len {
         variable_front(alloc, &rest[..len], 1, context)
     } else if stands_alone(rest) {
-        Ok(Front {
+        Ok(WordFront {
             part: Some(byte_in(context, b'$')),
             len: 1,
             context,
@@ -227,13 +237,13 @@ pub(crate) fn read_front(
     context: Context,
     byte: u8,
     rest: &[u8],
-) -> Result<Front, ShellFault>
+) -> Result<WordFront, ShellFault>
     ensures value { Gives (λ f. f) result (front_of at context byte rest.now) }
     ensures fault { IfErr result (IsWordFault at) }
     ensures within { IfOk result (λ f. (0 < f.len) × (f.len ≤ length rest.now + 1)) }
 {
     if !is_special(context, byte) {
-        return Ok(Front {
+        return Ok(WordFront {
             part: Some(byte_in(context, byte)),
             len: 1,
             context,
@@ -243,7 +253,7 @@ pub(crate) fn read_front(
         b'\\' => Ok(read_backslash(context, rest)),
         b'$' => read_dollar(alloc, at, context, rest),
         b'`' => Err(ShellFault::BadWord(at)),
-        _ => Ok(Front {
+        _ => Ok(WordFront {
             part: None,
             len: 1,
             context: quote_context(context, byte),

@@ -24,7 +24,7 @@ use test_rows::{Named, Page, RowCall, try_rows};
 // ---- texts, names and numbers
 
 /// A reader of an argument that is a text, a name or a number.
-enum Reader {
+enum ArgReader {
     Text,
     Line,
     Title,
@@ -47,62 +47,62 @@ enum Reader {
     Help,
 }
 
-const READERS: [(&[u8], Reader); 20] = [
-    (b"text", Reader::Text),
-    (b"line", Reader::Line),
-    (b"title", Reader::Title),
-    (b"name", Reader::Name),
-    (b"cache_name", Reader::CacheName),
-    (b"feature", Reader::Feature),
-    (b"package", Reader::Package),
-    (b"program", Reader::Program),
-    (b"programs", Reader::Programs),
-    (b"version", Reader::Version),
-    (b"status", Reader::Status),
-    (b"language", Reader::Language),
-    (b"word", Reader::Word),
-    (b"here", Reader::Here),
-    (b"source", Reader::Source),
-    (b"includes", Reader::Includes),
-    (b"test", Reader::Test),
-    (b"patterns", Reader::Patterns),
-    (b"inside", Reader::Inside),
-    (b"help", Reader::Help),
+const READERS: [(&[u8], ArgReader); 20] = [
+    (b"text", ArgReader::Text),
+    (b"line", ArgReader::Line),
+    (b"title", ArgReader::Title),
+    (b"name", ArgReader::Name),
+    (b"cache_name", ArgReader::CacheName),
+    (b"feature", ArgReader::Feature),
+    (b"package", ArgReader::Package),
+    (b"program", ArgReader::Program),
+    (b"programs", ArgReader::Programs),
+    (b"version", ArgReader::Version),
+    (b"status", ArgReader::Status),
+    (b"language", ArgReader::Language),
+    (b"word", ArgReader::Word),
+    (b"here", ArgReader::Here),
+    (b"source", ArgReader::Source),
+    (b"includes", ArgReader::Includes),
+    (b"test", ArgReader::Test),
+    (b"patterns", ArgReader::Patterns),
+    (b"inside", ArgReader::Inside),
+    (b"help", ArgReader::Help),
 ];
 
-impl RowCall for Reader {
+impl RowCall for ArgReader {
     fn put(&self, page: &mut Page, given: &[u8]) {
         let alloc = page.alloc();
         let arg = Arg { text: given, at: 0 };
         match self {
-            Reader::Text => put_made(page, text(alloc, arg)),
-            Reader::Line => put_made(page, line(alloc, arg)),
-            Reader::Title => put_made(page, title(alloc, arg)),
-            Reader::Name => put_made(page, name(alloc, arg)),
-            Reader::Feature => put_made(page, feature_variable(alloc, OptionKind::Feature, arg)),
-            Reader::Package => put_made(page, feature_variable(alloc, OptionKind::Package, arg)),
-            Reader::Version => put_made(page, version(alloc, arg)),
-            Reader::Status => put_made(page, status(alloc, arg)),
-            Reader::Language => put_made(page, language(alloc, arg)),
+            ArgReader::Text => put_made(page, text(alloc, arg)),
+            ArgReader::Line => put_made(page, line(alloc, arg)),
+            ArgReader::Title => put_made(page, title(alloc, arg)),
+            ArgReader::Name => put_made(page, name(alloc, arg)),
+            ArgReader::Feature => put_made(page, feature_variable(alloc, OptionKind::Feature, arg)),
+            ArgReader::Package => put_made(page, feature_variable(alloc, OptionKind::Package, arg)),
+            ArgReader::Version => put_made(page, version(alloc, arg)),
+            ArgReader::Status => put_made(page, status(alloc, arg)),
+            ArgReader::Language => put_made(page, language(alloc, arg)),
             _ => self.put_further(page, arg),
         }
     }
 }
 
-impl Reader {
+impl ArgReader {
     fn put_further(&self, page: &mut Page, arg: Arg<'_>) {
         let alloc = page.alloc();
         match self {
-            Reader::Program => put_made(page, program(alloc, arg)),
-            Reader::Programs => put_made(page, programs(alloc, arg)),
-            Reader::Word => put_made(page, word(alloc, arg)),
-            Reader::Here => put_made(page, here_text(alloc, arg)),
-            Reader::Source => put_made(page, source_text(alloc, arg)),
-            Reader::Includes => put_made(page, includes(alloc, arg)),
-            Reader::Test => put_made(page, test(alloc, arg)),
-            Reader::Patterns => put_made(page, patterns(alloc, arg)),
-            Reader::Inside => put_made(page, inside(alloc, arg)),
-            Reader::CacheName => put_made(page, cache_name(alloc, arg)),
+            ArgReader::Program => put_made(page, program(alloc, arg)),
+            ArgReader::Programs => put_made(page, programs(alloc, arg)),
+            ArgReader::Word => put_made(page, word(alloc, arg)),
+            ArgReader::Here => put_made(page, here_text(alloc, arg)),
+            ArgReader::Source => put_made(page, source_text(alloc, arg)),
+            ArgReader::Includes => put_made(page, includes(alloc, arg)),
+            ArgReader::Test => put_made(page, test(alloc, arg)),
+            ArgReader::Patterns => put_made(page, patterns(alloc, arg)),
+            ArgReader::Inside => put_made(page, inside(alloc, arg)),
+            ArgReader::CacheName => put_made(page, cache_name(alloc, arg)),
             _ => put_made(page, help(alloc, arg)),
         }
     }

@@ -18,7 +18,7 @@ enum Reads {
 }
 
 /// A reader of entries of a kind.
-struct Reader(Sought, Reads);
+struct EntryReader(Sought, Reads);
 
 const HEADER: Sought = Sought::ListEntry(Listed::Header);
 
@@ -28,39 +28,45 @@ const DECLARATION: Sought = Sought::ListEntry(Listed::Declaration);
 
 const TYPE: Sought = Sought::Type;
 
-const READERS: [(&[u8], Reader); 16] = [
-    (b"header", Reader(HEADER, Reads::One)),
-    (b"function", Reader(FUNCTION, Reads::One)),
-    (b"declaration", Reader(DECLARATION, Reads::One)),
-    (b"type", Reader(TYPE, Reads::One)),
-    (b"headers", Reader(HEADER, Reads::List)),
-    (b"functions", Reader(FUNCTION, Reads::List)),
-    (b"declarations", Reader(DECLARATION, Reads::List)),
-    (b"types", Reader(TYPE, Reads::List)),
-    (b"256_headers", Reader(HEADER, Reads::Repeated(256))),
-    (b"257_headers", Reader(HEADER, Reads::Repeated(257))),
-    (b"256_functions", Reader(FUNCTION, Reads::Repeated(256))),
-    (b"257_functions", Reader(FUNCTION, Reads::Repeated(257))),
+const READERS: [(&[u8], EntryReader); 16] = [
+    (b"header", EntryReader(HEADER, Reads::One)),
+    (b"function", EntryReader(FUNCTION, Reads::One)),
+    (b"declaration", EntryReader(DECLARATION, Reads::One)),
+    (b"type", EntryReader(TYPE, Reads::One)),
+    (b"headers", EntryReader(HEADER, Reads::List)),
+    (b"functions", EntryReader(FUNCTION, Reads::List)),
+    (b"declarations", EntryReader(DECLARATION, Reads::List)),
+    (b"types", EntryReader(TYPE, Reads::List)),
+    (b"256_headers", EntryReader(HEADER, Reads::Repeated(256))),
+    (b"257_headers", EntryReader(HEADER, Reads::Repeated(257))),
+    (
+        b"256_functions",
+        EntryReader(FUNCTION, Reads::Repeated(256)),
+    ),
+    (
+        b"257_functions",
+        EntryReader(FUNCTION, Reads::Repeated(257)),
+    ),
     (
         b"256_declarations",
-        Reader(DECLARATION, Reads::Repeated(256)),
+        EntryReader(DECLARATION, Reads::Repeated(256)),
     ),
     (
         b"257_declarations",
-        Reader(DECLARATION, Reads::Repeated(257)),
+        EntryReader(DECLARATION, Reads::Repeated(257)),
     ),
-    (b"256_types", Reader(TYPE, Reads::Repeated(256))),
-    (b"257_types", Reader(TYPE, Reads::Repeated(257))),
+    (b"256_types", EntryReader(TYPE, Reads::Repeated(256))),
+    (b"257_types", EntryReader(TYPE, Reads::Repeated(257))),
 ];
 
 /// Puts how many entries a list has.
-impl Next<Entries> for Reader {
+impl Next<Entries> for EntryReader {
     fn put_of(&self, page: &mut Page, made: &Entries) {
         page.put_number(made.as_slice().len());
     }
 }
 
-impl Reader {
+impl EntryReader {
     fn put_repeated(&self, page: &mut Page, piece: &[u8], count: usize) {
         let mut text = Page::new(page.alloc());
         for _ in 0..count {
@@ -74,7 +80,7 @@ impl Reader {
     }
 }
 
-impl RowCall for Reader {
+impl RowCall for EntryReader {
     fn put(&self, page: &mut Page, given: &[u8]) {
         let alloc = page.alloc();
         let arg = Arg { text: given, at: 0 };

@@ -254,7 +254,7 @@ fn put_programs(page: &mut Page) {
 }
 
 /// A call.
-enum Reader {
+enum MacroReader {
     /// What the table has of a name.
     Row,
     /// Whether a call has arguments that its macro takes.
@@ -275,29 +275,29 @@ enum Reader {
     Programs,
 }
 
-const READERS: [(&[u8], Reader); 11] = [
-    (b"row", Reader::Row),
-    (b"takes", Reader::Takes),
-    (b"reads", Reader::Reads),
-    (b"uses", Reader::Uses),
-    (b"top", Reader::Top),
-    (b"inside", Reader::Inside),
-    (b"commands", Reader::Commands),
-    (b"before", Reader::Before),
-    (b"after", Reader::After),
-    (b"first", Reader::First),
-    (b"programs", Reader::Programs),
+const READERS: [(&[u8], MacroReader); 11] = [
+    (b"row", MacroReader::Row),
+    (b"takes", MacroReader::Takes),
+    (b"reads", MacroReader::Reads),
+    (b"uses", MacroReader::Uses),
+    (b"top", MacroReader::Top),
+    (b"inside", MacroReader::Inside),
+    (b"commands", MacroReader::Commands),
+    (b"before", MacroReader::Before),
+    (b"after", MacroReader::After),
+    (b"first", MacroReader::First),
+    (b"programs", MacroReader::Programs),
 ];
 
 /// Whether nothing is declared.
-impl Next<Declarations> for Reader {
+impl Next<Declarations> for MacroReader {
     fn put_of(&self, page: &mut Page, known: &Declarations) {
         page.put_yes(is_first(known));
     }
 }
 
 /// What is told of the first call of a text.
-impl Next<Vec<Item<'_>>> for Reader {
+impl Next<Vec<Item<'_>>> for MacroReader {
     fn put_of(&self, page: &mut Page, items: &Vec<Item<'_>>) {
         let Some(Item::Call { name, args, at }) = items.first() else {
             return page.put(b"no call");
@@ -306,13 +306,13 @@ impl Next<Vec<Item<'_>>> for Reader {
             return page.put(b"no macro");
         };
         match self {
-            Reader::Takes => put_made(page, takes(page.alloc(), row, args.as_slice())),
+            MacroReader::Takes => put_made(page, takes(page.alloc(), row, args.as_slice())),
             _ => {
                 let called = Called {
                     named: row.named,
                     at: *at,
                     args: args.as_slice(),
-                    uses: matches!(self, Reader::Uses),
+                    uses: matches!(self, MacroReader::Uses),
                 };
                 put_of(page, Declarations::new(page.alloc()), &called);
             }
@@ -320,21 +320,21 @@ impl Next<Vec<Item<'_>>> for Reader {
     }
 }
 
-impl RowCall for Reader {
+impl RowCall for MacroReader {
     fn put(&self, page: &mut Page, text: &[u8]) {
         let alloc = page.alloc();
         match self {
-            Reader::Row => put_row_named(page, text),
-            Reader::Takes | Reader::Reads | Reader::Uses => {
+            MacroReader::Row => put_row_named(page, text),
+            MacroReader::Takes | MacroReader::Reads | MacroReader::Uses => {
                 put_next(page, read_items(alloc, text), self);
             }
-            Reader::Top => put_made(page, allowed(true, Stage::Open, text)),
-            Reader::Inside => put_made(page, allowed(false, Stage::Open, text)),
-            Reader::Commands => put_made(page, allowed_in_commands(text)),
-            Reader::Before => put_made(page, allowed(true, Stage::Before, text)),
-            Reader::After => put_made(page, allowed(true, Stage::Ended, text)),
-            Reader::First => put_of(page, Declarations::new(alloc), self),
-            Reader::Programs => put_programs(page),
+            MacroReader::Top => put_made(page, allowed(true, Stage::Open, text)),
+            MacroReader::Inside => put_made(page, allowed(false, Stage::Open, text)),
+            MacroReader::Commands => put_made(page, allowed_in_commands(text)),
+            MacroReader::Before => put_made(page, allowed(true, Stage::Before, text)),
+            MacroReader::After => put_made(page, allowed(true, Stage::Ended, text)),
+            MacroReader::First => put_of(page, Declarations::new(alloc), self),
+            MacroReader::Programs => put_programs(page),
         }
     }
 }

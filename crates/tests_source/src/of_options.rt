@@ -125,7 +125,7 @@ fn put_directory(page: &mut Page, name: &[u8]) {
 }
 
 /// A call.
-pub enum Reader {
+pub enum OptionReader {
     /// The settings of a command line, over the lists of a source.
     Lists,
     /// The settings of a command line, over a source.
@@ -142,20 +142,20 @@ pub enum Reader {
     Memory,
 }
 
-pub const READERS: [(&[u8], Reader); 7] = [
-    (b"lists", Reader::Lists),
-    (b"source", Reader::Source),
-    (b"help", Reader::Help),
-    (b"srcdir", Reader::Srcdir),
-    (b"directory", Reader::Directory),
-    (b"directories", Reader::Directories),
-    (b"memory", Reader::Memory),
+pub const READERS: [(&[u8], OptionReader); 7] = [
+    (b"lists", OptionReader::Lists),
+    (b"source", OptionReader::Source),
+    (b"help", OptionReader::Help),
+    (b"srcdir", OptionReader::Srcdir),
+    (b"directory", OptionReader::Directory),
+    (b"directories", OptionReader::Directories),
+    (b"memory", OptionReader::Memory),
 ];
 
 /// A call of a source and the arguments of a command line.
 #[derive(Drop)]
 struct Over<'a> {
-    reader: &'a Reader,
+    reader: &'a OptionReader,
     arguments: &'a [Bytes],
 }
 
@@ -163,14 +163,17 @@ impl Next<Source> for Over<'_> {
     fn put_of(&self, page: &mut Page, source: &Source) {
         let alloc = page.alloc();
         match self.reader {
-            Reader::Lists => put_made(page, read_settings_of_lists(alloc, source, self.arguments)),
-            Reader::Source => put_made(page, read_settings(alloc, source, self.arguments)),
+            OptionReader::Lists => put_made(
+                page,
+                read_settings_of_lists(alloc, source, self.arguments),
+            ),
+            OptionReader::Source => put_made(page, read_settings(alloc, source, self.arguments)),
             _ => put_help(page, source),
         }
     }
 }
 
-impl Reader {
+impl OptionReader {
     fn put_over(&self, page: &mut Page, text: &[u8], arguments: &[Bytes]) {
         let over = Over {
             reader: self,
@@ -180,17 +183,17 @@ impl Reader {
     }
 }
 
-impl RowCall for Reader {
+impl RowCall for OptionReader {
     fn put(&self, page: &mut Page, line: &[u8]) {
         let arguments = arguments_of(page, line);
         match self {
-            Reader::Lists => self.put_over(page, DECLARING, &arguments),
-            Reader::Source => self.put_over(page, SOURCE, &arguments),
-            Reader::Help => self.put_over(page, line, &arguments),
-            Reader::Srcdir => put_srcdir(page, &arguments),
-            Reader::Directory => put_directory(page, line),
-            Reader::Directories => page.put_number(directories().len()),
-            Reader::Memory => page.put_shown(&OptionFault::OutOfMemory),
+            OptionReader::Lists => self.put_over(page, DECLARING, &arguments),
+            OptionReader::Source => self.put_over(page, SOURCE, &arguments),
+            OptionReader::Help => self.put_over(page, line, &arguments),
+            OptionReader::Srcdir => put_srcdir(page, &arguments),
+            OptionReader::Directory => put_directory(page, line),
+            OptionReader::Directories => page.put_number(directories().len()),
+            OptionReader::Memory => page.put_shown(&OptionFault::OutOfMemory),
         }
     }
 }

@@ -64,7 +64,7 @@ fn put_notes(page: &mut Page, notes: &Notes) {
 }
 
 /// A call.
-pub enum Reader {
+pub enum PreciousReader {
     /// The check, over a source.
     Source,
     /// The check, over the precious variables of a source.
@@ -77,15 +77,15 @@ pub enum Reader {
     Memory,
 }
 
-pub const READERS: [(&[u8], Reader); 5] = [
-    (b"source", Reader::Source),
-    (b"list", Reader::List),
-    (b"poured", Reader::Poured),
-    (b"wide", Reader::Wide),
-    (b"memory", Reader::Memory),
+pub const READERS: [(&[u8], PreciousReader); 5] = [
+    (b"source", PreciousReader::Source),
+    (b"list", PreciousReader::List),
+    (b"poured", PreciousReader::Poured),
+    (b"wide", PreciousReader::Wide),
+    (b"memory", PreciousReader::Memory),
 ];
 
-impl Reader {
+impl PreciousReader {
     fn check(
         &self,
         page: &Page,
@@ -94,7 +94,7 @@ impl Reader {
         cache: &OldCache,
     ) -> Result<Notes, PreciousFault> {
         match self {
-            Reader::Source => check(page.alloc(), source, vars, cache),
+            PreciousReader::Source => check(page.alloc(), source, vars, cache),
             _ => check_list(page.alloc(), source, vars, cache),
         }
     }
@@ -106,7 +106,7 @@ impl Reader {
             Err(fault) => page.put_shown(&fault),
         }
         page.put(b" ");
-        if let Reader::Poured = self {
+        if let PreciousReader::Poured = self {
             page.given(cache.pour(vars));
         }
         put_values(page, vars);
@@ -139,7 +139,7 @@ fn wide_source(page: &Page) -> Page {
 /// A call, the arguments of a command line and the text of a cache.
 #[derive(Drop)]
 struct Given<'a> {
-    reader: &'a Reader,
+    reader: &'a PreciousReader,
     arguments: &'a [Bytes],
     cache: &'a [u8],
 }
@@ -158,7 +158,7 @@ impl Next<Source> for Given<'_> {
 /// A call, the arguments of a command line and a source.
 #[derive(Drop)]
 struct Over<'a> {
-    reader: &'a Reader,
+    reader: &'a PreciousReader,
     arguments: &'a [Bytes],
     source: &'a Source,
 }
@@ -172,7 +172,7 @@ impl Next<OldCache> for Over<'_> {
     }
 }
 
-impl Reader {
+impl PreciousReader {
     fn put_over(&self, page: &mut Page, source: &[u8], line: &[u8]) {
         let (words, cache) = cut(line, b",");
         let arguments = arguments_of(page, words);
@@ -187,13 +187,13 @@ impl Reader {
 
 /// The arguments are before the first comma, with a bar between each two, and the text of the cache
 /// is after it.
-impl RowCall for Reader {
+impl RowCall for PreciousReader {
     fn put(&self, page: &mut Page, line: &[u8]) {
-        if let Reader::Memory = self {
+        if let PreciousReader::Memory = self {
             return page.put_shown(&PreciousFault::OutOfMemory);
         }
         match self {
-            Reader::Wide => self.put_over(page, wide_source(page).text(), line),
+            PreciousReader::Wide => self.put_over(page, wide_source(page).text(), line),
             _ => self.put_over(page, SOURCE, line),
         }
     }

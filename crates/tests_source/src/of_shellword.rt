@@ -10,7 +10,7 @@ use std::test::Fail;
 use test_rows::{Named, Page, RowCall, cut, try_rows};
 
 /// A call, by what it reads.
-enum Reader {
+enum WordReader {
     Word,
     Front,
     Here,
@@ -23,17 +23,17 @@ enum Reader {
     NoList,
 }
 
-const READERS: [(&[u8], Reader); 10] = [
-    (b"word", Reader::Word),
-    (b"front", Reader::Front),
-    (b"here", Reader::Here),
-    (b"parts", Reader::Parts),
-    (b"empty", Reader::Empty),
-    (b"test", Reader::Test),
-    (b"elements", Reader::Elements),
-    (b"matches", Reader::Matches),
-    (b"list", Reader::List),
-    (b"no_list", Reader::NoList),
+const READERS: [(&[u8], WordReader); 10] = [
+    (b"word", WordReader::Word),
+    (b"front", WordReader::Front),
+    (b"here", WordReader::Here),
+    (b"parts", WordReader::Parts),
+    (b"empty", WordReader::Empty),
+    (b"test", WordReader::Test),
+    (b"elements", WordReader::Elements),
+    (b"matches", WordReader::Matches),
+    (b"list", WordReader::List),
+    (b"no_list", WordReader::NoList),
 ];
 
 impl Next<Word> for Vars {
@@ -119,29 +119,29 @@ fn put_matches(page: &mut Page, given: &[u8]) {
     put_next(page, read_patterns(page.alloc(), list), &Matched(text));
 }
 
-impl Reader {
+impl WordReader {
     fn put_with(&self, page: &mut Page, vars: &Vars, text: &[u8]) {
         let alloc = page.alloc();
         match self {
-            Reader::Word => put_next(page, read_word(alloc, text), vars),
-            Reader::Front => put_next(page, read_word_front(alloc, text), vars),
-            Reader::Here => put_next(page, read_here(alloc, text), vars),
-            Reader::Parts => {
+            WordReader::Word => put_next(page, read_word(alloc, text), vars),
+            WordReader::Front => put_next(page, read_word_front(alloc, text), vars),
+            WordReader::Here => put_next(page, read_here(alloc, text), vars),
+            WordReader::Parts => {
                 put_made(page, read_word(alloc, text));
                 page.put(b" here ");
                 put_made(page, read_here(alloc, text));
             }
-            Reader::Empty => put_empty(page, vars),
-            Reader::Test => put_made(page, read_test(alloc, text)),
-            Reader::Elements => put_next(page, read_test(alloc, text), vars),
-            Reader::Matches => put_matches(page, text),
-            Reader::List => put_list(page, text),
-            Reader::NoList => put_no_list(page),
+            WordReader::Empty => put_empty(page, vars),
+            WordReader::Test => put_made(page, read_test(alloc, text)),
+            WordReader::Elements => put_next(page, read_test(alloc, text), vars),
+            WordReader::Matches => put_matches(page, text),
+            WordReader::List => put_list(page, text),
+            WordReader::NoList => put_no_list(page),
         }
     }
 }
 
-impl RowCall for Reader {
+impl RowCall for WordReader {
     fn put(&self, page: &mut Page, text: &[u8]) {
         let vars = variables(page);
         self.put_with(page, &vars, text);
