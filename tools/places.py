@@ -23,7 +23,7 @@ CASES = ["crates/tests_cases/data", "crates/tests_cases/stdout"]
 PAGE = ["docs/language.md", "CHANGELOG.md"]
 MACRO = [*CASES, *PAGE, "README.md", "crates/lint_macros/macros.txt"]
 # The crates in which `lint`, `why` and `port` say something of a macro.
-SAYING = ("lint_words", "lint_warnings", "lint_templates", "cmd_why", "cmd_port", "port_calls", "port_definitions", "port_idioms", "port_shell")
+SAYING = ("lint_words", "run_words", "lint_warnings", "lint_templates", "cmd_why", "cmd_port", "port_calls", "port_definitions", "port_idioms", "port_shell")
 # The form of each macro is here.
 FORMS = pathlib.Path("crates/lint_words/src/forms.rt")
 # In rows of tests a newline is `^J`.
@@ -62,7 +62,7 @@ KINDS = [
      [*CASES, "docs/commands.md", "docs/errors.md"], []),
     ("A line of the log", "`start refused` and `failed program was`", LINES, LINES, (),
      [*CASES, "docs/formats.md", "tools/fuzz_why.py", "tools/cut_and_resume.py", "bench/windows.py"], []),
-    ("The words of a fault", "`CacheBody`", r"CacheBody|CACHE_BODY", "", ("lint_words",), [*WORDS, *LINT], [BY_WORDS, BY_LINT]),
+    ("The words of a fault", "`CacheBody`", r"CacheBody|CACHE_BODY", "", ("lint_words", "run_words"), [*WORDS, *LINT], [BY_WORDS, BY_LINT]),
     ("A warning of `lint`, a row", "`COMMA_IN_NAME`", r"COMMA_IN_NAME", "", ("lint_warnings",), WARNING, [BY_WORDS, BY_DIFFERENCES, BY_LINT]),
     ("A warning of `lint`, a function", "`warn_of_compiler`", r"warn_of_compiler", "", (), WARNING, [BY_WORDS, BY_DIFFERENCES, BY_LINT]),
 ]

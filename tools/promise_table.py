@@ -37,6 +37,7 @@ from the sources.
 WHY_NONE = {
     "lint_macros": "Each index is exact, whoever made it: it has a ghost field that says so, and its calls are stated by that.",
     "lint_words": "They choose words for a reader. Which words are right is a judgement, and examples hold it.",
+    "run_words": "They choose words for a reader. Which words are right is a judgement, and examples hold it.",
     "lint_warnings": "What means something else than it seems to is a judgement, row by row. Examples hold each row.",
     "port_definitions": "They look for places at which something may be written. What is written there is stated by `port_calls`.",
     "port_shell": "It names statements that stay, for the words of an error.",

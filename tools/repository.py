@@ -350,12 +350,12 @@ def literals(text):
 
 def command_lists():
     """Returns a place and the names there, for each place that names all commands."""
-    call, texts, running = ((CRATES / it).read_text() for it in ("cmd_call/src/call.rt", "cmd_help/src/texts.rt", "lint_words/src/running.rt"))
+    call, texts, running = ((CRATES / it).read_text() for it in ("cmd_call/src/call.rt", "cmd_help/src/texts.rt", "run_words/src/running.rt"))
     page = pathlib.Path("share/acrun.1").read_text().partition(".SH COMMANDS\n")[2].partition("\n.SH ")[0]
     bash, zsh, fish = ((COMPLETIONS / it).read_text() for it in ("acrun.bash", "_acrun", "acrun.fish"))
     yield "crates/cmd_call/src/call.rt", {it for it in literals(call) if not it.startswith("-")}
     yield "crates/cmd_help/src/texts.rt", {*re.findall(r'\(b"(\w+)", [A-Z]+\)', texts)}
-    yield "crates/lint_words/src/running.rt", literals(running.partition("const COMMANDS")[2].partition(";\n")[0].partition("=")[2])
+    yield "crates/run_words/src/running.rt", literals(running.partition("const COMMANDS")[2].partition(";\n")[0].partition("=")[2])
     yield "share/acrun.1", {*re.findall(r"(?m)^\.TP\n\.BR? ([a-z]+)", page)}
     yield "the commands of acrun.bash", {*re.findall(r"\b(?<!-)[a-z]+", re.search(r"words='(configure [^']*)'", bash)[1])}
     yield "the help of acrun.bash", {*re.search(r"help\) .* -W '([^']*)'", bash)[1].split()}
@@ -395,10 +395,10 @@ def options_that_do_not_agree():
     of_variables = text["directory.rt"].partition("fn variable")[2].partition("fn default_value")[0]
     directories = {it.replace("_", "-") for it in re.findall(r'=> b"(\w+)"', of_variables)}
     read = {it for it in literals("".join(text.values())) if it.startswith("--")} | {f"--{it}" for it in directories}
-    running = (CRATES / "lint_words/src/running.rt").read_text()
+    running = (CRATES / "run_words/src/running.rt").read_text()
     said = literals(running.partition("const OPTIONS")[2].partition(";\n")[0].partition("=")[2])
     for name in sorted((said ^ read) - {"--disable-option-checking", "--enable-option-checking"}):
-        yield f"crates/lint_words/src/running.rt and crates/options_line do not agree on the option {name}"
+        yield f"crates/run_words/src/running.rt and crates/options_line do not agree on the option {name}"
     page = {*re.findall(r"--[a-z-]*", pathlib.Path("share/acrun.1").read_text().replace("\\-", "-"))}
     for name in sorted(read - page):
         yield f"share/acrun.1 does not name {name}"

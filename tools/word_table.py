@@ -52,7 +52,7 @@ HARD = re.compile(r"(?<!there )\b(?:is|are) no \w+|\b(?:is|are) not read\b|\bby 
 MOST_FIRST, MOST = 68, 70
 PLACE = re.compile(r"%(.)")
 # The crates with tables of macros, and the file that names the variables of AC_INIT.
-LINT = ("lint_errors", "lint_templates", "lint_warnings", "lint_words")
+LINT = ("lint_errors", "lint_templates", "lint_warnings", "lint_words", "run_words")
 GIVEN = CRATES / "lint_templates/src/given.rt"
 MACRO = r"\b(?:AC|AM|AS|AX|m4)_\w+"
 

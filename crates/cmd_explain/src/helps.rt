@@ -5,7 +5,7 @@ ghost use Rattle.std.specs.Prelude.{◌≡◌, false};
 use crate::page::{put_key, put_words, slices};
 use deftable::Bytes;
 use lint_table::{Words, keys};
-use lint_words::usage_words;
+use run_words::usage_words;
 use std::alloc::{AllocError, Global};
 use std::io::Write;
 

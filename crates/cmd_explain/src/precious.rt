@@ -10,8 +10,8 @@ use ac_tree::Source;
 use cachefile::{OldCache, read_cache};
 use deftable::Vars;
 use lint_table::Words;
-use lint_words::precious_words;
 use options::{PreciousFault, Settings, mark_name, value_before};
+use run_words::precious_words;
 use std::alloc::{AllocError, Global};
 
 /// What a run was given, once its source was judged.

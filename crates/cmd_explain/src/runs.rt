@@ -11,8 +11,8 @@ use deftable::Bytes;
 use engine_frame::Fault;
 use file_disk::Disk;
 use lint_table::Words;
-use lint_words::{cache_words, option_words};
 use options_line::OptionFault;
+use run_words::{cache_words, option_words};
 use std::alloc::{AllocError, Global};
 use std::io::Write;
 

@@ -5,10 +5,9 @@ ghost use Rattle.std.specs.Prelude.{◌≡◌, false};
 use crate::Why;
 use deftable::Bytes;
 use engine_frame::Fault;
-use lint_errors::fault_error;
+use lint_errors::{fault_error, too_long_finding};
 use lint_excerpts::excerpt_of;
 use lint_findings::Finding;
-use lint_words::too_long_finding;
 use std::alloc::{AllocError, Global};
 use std::io::Write;
 

@@ -6,7 +6,7 @@ use crate::page::{put_key, put_words, slices};
 use crate::windows::put_window;
 use deftable::Bytes;
 use lint_table::{Key, Words, keys};
-use lint_words::usage_words;
+use run_words::usage_words;
 use std::alloc::{AllocError, Global};
 use std::io::Write;
 

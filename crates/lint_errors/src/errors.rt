@@ -4,6 +4,7 @@ ghost use Rattle.std.specs.Prelude.{◌≡◌, ◌<◌, ◌∷◌, [], ◌↔◌
 ghost use Rattle.std.specs.List.Sorted.{IsSorted};
 ghost use Rattle.acparse.specs.Profile.{source_of};
 ghost use Rattle.lint_findings.specs.Order.{place_cmp};
+ghost use Rattle.lint_findings.specs.declared.finding.Severity.TheVariants.{Error};
 ghost use Rattle.plan.specs.Weight.{heaviest, weight};
 ghost use Rattle.ac_calls.specs.Calls.{calls_in, macro_call_of};
 ghost use Rattle.ac_tree.specs.Script.{script_of};
@@ -17,10 +18,28 @@ use ac_calls::{CallAt, calls_of};
 use ac_statement::ParseFault;
 use ac_tree::Source;
 use acparse::parse;
+use deftable::Bytes;
 use lint_findings::{Finding, put_in_order};
 use lint_macros::Index;
-use lint_words::too_long_finding;
+use lint_table::{Page, keys};
 use std::alloc::{AllocError, Global};
+
+/// Returns that a source is too long, at its start.
+///
+/// # Errors
+///
+/// Fails only if memory runs out.
+pub fn too_long_finding(alloc: Global) -> Result<Finding, AllocError>
+    ensures file { IfOk result (λ finding. finding.file ≡ 0) }
+    ensures start { IfOk result (λ finding. finding.start ≡ 0) }
+    ensures end { IfOk result (λ finding. finding.end ≡ 0) }
+    ensures severity { IfOk result (λ finding. finding.severity ≡ Error) }
+{
+    let code = Bytes::from_slice(alloc, keys::PLAN_1.name())?;
+    let mut page = Page::new(alloc);
+    page.put(keys::PLAN_1, &[]);
+    page.finding(code, 0, 0)
+}
 
 /// Returns a list of one error: that the source is too long.
 fn too_long(alloc: Global) -> Result<Vec<Finding>, AllocError>

@@ -26,5 +26,5 @@ mod foreign;
 mod reading;
 mod statement;
 
-pub use errors::{errors_by, errors_of, fault_error};
+pub use errors::{errors_by, errors_of, fault_error, too_long_finding};
 pub use reading::{Reading, is_accepted, read};

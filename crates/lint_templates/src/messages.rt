@@ -6,7 +6,7 @@ ghost use Rattle.lint_findings.specs.Within.{KeepsWithin};
 use deftable::{Bytes, SubstList};
 use lint_findings::{Finding, Span};
 use lint_table::{Key, Page, WordPart, keys, warn_by_key};
-use lint_words::near_name;
+use near_names::near_name;
 use std::alloc::{AllocError, Global};
 
 /// A name in a template that has no value.

@@ -8,7 +8,7 @@ use crate::calls::{arguments_at, before_close, call_around, last_name, unquoted}
 use crate::forms::form_of;
 use crate::outputs::put_bad_outputs;
 use crate::shell::{argument_help, within_argument};
-use crate::{near_name, shell_help, test_help};
+use crate::{shell_help, test_help};
 use ac_calls::{CallAt, Extent};
 use ac_macros::table::{row_named, rows};
 use ac_macros::{ArgumentKind, Named, Row, argument_kind};
@@ -21,6 +21,7 @@ use lint_text::{
     after_blanks, before, first_line, first_name, first_word, from, part, without_end_blanks,
 };
 use m4quote::QuoteFault;
+use near_names::near_name;
 use shellword::ShellFault;
 use std::alloc::{AllocError, Global};
 
@@ -612,21 +613,4 @@ pub fn parse_finding(
     put_fault(alloc, &mut page, around, fault)?;
     let end = at.saturating_add(marked_len(around, fault)).min(text.len());
     page.finding(code, at, end)
-}
-
-/// Returns that a source is too long, at its start.
-///
-/// # Errors
-///
-/// Fails only if memory runs out.
-pub fn too_long_finding(alloc: Global) -> Result<Finding, AllocError>
-    ensures file { IfOk result (λ finding. finding.file ≡ 0) }
-    ensures start { IfOk result (λ finding. finding.start ≡ 0) }
-    ensures end { IfOk result (λ finding. finding.end ≡ 0) }
-    ensures severity { IfOk result (λ finding. finding.severity ≡ Error) }
-{
-    let code = Bytes::from_slice(alloc, keys::PLAN_1.name())?;
-    let mut page = Page::new(alloc);
-    page.put(keys::PLAN_1, &[]);
-    page.finding(code, 0, 0)
 }

@@ -1,7 +1,7 @@
 use Rattle.std.proofs.Common.{◌≡◌, None, map, drop}
 use Rattle.std.specs.Prelude.{option_map}
-use Rattle.lint_words.specs.Near.{nearest_from}
-use Rattle.lint_words.proofs.near.nearest_of.Given as goal
+use Rattle.near_names.specs.Near.{nearest_from}
+use Rattle.near_names.proofs.near.nearest_of.Given as goal
 
 abbrev pub invariant-loop-other : goal.invariant-loop-other
 invariant-loop-other l =

@@ -3,7 +3,7 @@ use Rattle.std.proofs.Common.{◌≡◌, ℕ, zero, suc, ◌+◌, ◌-◌, ◌�
 use Rattle.std.specs.Prelude.{nat_eq, nat_lt, if◌then◌else◌}
 use Rattle.std.proofs.lemmas.Bool.{ltb-true}
 use Rattle.strsim.specs.Edits.{cost_at, next_row, rows}
-use Rattle.lint_words.specs.Near.{edits, closer}
+use Rattle.near_names.specs.Near.{edits, closer}
 
 -- each place of a row is at least as far from its start as it is from the row's number
 abbrev IsFar : ℕ → (ℕ → ℕ) → Type 0

@@ -1,9 +1,9 @@
 //! The faults of a run.
 
-use crate::near::near_name;
 use cachefile::CacheFault;
 use lint_table::{Page, WordPart, Words, keys};
 use lint_text::{before, first_line};
+use near_names::near_name;
 use options_line::OptionFault;
 use status_record::RecordFault;
 use std::alloc::{AllocError, Global};

@@ -1,6 +1,6 @@
 use Rattle.std.proofs.Common.{◌+◌, map, ap}
-use Rattle.lint_words.proofs.Nearest.{found_nearest}
-use Rattle.lint_words.proofs.near.near_name.Goals as goal
+use Rattle.near_names.proofs.Nearest.{found_nearest}
+use Rattle.near_names.proofs.near.near_name.Goals as goal
 
 pub returns : goal.returns
 returns c = record {

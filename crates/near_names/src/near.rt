@@ -1,7 +1,7 @@
 //! The nearest of some names.
 
 ghost use Rattle.std.specs.Prelude.{◌≡◌, ◌+◌, map, option_map, Option, None, IfOk};
-ghost use Rattle.lint_words.specs.Near as specs;
+ghost use Rattle.near_names.specs.Near as specs;
 
 use std::alloc::{AllocError, Global};
 use strsim::generic_levenshtein;

@@ -3,7 +3,7 @@ use Rattle.std.proofs.Common.{◌≡◌, ℕ, ◌+◌, ◌<◌, ◌≤◌, Bool,
 use Rattle.std.specs.Prelude.{nat_lt, All, IfOk, option_map, if◌then◌else◌}
 use Rattle.std.proofs.lemmas.Bool.{ltb-true, ltb-false}
 use Rattle.std.proofs.lemmas.List.Elements.{All-cons, All-nil}
-use Rattle.lint_words.specs.Near.{edits, few, IsFirst, IsNearest, nearest_from}
+use Rattle.near_names.specs.Near.{edits, few, IsFirst, IsNearest, nearest_from}
 
 -- of names after the best one so far: none is nearer, or one is the first of the nearest
 data Outcome (name : List ℕ) (room : ℕ) (best : Option (List ℕ)) (names : List (List ℕ)) : Option (List ℕ) → Type 0 where
