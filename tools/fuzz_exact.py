@@ -1,7 +1,7 @@
 #!/usr/bin/env python3
 """Holds what `acrun port` calls exact against Autoconf 2.71, with sources that are made by number.
 
-    tools/fuzz_exact.py PROGRAM [--idioms] [--from N] [--count N] [--seconds N] [--runs N] [--jobs N] [--log FILE] [--only MACRO]..
+    tools/fuzz_exact.py PROGRAM [--idioms] [--from N] [--count N] [--seconds N] [--runs N] [--jobs N] [--log FILE] [--only MACRO].. [--forms KIND]..
     tools/fuzz_exact.py PROGRAM --stored [NAME..]    the stored sources whose names begin so
     tools/fuzz_exact.py PROGRAM --conditions         conditions by number, with --from and --count, in shells alone, without Autoconf
     tools/fuzz_exact.py PROGRAM --replay N           shows source N, what port makes of it, and what differs
@@ -19,7 +19,8 @@ of LATER_NAMES; with --idioms also `==`, `-eq`, `-ne`, `exit` and `echo` without
 From number 3000000 on it may also have blanks after the arguments of macros that have an exact idiom, more texts of NEWEST_ARGUMENTS, and
 the macros of NEWEST_NAMES. From number 4000000 on it also defines macros without parameters, and calls them. From number 5000000 on it also
 has AC_PATH_PROGS, checks with `break`, and AC_CACHE_VAL between its messages, and defines plain words. From number 6000000 on it also has
-`for` over words, assignments with `&&` after them, and lines that m4 joins to a comment.
+`for` over words, assignments with `&&` after them, and lines that m4 joins to a comment. From number 7000000 on it has fewer of all these, and
+three of the five kinds of statements of tools/exact_forms.py, with --forms those that are named; with --idioms some get --package too.
 A difference is allowed if a line `~ ` of macros.txt states it for a macro of the source, or one of the sentences below of docs/differences.md.
 
 With --idioms a source has also calls of the macros that have a line `& `, if Autoconf itself has them, and port is given that switch. If
@@ -48,6 +49,7 @@ import sys
 import tempfile
 import time
 
+import exact_forms
 import macro_table
 import word_table
 
@@ -74,8 +76,12 @@ def script(text):
     share = macro_directory()
     with tempfile.TemporaryDirectory() as room:
         (pathlib.Path(room) / "configure.ac").write_text(text)
+        files = ["configure.ac"]
+        if library := exact_forms.library(text):
+            (pathlib.Path(room) / "aclocal.m4").write_text(library)
+            files.insert(0, "aclocal.m4")
         words = ["m4", "--nesting-limit=1024", "--gnu", f"--include={share}", f"--reload-state={share}/autoconf/autoconf.m4f"]
-        made = subprocess.run([*words, f"{share}/autoconf/trailer.m4", "configure.ac"], cwd=room, capture_output=True, text=True)
+        made = subprocess.run([*words, f"{share}/autoconf/trailer.m4", *files], cwd=room, capture_output=True, text=True)
         body = made.stdout
         for sign, char in QUADRIGRAPHS:
             body = body.replace(sign, char)
@@ -174,8 +180,9 @@ def values_in(text):
 def run(room, words, folder, setting):
     path = f"{room.top}/{setting.programs}:{room.top}/given:{room.top}/farm"
     env = {"PATH": path, "LC_ALL": "C", "CONFIG_SHELL": setting.shell, "SEEDED_COMPILER": str(setting.seed), **dict(setting.environment)}
+    env |= {"FZ_DIR": f"{room.top}/given"}
     env |= {"SEEDED_CROSS": "1"} if setting.is_cross else {}
-    how = {"cwd": folder, "env": env, "stdin": subprocess.DEVNULL, "capture_output": True, "text": True, "errors": "replace", "timeout": 600}
+    how = {"cwd": folder, "env": env, "stdin": subprocess.DEVNULL, "capture_output": True, "text": True, "errors": "replace", "timeout": 120}
     return subprocess.run([*words, *setting.arguments], **how)
 
 
@@ -188,18 +195,25 @@ def left_by_acrun(room, program, text, setting, names, defined):
         return {"status": made.returncode, "standard error": made.stderr.splitlines()} | outputs(folder)
 
 
+# The outputs that a source may have.
+OUTPUTS = ("values", "src/values", "out/values", "out/deep/values", "config.h", "out/config.h")
+# The directories that a template has besides output variables.
+DIRECTORIES = ("srcdir", "top_srcdir", "builddir", "top_builddir")
+
+
 def put_templates(folder, names, defined):
     """Writes the templates: of outputs with these variables, and of a header with these definitions."""
     for file in ("config.h", "values", "src/values"):
         (folder / f"{file}.in").parent.mkdir(exist_ok=True)
-        lines = [f"#undef {it}" for it in defined] if file == "config.h" else [f"{it}=@{it}@" for it in names]
+        lines = [f"#undef {it}" for it in defined] if file == "config.h" else [f"{it}=@{it}@" for it in (*names, *DIRECTORIES)]
         (folder / f"{file}.in").write_text("".join(f"{it}\n" for it in lines))
 
 
 def outputs(folder):
     """Returns what is in the outputs of a run."""
     found = {}
-    for file, line in (("values", r"(?m)^(\w+)=(.*)$"), ("src/values", r"(?m)^(\w+)=(.*)$"), ("config.h", r"(?m)^#define (\w+) ?(.*)$")):
+    for file in OUTPUTS:
+        line = r"(?m)^#define (\w+) ?(.*)$" if file.endswith(".h") else r"(?m)^(\w+)=(.*)$"
         if (folder / file).exists():
             found[f"file {file}"] = "made"
             found |= {f"{file} {name}": value for name, value in re.findall(line, (folder / file).read_text(errors="replace"))}
@@ -222,10 +236,12 @@ def left(room, body, setting, names, assigned, defined, creates=True):
     with room.folder() as folder:
         (folder / "configure").write_text(body)
         (folder / "configure.ac").write_text("")
-        (folder / "install-sh").write_text("#!/bin/sh\n")
-        (folder / "install-sh").chmod(0o755)
-        (folder / "config.guess").write_text("#!/bin/sh\necho x86_64-pc-linux-gnu\n")
-        (folder / "config.sub").write_text('#!/bin/sh\necho "$1"\n')
+        for top in (folder, folder / "build-aux"):
+            top.mkdir(exist_ok=True)
+            (top / "install-sh").write_text("#!/bin/sh\n")
+            (top / "install-sh").chmod(0o755)
+            (top / "config.guess").write_text("#!/bin/sh\necho x86_64-pc-linux-gnu\n")
+            (top / "config.sub").write_text('#!/bin/sh\necho "$1"\n')
         put_templates(folder, names, defined)
         made = run(room, [setting.shell, "./configure", *([] if creates else ["--no-create"])], folder, setting)
         log = (folder / "config.log").read_text(errors="replace") if (folder / "config.log").exists() else ""
@@ -282,7 +298,10 @@ OF_IDIOMS = (
     "Its messages and the order of definitions may differ. It sets only those cache variables of the macro that it names. "
     "- CPP, GREP and EGREP, which a macro looks for on its way, may not be output variables after it.",
 )
-ON_THE_WAY = re.compile(r"(output|values|src/values) (CPP|E?GREP)$")
+# What it states of the variables that idioms keep a value in meanwhile.
+OF_MEANWHILE = ("commands", "A variable in which the text keeps a value meanwhile stays set: its name begins with `acrun_` or ends in `_before`")
+MEANWHILE = re.compile(r"variable (acrun_\w+|\w+_before)$")
+ON_THE_WAY = re.compile(r"(output|(\w+/)*values) (CPP|E?GREP)$")
 
 
 def of_idioms(found, ported):
@@ -293,6 +312,12 @@ def of_idioms(found, ported):
     unset |= {name for name, (_, after) in found.items() if ON_THE_WAY.match(name) and is_missing(after)}
     unset |= {name for name, (before, after) in found.items() if name.startswith("variable ") and before is None and after == ""}
     return {name: it for name, it in found.items() if not is_printed.match(name) and name not in unset}
+
+
+def of_meanwhile(found):
+    """Returns the differences without those of variables that keep a value meanwhile."""
+    said(*OF_MEANWHILE)
+    return {name: it for name, it in found.items() if not (MEANWHILE.match(name) and it[0] is None)}
 
 
 def stop_alike(before, after):
@@ -313,23 +338,13 @@ def of_statements(found):
 
 # What docs/commands.md states of the lines that --idioms writes below AC_PROG_CC.
 OF_SETUP = ("commands", "they set CFLAGS to `-g -O2` if it is empty")
+OF_HEADERS = ("commands", "Flags that the source sets below AC_PROG_CC don't count for these headers")
 OF_STANDARD = ("commands", "and define STDC_HEADERS, unless the source names that")
 
 
-def has_flags(before, after):
-    """Returns whether a value is the one before with `-g -O2` at one place."""
-    before, flags = before or "", "-g -O2"
-    return after is not None and any(after == before[:at] + flags + before[at:] for at in range(len(before) + 1))
-
-
 def of_setup(found, ported):
-    """Returns the differences without those that are stated of the lines below AC_PROG_CC. `ported` is what port writes."""
-    for it in (OF_SETUP, OF_STANDARD):
-        said(*it)
-    if "in place of CFLAGS: " in ported and any(re.search(r" CFLAGS$", name) and has_flags(*it) for name, it in found.items()):
-        # A variable that is made of CFLAGS has the flags too.
-        is_value = re.compile(r"(output|values|src/values|variable) \w+$")
-        found = {name: it for name, it in found.items() if not (is_value.match(name) and has_flags(*it))}
+    """Returns the differences without the definition that is stated of the lines below AC_PROG_CC. `ported` is what port writes."""
+    said(*OF_STANDARD)
     if "in place of STDC_HEADERS: " in ported:
         found = {name: it for name, it in found.items() if name != "#STDC_HEADERS" or it != (None, "1")}
     return found
@@ -353,10 +368,11 @@ def differences(before, after):
 
 def without_repeats(found):
     """Drops what says again what another name says."""
-    for file in ("file values", "file src/values", "file config.h"):
-        if file in found:
-            found = {name: it for name, it in found.items() if not name.startswith(f"{file[5:]} ")}
-    first = {"src/values": ["values "], "output": ["values "], "config.h": ["#"], "variable": ["values ", "output ", "cache "]}
+    for file in OUTPUTS:
+        if f"file {file}" in found:
+            found = {name: it for name, it in found.items() if not name.startswith(f"{file} ")}
+    first = {"output": ["values "], "config.h": ["#"], "out/config.h": ["#"], "variable": ["values ", "output ", "cache "]}
+    first |= {file: ["values "] for file in OUTPUTS if file.endswith("/values")}
     for name in list(found):
         kind, _, rest = name.partition(" ")
         if any(found.get(f"{it}{rest}") == found[name] for it in first.get(kind, [])):
@@ -445,6 +461,9 @@ OF_DNL = ("differences", "A line that `dnl` drops counts as a newline. Autoconf 
 # What docs/differences.md states of variables that the check of a compiler sets in Autoconf.
 OF_GIVEN = ("differences", "If an argument or the environment gives OBJEXT or EXEEXT a value, AC_SUBST writes that value")
 
+# What docs/differences.md states of the variables of Autoconf's checks, so that no source keeps a value in one.
+OF_KEEPERS = ("differences", "Autoconf's checks keep values in variables of their own, such as `ac_save_CFLAGS`.")
+
 # What docs/commands.md states of the status of a call, and what reads it.
 OF_STATUS = ("commands", "The value of `$?` after a call that is rewritten may be another one")
 READS_STATUS = re.compile(r"(?m)\b(\w+)=\$\?")
@@ -467,7 +486,10 @@ def said(document, sentence):
 
 def unsaid():
     """Yields a line for each sentence that is looked for here, and that its document doesn't have."""
-    stated_once = (OF_IDIOMS, OF_INIT, OF_JOINTS, OF_WORDS, OF_TESTS, OF_EXIT, OF_UNSET, OF_EQUALS, OF_COMPILER, OF_DNL, OF_GIVEN, OF_LINES, OF_STATUS, OF_CROSS, OF_SETUP, OF_STANDARD)
+    stated_once = (OF_IDIOMS, OF_MEANWHILE, OF_PACKAGE, OF_AUTOMAKE, OF_INIT, OF_JOINTS, OF_WORDS, OF_TESTS, OF_EXIT, OF_UNSET, OF_EQUALS, OF_COMPILER, OF_DNL, OF_GIVEN, OF_LINES, OF_STATUS, OF_CROSS, OF_SETUP, OF_HEADERS, OF_STANDARD,
+                   OF_KEEPERS)
+    if not is_commented(*OF_SET_TO_NOTHING):
+        yield f"crates/lint_macros/macros.txt does not say of {OF_SET_TO_NOTHING[0]} what tools/fuzz_exact.py looks for: {OF_SET_TO_NOTHING[1]}"
     for document, sentence in (*stated_once, *(("differences", sentence) for sentence, _ in OF_LANGUAGE)):
         if not is_said(document, sentence):
             yield f"docs/{document}.md does not say what tools/fuzz_exact.py looks for: {sentence}"
@@ -499,7 +521,7 @@ def is_of_language(name, after):
 def beside_acrun(room, program, text, setting, names, defined, before):
     """Returns what acrun leaves otherwise than the script of Autoconf did."""
     mine = left_by_acrun(room, program, text, setting, names, defined)
-    kept = {name: it for name, it in before.items() if name.startswith(("status", "file ", "values ", "src/values ", "config.h "))}
+    kept = {name: it for name, it in before.items() if name.startswith(("status", "file ", *(f"{it} " for it in OUTPUTS)))}
     if mine["status"] == kept["status"] != 0:
         return {}
     kept["standard error"] = mine["standard error"] if mine["status"] == kept["status"] else before["standard error"]
@@ -512,7 +534,7 @@ def beside_acrun(room, program, text, setting, names, defined, before):
         found = {name: it for name, it in found.items() if name.split(" ")[-1] != "DEFS"}
 
     def is_told(name, value):
-        plain = name.removeprefix("src/")
+        plain = re.sub(r"^(\w+/)+", "", name)
         return plain in given or is_of_language(plain, value)
 
     def has_more_blanks(before, after):
@@ -552,7 +574,7 @@ def without_cross(text):
 def is_of_cross(name, after, ported):
     """Returns whether docs/differences.md states that a variable of a template stays so, as only the argument for cross compiling names it."""
     said(*OF_CROSS)
-    plain, rest = name.removeprefix("src/").removeprefix("values "), without_cross(ported)
+    plain, rest = re.sub(r"^(\w+/)*values ", "", name), without_cross(ported)
 
     def is_made_there(variable):
         return not re.search(rf"(?<![${{]){variable}\b", rest)
@@ -572,18 +594,48 @@ def candidates(bodies, text):
     return sorted({*re.findall(r"#define (\w+)", "".join(bodies)), *(f"HAVE_{re.sub(r'[^A-Za-z0-9]', '_', it).upper()}" for it in words)})
 
 
+# What macros.txt states of AS_VAR_SET_IF, and docs/commands.md of the name and the version of AC_INIT.
+OF_SET_TO_NOTHING = ("AS_VAR_SET_IF", "a variable that is set to nothing counts as one that is not set")
+OF_PACKAGE = ("commands", "AC_INIT gets this name and this version below such a line, if it has none that acrun can keep")
+OF_AUTOMAKE = ("commands", "If AM_INIT_AUTOMAKE, outside of other calls, has a name and a version that are plain words, AC_INIT without a version gets both")
+
+
+def is_commented(name, words):
+    """Returns whether the comment that `port` writes for a macro states something."""
+    return any(it == name and words in comment for entry in macro_table.entries() for it, _, _, comment in entry.other)
+
+
+def as_stated(text, ported, switches):
+    """Returns a source with what the comments of `port --idioms` state put in: a macro that tests a variable tests whether it has a value,
+    AC_INIT has the name and the version that are written into it, and what sets CFLAGS and looks for the default headers is after AC_PROG_CC.
+    What such a source leaves has to be left after `port`."""
+    if "--idioms" not in switches:
+        return text
+    if "AS_VAR_SET_IF" in text and not is_commented(*OF_SET_TO_NOTHING):
+        sys.exit(f"crates/lint_macros/macros.txt does not say of {OF_SET_TO_NOTHING[0]}: {OF_SET_TO_NOTHING[1]}")
+    text = re.sub(r"\bAS_VAR_SET_IF\(\[?(\w+)\]?", r"AS_IF([test ${\1:+y}]", text)
+    given = [it.partition("=")[2].split(",") for it in switches if it.startswith("--package=")]
+    for it in (OF_PACKAGE, OF_AUTOMAKE, OF_SETUP, OF_HEADERS):
+        said(*it)
+    lines = "\nif test -z \"$CFLAGS\"; then CFLAGS='-g -O2'; fi" if "in place of CFLAGS: " in ported else ""
+    lines += "\nAC_CHECK_INCLUDES_DEFAULT" if "in place of AC_INCLUDES_DEFAULT: " in ported else ""
+    text = re.sub(r"(?m)^( *AC_PROG_CC\b.*)$", lambda found: found[0] + lines, text, count=1)
+    return exact_forms.named(text, ported, given[0] if given else None)
+
+
 def compared(room, text, ported, settings, switches, program=""):
     """Returns what differs between the scripts of a source and of what port makes of it with these switches: a setting, names and both
     values. With a program, acrun is run on the latter too, and held against the script of the source."""
-    bodies = [script(END.sub(lambda found: SAVE + found[0], it, count=1)) for it in (text, ported)]
+    bodies = [script(END.sub(lambda found: SAVE + found[0], it, count=1)) for it in (as_stated(text, ported, switches), ported)]
     if bodies[0] is None:
         return "refused"
     if bodies[1] is None:
         return [(Setting(), {"Autoconf refuses the output": ("", "")})]
     names = template_names(bodies[0])
     assigned = sorted({*re.findall(r"\b([A-Za-z_]\w*)=", text + ported), *(["INSTALL"] if "AC_PROG_INSTALL" in text else [])})
-    patterns, found, defined = stated(text, switches == IDIOMS), [], candidates(bodies, ported)
-    has_other_idiom = switches == IDIOMS and any(is_word(name, text) for name, *_ in others())
+    has_idioms = "--idioms" in switches
+    patterns, found, defined = stated(text, has_idioms), [], candidates(bodies, ported)
+    has_other_idiom = has_idioms and any(is_word(name, text) for name in (*(it for it, *_ in others()), *exact_forms.LIBRARY_NAMES))
     for setting in settings:
         by_acrun = program and is_for_acrun(setting) and not joins_dnl(text)
         creates = bool(by_acrun) or setting.seed % 4 == 0
@@ -592,8 +644,8 @@ def compared(room, text, ported, settings, switches, program=""):
         runs = [left(room, it, setting, names, assigned, defined, creates) for it in dict.fromkeys(bodies)]
         runs = [runs[0], runs[-1]]
         differs = {} if has_other_idiom and stop_alike(*runs) else differences(*runs)
-        differs = of_idioms(differs, bodies[1]) if has_other_idiom else of_statements(differs) if switches == IDIOMS else differs
-        differs = of_setup(differs, ported) if switches == IDIOMS else differs
+        differs = of_idioms(differs, bodies[1]) if has_other_idiom else of_statements(differs) if has_idioms else differs
+        differs = of_meanwhile(of_setup(differs, ported)) if has_idioms else differs
         said(*OF_STATUS)
         read = {f"{kind} {name}" for name in READS_STATUS.findall(text) for kind in ("variable", "output", "values")}
         differs = {name: it for name, it in differs.items() if not is_stated(name, patterns, it[0]) and name not in read}
@@ -749,7 +801,7 @@ def others():
     """Returns the same of the macros that have another idiom, if Autoconf itself has them."""
     rows = [(name, entry, least, most) for entry in macro_table.entries() for name, least, most, _ in entry.other]
     asked = "".join(f"m4_ifdef([{name.partition('(')[0]}], [# is {name.partition('(')[0]}])\n" for name, *_ in rows)
-    known = {*re.findall(r"# is (\w+)", script(f"AC_INIT([fuzz], [1.0])\n{asked}AC_OUTPUT\n"))}
+    known = {*re.findall(r"# is (\w+)", script(f"AC_INIT([fuzz], [1.0])\n{asked}AC_OUTPUT\n"))} - {*exact_forms.LIBRARY_NAMES}
     return [row for row in rows if row[0].partition("(")[0] in known]
 
 
@@ -766,6 +818,8 @@ DEFINING = 4_000_000
 WRITING = 5_000_000
 # From this number on also `for` over words, assignments with `&&` after them or with a word if they are empty, and lines that m4 joins to a comment.
 LOOPING = 6_000_000
+# From this number on a source has fewer of all these, and the kinds of exact_forms.
+FORMING = 7_000_000
 LOOP_WORDS = ("a", "b.c", "-lz", "x/y", '""', '"two words"', '"d"', "e=f", "+g", "yes")
 LOOP_BODIES = (
     'v1="$v1 ${0}"', 'if test "${0}" = yes; then\n  v2=yes\nfi', "AC_MSG_NOTICE([now ${0}])", 'LIBS="$LIBS ${0}"', 'test -n "${0}" && v2=${0}',
@@ -835,14 +889,16 @@ NEWER_SHELL = (
 )
 
 
-class Maker:
-    """Makes a source of a number."""
+class Maker(exact_forms.Forms):
+    """Makes a source of a number. Its switches of `port` are those that it is given, and those that the source has to have."""
 
-    def __init__(self, number, names=None, switches=()):
+    def __init__(self, number, names=None, switches=(), forms=()):
         self.at = random.Random(number)
         self.is_later, self.is_newer, self.is_newest, self.is_defining = (number >= it for it in (LATER, NEWER, NEWEST, DEFINING))
         self.is_writing, self.is_looping = number >= WRITING, number >= LOOPING
-        self.all_idioms = switches == IDIOMS
+        self.is_forming, self.switches = number >= FORMING, switches
+        self.forms = [*forms] or (self.at.sample(exact_forms.FORMS, 3) if self.is_forming else [])
+        self.all_idioms, self.is_mild = switches == IDIOMS, self.is_forming and self.has(0.7)
         rows = [*(others() * 3 if self.all_idioms else []), *exact()]
         left_out = (*NO_CALLS, *(() if self.is_later else LATER_NAMES), *(() if self.is_newest else NEWEST_NAMES))
         self.exact = [it for it in rows if it[0] not in left_out and (not names or it[0] in names)]
@@ -1178,18 +1234,18 @@ class Maker:
         blocks = [
             self.one([
                 "AC_ARG_ENABLE([foo], [do foo])",
-                f"AC_ARG_ENABLE([foo], [do foo], {self.action(1)}, {self.action(1)})",
+                f"AC_ARG_ENABLE([foo], [do foo], {self.action(1)}, {self.action(1)})" if not self.is_mild else "AC_ARG_ENABLE([foo], [do foo], [v1=foo])",
                 "AC_ARG_ENABLE(foo, [  --enable-foo  do it],\n  if test \"$enableval\" = yes; then\n    v1=1\n  fi,\n  v2=0\n)",
             ]),
             self.one([
                 "AC_ARG_WITH([bar], [use bar])",
-                f"AC_ARG_WITH([bar], AC_HELP_STRING([--with-bar], [use bar]), [v1=\"$withval\"], {self.action(1)})",
+                f"AC_ARG_WITH([bar], AC_HELP_STRING([--with-bar], [use bar]), [v1=\"$withval\"], {self.action(1) if not self.is_mild else '[v1=bar]'})",
             ]),
         ]
         if self.has(0.6) or self.all_idioms:
             # What checks look for on their way is looked for here, so that it is no news below.
             blocks += ["AC_CHECK_HEADERS([first.h])", "AC_CHECK_DECLS([EOF])", "AC_PREPROC_IFELSE([AC_LANG_SOURCE([[int first;]])], [v1=1], [v1=2])"]
-        for _ in range(self.at.randint(2, 6)):
+        for _ in range(self.at.randint(0, 0 if self.is_mild else 2) if self.is_forming else self.at.randint(2, 6)):
             text = self.laid_out(self.statement(0), 0)
             blocks.append(text)
             if self.has(0.15):
@@ -1198,12 +1254,14 @@ class Maker:
                 name = self.fresh("r")
                 blocks.append(f"{name}={self.read()}\nAC_SUBST([{name}])")
         last = self.one(LAST)
-        if self.is_defining:
+        if self.is_forming:
+            last = self.with_forms(first, blocks, last)
+        if self.is_defining and self.is_plain():
             self.with_macros(blocks)
-        if self.is_writing:
+        if self.is_writing and self.is_plain():
             self.with_programs(blocks)
             self.with_words(first, blocks)
-        if self.is_looping:
+        if self.is_looping and self.is_plain():
             self.with_loops(blocks)
         if self.all_idioms:
             # The stand-in for a compiler looks at no file, so such a test has an operator that stays.
@@ -1221,6 +1279,10 @@ class Maker:
         # A script runs the program that AWK names, so that is an awk.
         blocks = [re.sub(r"(AC_PROGRAMS_CHECK\(\[?AWK\W+)strip\b", r"\1gawk", it) for it in blocks]
         return [*first, header], ["AC_PROG_CC"] * (not self.has(0.05)) + blocks, last
+
+    def is_plain(self):
+        """Returns whether a source gets statements of the numbers before."""
+        return not self.is_forming or not self.is_mild and self.has(0.2)
 
     def settings(self, count):
         found = []
@@ -1240,6 +1302,7 @@ class Maker:
                 else:
                     environment.append((name, value))
             environment += [("FZ_PROG", self.one(["/opt/none", "sed", ""]))] if self.is_writing and self.has(0.3) else []
+            environment += [("v1", self.one(["stop", "stop", "a b"]))] if self.is_forming and self.has(0.25) else []
             programs = self.one(["plain", "plain", "cross", "half", "none"]) if not is_host else self.one(["cross", "cross", "half", "plain"])
             found.append(Setting(tuple(arguments), tuple(environment), programs, is_host and self.has(0.6), self.at.randrange(1000)))
         return found
@@ -1306,11 +1369,11 @@ def shell_of(text):
     return "/bin/bash" if re.search(r"(?m)^ *\w+\+=", text) else "/bin/sh"
 
 
-def judge(program, room, number, names=None, runs=2, switches=()):
+def judge(program, room, number, names=None, runs=2, switches=(), forms=()):
     """Returns what is wrong with a source: how it was run, and what differs."""
-    maker = Maker(number, names, switches)
+    maker = Maker(number, names, switches, forms)
     first, blocks, last = maker.source()
-    text = joined(first, blocks, last)
+    text, switches = joined(first, blocks, last), maker.switches
     settings = [dataclasses.replace(it, shell=shell_of(text)) for it in maker.settings(runs)]
     ported, is_read = port(program, text, *switches)
     if ported == text and not is_read:
@@ -1380,11 +1443,12 @@ def shown(differs):
             yield f"    {name}" + (f": {before!r}, and {after!r} {other}" if before != after else "")
 
 
-def minimized(program, room, number, names, switches):
+def minimized(program, room, number, names, switches, forms=()):
     """Returns the smallest part of a source in which a name of its first difference still differs, what port makes of it, and the differences:
     blocks, arguments and variables of the environment go in turn."""
-    maker = Maker(number, names, switches)
+    maker = Maker(number, names, switches, forms)
     first, blocks, last = maker.source()
+    switches = maker.switches
     settings = [dataclasses.replace(it, shell=shell_of(joined(first, blocks, last))) for it in maker.settings(2)]
 
     def tried(blocks, settings):
@@ -1472,9 +1536,9 @@ ROOM = None
 
 def task(given):
     global ROOM
-    program, number, names, runs, switches = given
+    program, number, *how = given
     try:
-        return number, *judge(program, ROOM, number, names, runs, switches)
+        return number, *judge(program, ROOM, number, *how)
     except Exception as error:
         return number, f"{type(error).__name__}: {error}", "", ""
 
@@ -1513,6 +1577,7 @@ def main():
     options.add_argument("--runs", type=int, default=2)
     options.add_argument("--log")
     options.add_argument("--only", action="append", default=[])
+    options.add_argument("--forms", action="append", default=[], choices=exact_forms.FORMS)
     options.add_argument("--idioms", action="store_true")
     options.add_argument("--conditions", action="store_true")
     options.add_argument("--stored", nargs="*", metavar="NAME")
@@ -1525,25 +1590,27 @@ def main():
     try:
         if options.replay is not None or options.minimize is not None:
             if options.minimize is not None:
-                found, text, ported = minimized(program, ROOM, options.minimize, options.only, switches)
+                found, text, ported = minimized(program, ROOM, options.minimize, options.only, switches, options.forms)
             else:
-                found, text, ported = judge(program, ROOM, options.replay, options.only, options.runs, switches)
+                found, text, ported = judge(program, ROOM, options.replay, options.only, options.runs, switches, options.forms)
             print(f"{text}--- after port\n{ported}---", *(shown(found) if not isinstance(found, str) else [found]), sep="\n")
             return int(bool(found) and not isinstance(found, str))
         if options.stored is not None:
             return try_stored(program, options)
         if options.conditions:
             return try_conditions(program, options)
-        counts, began = {"same": 0, "rewritten": 0, "refused": 0, "differ": 0}, time.time()
+        counts, began, alike_forms = {"same": 0, "rewritten": 0, "refused": 0, "differ": 0}, time.time(), []
         numbers = range(options.first, options.first + options.count)
         known = {number: kind for number, kind in logged(options.log).items() if number in numbers}
-        for kind in known.values():
+        for number, kind in known.items():
             counts[kind] += 1
-        rows = ((program, number, options.only, options.runs, switches) for number in numbers if number not in known)
+            alike_forms += Maker(number, options.only, switches, options.forms).forms if kind == "rewritten" else []
+        rows = ((program, number, options.only, options.runs, switches, options.forms) for number in numbers if number not in known)
         with concurrent.futures.ProcessPoolExecutor(options.jobs) as pool, open(options.log or os.devnull, "a") as log:
             for number, found, _, _ in pool.map(task, rows):
                 kind = found if found in ("same", "refused") else "differ" if found else "rewritten"
                 counts[kind] += 1
+                alike_forms += Maker(number, options.only, switches, options.forms).forms if kind == "rewritten" else []
                 print(number, kind, file=log, flush=True)
                 if kind == "differ":
                     print(f"differs {number}", *(shown(found) if not isinstance(found, str) else [found]), sep="\n", flush=True)
@@ -1552,6 +1619,8 @@ def main():
                     break
         print(f"{sum(counts.values())} sources: {counts['rewritten']} leave the same, {counts['differ']} differ, {counts['same']} were not changed, "
               f"{counts['refused']} are refused by Autoconf; {time.time() - began:.0f} seconds")
+        if alike_forms:
+            print("with " + ", ".join(f"{kind}: {alike_forms.count(kind)}" for kind in exact_forms.FORMS) + " leave the same")
         return int(counts["differ"] > 0)
     finally:
         ROOM.end()

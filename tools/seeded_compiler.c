@@ -1,5 +1,5 @@
 /* A compiler's stand-in for configure scripts of Autoconf and for acrun: whether it takes a program is a function of what the
-   program asks, of the flags -l, and of a seed, the number in SEEDED_COMPILER.
+   program asks, of the flags -l, of flags with `fz`, and of a seed, the number in SEEDED_COMPILER.
    What a program asks: a header, if it only includes; a function, if it declares `char NAME (void);` or `char NAME ();` and calls
    it; a type, if it takes the size of one; a declaration, if it casts a name to void unless that is a macro; a member, if it takes
    one of a variable or takes its size; whether a size or an alignment is a number, or at least or at most that; otherwise its text.
@@ -129,12 +129,14 @@ static int is_member(const char *text) {
   return 1;
 }
 
-/* Adds what is asked to the sum. Returns 1 for a program that is taken, 0 for one that isn't, and -1 for another one. */
-static int asked(char *text, int is_ansi, int *wanted) {
-  static const char *taken[] = {"#ifndef __GNUC__ choke me", "conformance?", "fopen (\"conftest.out\", \"w\")", "Syntax error", "ac_decl"};
+/* Adds what is asked to the sum. Returns 1 for a program that is taken, 0 for one that isn't, and -1 for another one. An empty program is
+   taken unless there are flags whose answer is not known. */
+static int asked(char *text, int is_ansi, int has_flags, int *wanted) {
+  static const char *taken[] = {"#ifndef __GNUC__ choke me", "#ifndef __GNUC__ #error another compiler", "conformance?",
+                                "fopen (\"conftest.out\", \"w\")", "Syntax error", "ac_decl"};
   char name[300], call[400], *last = 0;
   if (strstr(text, "ac_nonexistent.h") || strstr(text, "(void) strchr;") || strstr(text, "if (sizeof ((")) return 0;
-  if (strcmp(text, "int main (void) { ; return 0; }") == 0) return 1;
+  if (strcmp(text, "int main (void) { ; return 0; }") == 0) return has_flags ? -1 : 1;
   for (size_t i = 0; i < sizeof taken / sizeof *taken; i++)
     if (strstr(text, taken[i])) return 1;
   if (strstr(text, "foo_t static_foo")) return !is_ansi || strstr(text, "__inline");
@@ -168,7 +170,7 @@ static int put(const char *name, const char *text) {
 int main(int count, char **words) {
   static char text[1 << 20], whole[1 << 20], object[4200];
   const char *source = 0, *made = 0, *seed = getenv("SEEDED_COMPILER"), *how = "link";
-  int is_ansi = 0;
+  int is_ansi = 0, has_flags = 0;
   for (int i = 1; i < count; i++) {
     size_t size = strlen(words[i]);
     if (strcmp(words[i], "--version") == 0) return puts("gcc (seeded) 12.2.0") < 0;
@@ -178,6 +180,10 @@ int main(int count, char **words) {
     if (strcmp(words[i], "-ansi") == 0 || strcmp(words[i], "-std=c89") == 0) is_ansi = 1;
     if (strcmp(words[i], "-o") == 0 && i + 1 < count) made = words[i + 1];
     if (strncmp(words[i], "-l", 2) == 0) add(words[i]);
+    if (words[i][0] == '-' && strchr("fW", words[i][1]) && strstr(words[i], "fz")) {
+      add(words[i]);
+      has_flags = 1;
+    }
     if (size > 2 && strcmp(words[i] + size - 2, ".c") == 0) source = words[i];
   }
   FILE *file = source ? fopen(source, "r") : 0;
@@ -188,7 +194,7 @@ int main(int count, char **words) {
   plain(text);
   add(how);
   add(seed ? seed : "");
-  int wanted = 0, known = asked(text, is_ansi, &wanted), takes = known == -1 ? mixed() % 10 < 6 : known;
+  int wanted = 0, known = asked(text, is_ansi, has_flags, &wanted), takes = known == -1 ? mixed() % 10 < 6 : known;
   if (!takes) {
     fprintf(stderr, "%s:1:1: error: the seed is against it\n", source);
     return 1;
