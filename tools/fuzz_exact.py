@@ -461,6 +461,10 @@ OF_DNL = ("differences", "A line that `dnl` drops counts as a newline. Autoconf 
 # What docs/differences.md states of variables that the check of a compiler sets in Autoconf.
 OF_GIVEN = ("differences", "If an argument or the environment gives OBJEXT or EXEEXT a value, AC_SUBST writes that value")
 
+# What docs/differences.md states of the variables that a script sets, so that acrun is given no source that reads one which it doesn't set.
+OF_SCRIPT = ("differences", "`$PATH_SEPARATOR` and other variables of a generated script are ordinary variables.")
+READS_SCRIPT = re.compile(r"\$\{?(GCC|PATH_SEPARATOR|ac_cv_c_compiler_gnu|ac_cv_prog_cc_g)\b")
+
 # What docs/differences.md states of the variables of Autoconf's checks, so that no source keeps a value in one.
 OF_KEEPERS = ("differences", "Autoconf's checks keep values in variables of their own, such as `ac_save_CFLAGS`.")
 
@@ -487,7 +491,7 @@ def said(document, sentence):
 def unsaid():
     """Yields a line for each sentence that is looked for here, and that its document doesn't have."""
     stated_once = (OF_IDIOMS, OF_MEANWHILE, OF_PACKAGE, OF_AUTOMAKE, OF_INIT, OF_JOINTS, OF_WORDS, OF_TESTS, OF_EXIT, OF_UNSET, OF_EQUALS, OF_COMPILER, OF_DNL, OF_GIVEN, OF_LINES, OF_STATUS, OF_CROSS, OF_SETUP, OF_HEADERS, OF_STANDARD,
-                   OF_KEEPERS)
+                   OF_KEEPERS, OF_SCRIPT)
     if not is_commented(*OF_SET_TO_NOTHING):
         yield f"crates/lint_macros/macros.txt does not say of {OF_SET_TO_NOTHING[0]} what tools/fuzz_exact.py looks for: {OF_SET_TO_NOTHING[1]}"
     for document, sentence in (*stated_once, *(("differences", sentence) for sentence, _ in OF_LANGUAGE)):
@@ -541,6 +545,12 @@ def beside_acrun(room, program, text, setting, names, defined, before):
         return isinstance(before, str) and isinstance(after, str) and re.sub(r"(?m)[ \t]+$", "", after) == before
 
     return {name: it for name, it in found.items() if not is_told(name, it[1]) and not has_more_blanks(*it)}
+
+
+def reads_script(text):
+    """Returns whether a source reads a variable that a script of Autoconf sets, and that the source doesn't set."""
+    said(*OF_SCRIPT)
+    return any(not re.search(rf"\b{name}=", text) for name in READS_SCRIPT.findall(text))
 
 
 def joins_dnl(text):
@@ -637,7 +647,7 @@ def compared(room, text, ported, settings, switches, program=""):
     patterns, found, defined = stated(text, has_idioms), [], candidates(bodies, ported)
     has_other_idiom = has_idioms and any(is_word(name, text) for name in (*(it for it, *_ in others()), *exact_forms.LIBRARY_NAMES))
     for setting in settings:
-        by_acrun = program and is_for_acrun(setting) and not joins_dnl(text)
+        by_acrun = program and is_for_acrun(setting) and not joins_dnl(text) and not reads_script(ported)
         creates = bool(by_acrun) or setting.seed % 4 == 0
         if bodies[0] == bodies[1] and not by_acrun:
             continue
