@@ -6,8 +6,8 @@ use Rattle.port_calls.specs.Rewritten.{IsRewritten}
 use Rattle.port_calls.specs.Stated.{IsStated}
 use Rattle.port_idioms.specs.declared.idioms.Idioms.{Idioms}
 use Rattle.port_idioms.specs.declared.idioms.Idioms.TheVariants.{Exact, All}
+use Rattle.port_messages.specs.Told.{IsTold}
 use Rattle.port_shell.specs.Formed.{IsFormed}
-use Rattle.port_shell.specs.Told.{IsTold}
 use Rattle.text_cut.specs.Cuts.{parts}
 use Rattle.cmd_port.specs.Asked.{Package}
 

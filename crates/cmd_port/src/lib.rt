@@ -18,7 +18,7 @@
 //! A call fails only if memory runs out. "own" marks a rule that no manual gives.
 //!
 //! Read `specs/Ported`, which says what is copied. `port_calls` replaces the calls, `port_shell`
-//! the statements, and `lint_all` finds each statement with an error. In `src`, read `lines` (above
+//! the statements, `port_messages` what they print, and `lint_all` finds each statement with an error. In `src`, read `lines` (above
 //! which line a comment can be), `comments`, `moving`, and then `whole`. For the command, read
 //! `specs/Asked` (what the words ask for), `specs/Printed` and `specs/Refusals`, and then `asking`
 //! and `command`.

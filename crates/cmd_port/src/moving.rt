@@ -7,7 +7,8 @@ ghost use Rattle.cmd_port.specs.Ported as specs;
 
 use port_calls::{Package, replaced, with_package};
 use port_idioms::Idioms;
-use port_shell::{formed, told};
+use port_messages::told;
+use port_shell::formed;
 use std::alloc::{AllocError, Global};
 
 /// How often there is a turn at most. A call may be rewritten once it is in a call that a statement

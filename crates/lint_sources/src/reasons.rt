@@ -7,7 +7,7 @@ use deftable::Bytes;
 use lint_findings::Finding;
 use lint_table::{Key, Page, WordPart, keys};
 use lint_text::{after_blanks, before, first_line, first_name, from, without_end_blanks};
-use port_shell::{Reason, Staying, kept_statements};
+use port_reasons::{Reason, Staying, kept_statements};
 use std::alloc::{AllocError, Global};
 
 /// Returns whether an error is of text that is no statement.

@@ -1,8 +1,10 @@
 -- What one step of a pass makes.
-use Rattle.std.proofs.Common.{◌≡◌, ℕ, ◌≤◌, List, [], ◌∷◌, ◌++◌, length, Result, Ok, Err, is_ok, OnOk, if◌then◌else◌, slice_range, sym, subst, ◌∙◌, append_assoc, Option, Some, arith}
-use Rattle.std.specs.Prelude.{IfSome}
+use Rattle.std.proofs.Common.{◌≡◌, ℕ, ◌≤◌, ◌<◌, List, [], ◌∷◌, ◌++◌, length, get_or, Result, Ok, Err, is_ok, OnOk, if◌then◌else◌, slice_range, sym, subst, ◌∙◌, append_assoc, Option, Some, arith}
+use Rattle.std.specs.Prelude.{All, IfSome}
+use Rattle.std.proofs.lemmas.List.Elements.{All-get_or}
 use Rattle.port_compounds.specs.Places.{EndsStatement}
 use Rattle.port_idioms.specs.declared.idioms.Idioms.{Idioms}
+use Rattle.port_statements.specs.Statements.{MayBegin}
 use Rattle.port_shell.specs.Formed.{IsPass, IsChoice, IsFormed, IsNote, MayPut}
 use Rattle.port_shell.specs.Formed as specs
 
@@ -23,10 +25,17 @@ put_bound text start end put (specs.MayPut.repeated is accepted) = is.are.is.sta
 pub pass_bound : (idioms : Idioms) (text : List ℕ) (at : ℕ) (out : List ℕ) → IsPass idioms text at out → at ≤ length text
 pass_bound idioms text at out specs.IsPass.begun = omega arith
 pass_bound idioms text at out (specs.IsPass.copied next before from to) = to
-pass_bound idioms text at out (specs.IsPass.changed end note put before puts notes) = put_bound text _ end put puts
+pass_bound idioms text at out (specs.IsPass.changed end note put before begins puts notes) = put_bound text _ end put puts
 pass_bound idioms text at out (specs.IsPass.tested start to put before is order become) = order.2
 pass_bound idioms text at out (specs.IsPass.respelled from to put indent all before is order spelled blank) = order.2
 pass_bound idioms text at out (specs.IsPass.asked from to put call indent all before is order may asks blank) = order.2
+
+-- What holds of each element holds of the one at an index.
+pub of_each : {A : Type 0} (P : A → Type 0) (xs : List A) (i : ℕ) (x : A) → All P xs → i < length xs → x ≡ get_or xs i x → P x
+of_each P xs i x all lt here = subst P (sym here) (All-get_or P xs i x lt all)
+
+pub begins_at : (text : List ℕ) (start at : ℕ) → MayBegin text start → at ≡ start → MayBegin text at
+begins_at text start at begins is = subst (MayBegin text) (sym is) begins
 
 -- What is said of a `Some` holds of what is in it.
 pub of_some : {V : Type 0} (P : V → Type 0) (o : Option V) (v : V) → o ≡ Some v → IfSome o P → P v
@@ -38,11 +47,11 @@ on_ok f (Ok v) p = f p
 on_ok f (Err e) p = tt
 
 pub pass_step : (idioms : Idioms) (text : List ℕ) (at : ℕ) (out : List ℕ) (start end : ℕ) (note put : List ℕ) (new_at : ℕ) (new : List ℕ)
-    → IsPass idioms text at out → MayPut text start end put → IsNote idioms note → at ≤ start → start ≤ length text
+    → IsPass idioms text at out → MayBegin text start → MayPut text start end put → IsNote idioms note → at ≤ start → start ≤ length text
     → (new_at ≡ end) × (new ≡ ((out ++ slice_range text at start) ++ note) ++ put) → IsPass idioms text new_at new
-pass_step idioms text at out start end note put new_at new before puts notes from within (at_is, new_is) =
+pass_step idioms text at out start end note put new_at new before begins puts notes from within (at_is, new_is) =
     subst (λ a. IsPass idioms text a new) (sym at_is)
-    (subst (IsPass idioms text end) (sym (new_is ∙ append_assoc (out ++ slice_range text at start) note put)) (specs.IsPass.changed end note put (specs.IsPass.copied start before from within) puts notes))
+    (subst (IsPass idioms text end) (sym (new_is ∙ append_assoc (out ++ slice_range text at start) note put)) (specs.IsPass.changed end note put (specs.IsPass.copied start before from within) begins puts notes))
 
 -- A pass begins with nothing read and nothing written.
 pub begun_at : {idioms : Idioms} {text : List ℕ} {at : ℕ} {out : List ℕ} → at ≡ 0 → out ≡ [] → IsPass idioms text at out

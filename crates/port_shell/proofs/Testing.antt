@@ -12,7 +12,7 @@ use Rattle.port_idioms.specs.declared.idioms.Idioms.{Idioms}
 use Rattle.port_idioms.specs.declared.idioms.Idioms.TheVariants.{All}
 use Rattle.port_joints.specs.Files.{program_of}
 use Rattle.port_joints.specs.Joints.{Becomes}
-use Rattle.port_shell.specs.Calls.{IsPut}
+use Rattle.port_put.specs.Calls.{IsPut}
 use Rattle.port_joints.specs.Spelled.{IsRespelled}
 use Rattle.port_shell.specs.Formed.{IsPass, IsTestAt, IsListTest, Asks, IsAsked, MayAskAt, AreOrdered, spelled_so, asked_so}
 use Rattle.port_shell.specs.Formed as specs

@@ -17,7 +17,8 @@ use Rattle.port_idioms.specs.declared.idioms.Idioms.TheVariants.{All}
 use Rattle.port_joints.specs.Files.{HasPart, IsFileTest, IsTestOfFiles, program_of, with_answer}
 use Rattle.port_joints.specs.Joints.{AllBecome, Becomes}
 use Rattle.port_joints.specs.Spelled.{IsRespelled}
-use Rattle.port_shell.specs.Calls.{IsPut, source_with}
+use Rattle.port_put.specs.Calls.{IsPut, source_with}
+use Rattle.port_statements.specs.Statements.{MayBegin}
 
 -- The comment above a statement that has the first call of its kind: what the macro requires is then checked before AS_IF or AS_CASE, and
 -- no more within the statement. After it come a newline and the indent of the statement.
@@ -127,14 +128,14 @@ pub data MayPut (text : List ℕ) (start end : ℕ) (put : List ℕ) : Type 0 wh
   repeated : IsWrittenOut text start end put → IsAccepted (source_with put) → MayPut text start end put
 
 -- One pass over a text has read so much of it, and written this. Everything is copied, but what may be put in the place of a statement may be
--- written there. In a condition, `-a` and `-o` of `test` may become `&&` and `||`. If all idioms are wanted, a comment may be right before what is
+-- written there, if the statement begins outside quotes, substitutions, comments and here-documents. In a condition, `-a` and `-o` of `test` may become `&&` and `||`. If all idioms are wanted, a comment may be right before what is
 -- put, and in a condition of an `if`, of AS_IF or of a guarded statement `==`, `-eq` and `-ne` may be spelled otherwise, with a comment right before
 -- the statement. In such a condition the answer of a program may also come in the place of a test of a file, with a comment and the call that
 -- asks right before the statement.
 pub data IsPass (idioms : Idioms) (text : List ℕ) : ℕ → List ℕ → Type 0 where
   begun : IsPass idioms text 0 []
   copied : {at : ℕ} {out : List ℕ} (next : ℕ) → IsPass idioms text at out → at ≤ next → next ≤ length text → IsPass idioms text next (out ++ slice_range text at next)
-  changed : {at : ℕ} {out : List ℕ} (end : ℕ) (note put : List ℕ) → IsPass idioms text at out → MayPut text at end put → IsNote idioms note
+  changed : {at : ℕ} {out : List ℕ} (end : ℕ) (note put : List ℕ) → IsPass idioms text at out → MayBegin text at → MayPut text at end put → IsNote idioms note
       → IsPass idioms text end (out ++ (note ++ put))
   tested : {from : ℕ} {out : List ℕ} (start to : ℕ) (put : List ℕ) → IsPass idioms text from out → IsTestAt text start from to → AreOrdered text start from to
       → Becomes (slice_range text from to) put → IsPass idioms text to (out ++ put)

@@ -1,3 +1,1 @@
-pub mod Calls
 pub mod Formed
-pub mod Told

@@ -10,15 +10,15 @@ ghost use Rattle.port_joints.specs.Joints.{Becomes};
 ghost use Rattle.port_joints.specs.Spelled.{IsRespelled};
 ghost use Rattle.port_shell.specs.Formed as specs;
 
-use crate::cut::StatementCut;
 use crate::files::pass_files;
-use crate::lists::cuts_in;
-use crate::passing::{Pass, finish, write_change};
+use crate::passing::finish;
 use ac_calls::{CallAt, Extent, calls_of};
 use lint_text::{line_start, part, without_end_blanks};
 use port_compounds::{GuardCut, IfCut, are_blank, are_spaces, guard_parts, is_list_end, is_word};
 use port_idioms::Idioms;
 use port_joints::{joined_condition, respelled};
+use port_put::{Pass, write_change};
+use port_statements::{StatementCut, cuts_in};
 use std::alloc::{AllocError, Global};
 
 /// What is above a condition that is spelled otherwise.
@@ -338,7 +338,9 @@ fn places_in(
     alloc: Global,
     text: &[u8],
     calls: &[CallAt],
-) -> Result<Vec<ConditionPlace>, AllocError> {
+) -> Result<Vec<ConditionPlace>, AllocError>
+    requires { map macro_call_of calls.now ≡ calls_in text.now }
+{
     let mut places = Vec::new(alloc);
     for cut in &cuts_in(alloc, text, calls)? {
         push_of_cut(text, cut, &mut places)?;

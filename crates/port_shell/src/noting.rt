@@ -8,21 +8,12 @@ ghost use Rattle.port_shell.specs.Formed as specs;
 use lint_text::{line_start, part};
 use port_compounds::are_spaces;
 use port_idioms::Idioms;
+use port_statements::draws;
 use std::alloc::{AllocError, Global};
 
 /// What is above a statement.
 const COMMENT: &[u8] =
     b"dnl acrun: in place of a statement: Autoconf makes the checks that its macros require in any case";
-
-/// Returns whether Autoconf makes checks before a call between two offsets.
-pub(crate) fn draws(drawing: &[usize], start: usize, end: usize) -> bool {
-    for at in drawing {
-        if start <= *at && *at < end {
-            return true;
-        }
-    }
-    false
-}
 
 /// Returns the comment, with this indent after it.
 #[tactic(auto, unfolding(crate::specs::Formed::noted))]

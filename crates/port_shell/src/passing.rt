@@ -1,62 +1,18 @@
 //! One pass over a text, in which statements become calls.
 
-ghost use Rattle.std.specs.Prelude.{◌≡◌, ◌≤◌, ◌++◌, [], false, length, slice_range, IfOk, IfSome, OnOk};
+ghost use Rattle.std.specs.Prelude.{◌≡◌, ◌≤◌, ◌++◌, false, length, slice_range, All, IfOk, IfSome, OnOk};
 ghost use Rattle.port_compounds.specs.Guards.{ReadsStatus};
+ghost use Rattle.port_statements.specs.Statements.{BeginsOutside, MayBegin};
 ghost use Rattle.port_shell.specs.Formed as specs;
 
-use crate::cut::StatementCut;
-use crate::lists::cuts_in;
-use crate::needs::drawing_in;
 use crate::noting::note_for;
 use crate::puts::{Replacement, change_of};
 use ac_calls::calls_of;
 use port_compounds::reads_status;
 use port_idioms::Idioms;
+use port_put::{Pass, write_change};
+use port_statements::{StatementCut, cuts_in, drawing_in};
 use std::alloc::{AllocError, Global};
-
-/// A text that is written while another is read.
-#[derive(Drop)]
-pub(crate) struct Pass {
-    pub out: Vec<u8>,
-    /// How much was read.
-    pub at: usize,
-    /// Whether anything was rewritten.
-    pub has_changed: bool,
-}
-
-impl Pass {
-    /// Returns the start of a pass.
-    pub(crate) fn new(alloc: Global) -> Pass
-        ensures { (result.at ≡ 0) × (result.out.items ≡ []) }
-    {
-        Pass {
-            out: Vec::new(alloc),
-            at: 0,
-            has_changed: false,
-        }
-    }
-}
-
-/// Copies what is before a statement, and writes what is put in its place.
-pub(crate) fn write_change(
-    text: &[u8],
-    start: usize,
-    end: usize,
-    put: &[u8],
-    pass: &mut Pass,
-) -> Result<(), AllocError>
-    requires { (pass.old.at ≤ start) × (start ≤ length text.now) }
-    ensures { OnOk result (
-        (pass.new.at ≡ end)
-        × (pass.new.out.items
-        ≡ (pass.old.out.items ++ slice_range text.now pass.old.at start) ++ put.now)) }
-{
-    pass.out.extend_from_slice(&text[pass.at..start])?;
-    pass.out.extend_from_slice(put)?;
-    pass.at = end;
-    pass.has_changed = true;
-    Ok(())
-}
 
 /// Copies what is before a statement, and writes a note and what is put in its place.
 fn write_noted(
@@ -89,6 +45,7 @@ fn put_noted(
     put: &[u8],
     pass: &mut Pass,
 ) -> Result<(), AllocError>
+    requires begins { MayBegin text.now start }
     requires put { specs.MayPut text.now start end put.now }
     requires note { specs.IsNote idioms note.now }
     requires begun { specs.IsPass idioms text.now pass.old.at pass.old.out.items }
@@ -111,6 +68,7 @@ fn put_change(
     change: &Replacement,
     pass: &mut Pass,
 ) -> Result<(), AllocError>
+    requires begins { MayBegin text.now change.now.start }
     requires put { specs.MayPut text.now change.now.start change.now.end change.now.put.items }
     requires begun { specs.IsPass idioms text.now pass.old.at pass.old.out.items }
     ensures { OnOk result (specs.IsPass idioms text.now pass.new.at pass.new.out.items) }
@@ -132,6 +90,7 @@ fn put_change(
 
 /// Writes what takes the place of a statement, if there is something, unless it was in what was
 /// rewritten.
+#[tactic(auto, using(crate::proofs::Steps::begins_at))]
 fn pass_cut(
     alloc: Global,
     idioms: Idioms,
@@ -141,6 +100,7 @@ fn pass_cut(
     reads: bool,
     pass: &mut Pass,
 ) -> Result<(), AllocError>
+    requires begins { BeginsOutside text.now cut.now }
     requires begun { specs.IsPass idioms text.now pass.old.at pass.old.out.items }
     requires reads { reads ≡ false → ReadsStatus text.now → ⊥ }
     ensures { OnOk result (specs.IsPass idioms text.now pass.new.at pass.new.out.items) }
@@ -163,6 +123,7 @@ fn pass_cuts(
     cuts: &[StatementCut],
     pass: &mut Pass,
 ) -> Result<(), AllocError>
+    requires begins { All (BeginsOutside text.now) cuts.now }
     requires begun { specs.IsPass idioms text.now pass.old.at pass.old.out.items }
     ensures { OnOk result (specs.IsPass idioms text.now pass.new.at pass.new.out.items) }
 {

@@ -6,17 +6,18 @@ ghost use Rattle.port_compounds.specs.Defaults.{IsDefaulting, assignment, empty_
 ghost use Rattle.port_compounds.specs.Guards.{ReadsStatus};
 ghost use Rattle.port_compounds.specs.Loops.{IsWrittenOut};
 ghost use Rattle.port_joints.specs.Joints.{AllBecome};
-ghost use Rattle.port_shell.specs.Calls.{IsPut};
+ghost use Rattle.port_put.specs.Calls.{IsPut};
+ghost use Rattle.port_statements.specs.Statements.{start_of};
 ghost use Rattle.port_shell.specs.Formed as specs;
 
-use crate::calls::{accepted_call, is_accepted};
-use crate::cut::StatementCut;
 use deftable::Bytes;
 use port_compounds::{
     CaseCut, DefaultOf, ForCut, GuardCut, IfCut, assigned_lines, assignment_of, case_parts,
     default_of, empty_test, guard_parts, if_parts, loop_turns,
 };
 use port_joints::joined_texts;
+use port_put::{accepted_call, is_accepted};
+use port_statements::StatementCut;
 use std::alloc::{AllocError, Global};
 
 /// Returns the texts as slices.
@@ -238,7 +239,8 @@ pub(crate) struct Replacement {
 /// Returns the change of what is between two offsets, if something may be put there.
 fn change(text: &[u8], start: usize, end: usize, put: Option<Vec<u8>>) -> Option<Replacement>
     requires { IfSome put (λ v. specs.MayPut text.now start end v.items) }
-    ensures { IfSome result (λ c. specs.MayPut text.now c.start c.end c.put.items) }
+    ensures put { IfSome result (λ c. specs.MayPut text.now c.start c.end c.put.items) }
+    ensures start { IfSome result (λ c. c.start ≡ start) }
 {
     let _ = text;
     match put {
@@ -256,8 +258,9 @@ pub(crate) fn change_of(
     reads: bool,
 ) -> Result<Option<Replacement>, AllocError>
     requires { reads ≡ false → ReadsStatus text.now → ⊥ }
-    ensures { IfOk result (λ o.
+    ensures put { IfOk result (λ o.
         IfSome o (λ c. specs.MayPut text.now c.start c.end c.put.items)) }
+    ensures start { IfOk result (λ o. IfSome o (λ c. c.start ≡ start_of cut.now)) }
 {
     match cut {
         StatementCut::If(cut) => {

@@ -1,7 +1,7 @@
 //! Tests of what `acrun lint` and `acrun why` report, of what `acrun port` rewrites, and of how
 //! text is shown.
 //!
-//! Each crate has a module, `of_` and its name, and port_shell has four. No contract says what the
+//! Each crate has a module, `of_` and its name, and port_shell has three. No contract says what the
 //! command why prints over files, so a row of `of_cmd_why` compares the exit status and both
 //! streams. `of_cmd_call` has what is written to streams that take a part, are interrupted or fail.
 //! Most tests are a table of rows, in the form that the crate `test_rows` reads.
@@ -34,11 +34,11 @@ mod of_lint_warnings;
 #[cfg(test)]
 mod of_port_calls;
 #[cfg(test)]
+mod of_port_messages;
+#[cfg(test)]
 mod of_port_shell;
 #[cfg(test)]
 mod of_port_shell_cases;
-#[cfg(test)]
-mod of_port_shell_echoes;
 #[cfg(test)]
 mod of_port_shell_guards;
 #[cfg(test)]

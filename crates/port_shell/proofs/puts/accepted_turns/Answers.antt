@@ -1,6 +1,6 @@
 use Rattle.std.proofs.Common.{subst}
 use Rattle.lint_errors.specs.Errors.{IsAccepted}
-use Rattle.port_shell.specs.Calls.{source_with}
+use Rattle.port_put.specs.Calls.{source_with}
 use Rattle.port_shell.specs.Formed as specs
 use Rattle.port_shell.proofs.puts.accepted_turns.Goals as goal
 

@@ -1,6 +1,6 @@
 use Rattle.std.proofs.Common.{map}
 use Rattle.std.specs.Prelude.{codes}
-use Rattle.port_shell.specs.Calls.{IsPut}
+use Rattle.port_put.specs.Calls.{IsPut}
 use Rattle.port_shell.specs.Formed as specs
 use Rattle.port_shell.proofs.Steps.{of_some}
 use Rattle.port_shell.proofs.puts.call_of_case.Goals as goal

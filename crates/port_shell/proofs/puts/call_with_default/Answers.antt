@@ -1,7 +1,7 @@
 use Rattle.std.proofs.Common.{[], ◌∷◌}
 use Rattle.std.specs.Prelude.{codes}
 use Rattle.port_compounds.specs.Defaults.{assignment, empty_test}
-use Rattle.port_shell.specs.Calls.{IsPut}
+use Rattle.port_put.specs.Calls.{IsPut}
 use Rattle.port_shell.specs.Formed as specs
 use Rattle.port_shell.proofs.Steps.{of_some}
 use Rattle.port_shell.proofs.puts.call_with_default.Goals as goal

@@ -1,6 +1,6 @@
 use Rattle.std.proofs.Common.{ap, ◌∙◌, map, subst}
 use Rattle.std.specs.Prelude.{IfOk, IfSome, codes}
-use Rattle.port_shell.specs.Calls.{IsPut}
+use Rattle.port_put.specs.Calls.{IsPut}
 use Rattle.port_shell.proofs.puts.if_call.Goals as goal
 
 pub returns : goal.returns

@@ -1,0 +1,143 @@
+-- What the lines with an `echo`, an `exit`, an `unset` or an `export` become. The offsets are those of the text that is read. All of this is own.
+use Rattle.std.specs.Prelude.{◌≡◌, ◌⊎◌, ℕ, ◌+◌, ◌<◌, ◌≤◌, ◌==◌, ◌||◌, nat_lt, ◌&&◌, Bool, true, false, List, [], ◌∷◌, ◌++◌, length, flat_map, slice_index, slice_range, codes, if◌then◌else◌}
+use Rattle.std.specs.List.{list_all}
+use Rattle.std.specs.Char.{is_ascii_alphanumeric}
+use Rattle.port_compounds.specs.Places.{AreSpaces, IsWord}
+use Rattle.port_echo.specs.Echo.{IsEcho, IsMessage, Prints}
+use Rattle.port_echo.specs.Commands.{IsCommandLine, IsBlankEcho, IsOneWord}
+use Rattle.lint_errors.specs.Errors.{IsAccepted}
+use Rattle.port_put.specs.Calls.{IsPut, source_with}
+
+-- A comment, and below it a call, each after the indent. The comment says in what the call differs from `echo`.
+unfoldable pub noted : List ℕ → List ℕ → List ℕ
+noted indent call = (indent ++ codes "dnl acrun: in place of echo: -q drops the line") ++ 10 ∷ (indent ++ call)
+
+-- A digit that isn't 0.
+abbrev pub is_status : ℕ → Bool
+is_status b = nat_lt 48 b && nat_lt b 58
+
+-- From this offset on, the command is `exit` with a digit that isn't 0.
+pub record IsExit (command : List ℕ) (from : ℕ) (status : List ℕ) : Type 0 where
+  pub is : slice_range command from (length command) ≡ codes "exit " ++ status
+  pub one : length status ≡ 1
+  pub digit : list_all is_status status ≡ true
+
+-- The command begins with `echo` and a space, and a `;` with spaces around it is between these offsets.
+pub record IsEchoThen (command : List ℕ) (to from : ℕ) : Type 0 where
+  pub at : ℕ
+  pub order : (5 ≤ to) × (to ≤ at) × (at < from)
+  pub word : IsWord command 0 (codes "echo ") 5
+  pub before : AreSpaces command to at
+  pub is : slice_index command at ≡ 59
+  pub after : AreSpaces command (at + 1) from
+
+-- The command prints this message by `echo`, and then ends the run with this status.
+pub record Fails (command message status : List ℕ) : Type 0 where
+  pub to : ℕ
+  pub from : ℕ
+  pub front : IsEchoThen command to from
+  pub prints : Prints (slice_range command 5 to) message
+  pub can_be_shown : IsMessage message
+  pub exits : IsExit command from status
+
+-- A call that takes the place of a command: the name of the macro, its arguments, and in what it differs. `echo` without words prints an
+-- empty line, and `exit` with a digit that isn't 0 ends the run with that status. A message before `exit` is that of the error.
+pub data Speaks (command : List ℕ) : List ℕ → List (List ℕ) → List ℕ → Type 0 where
+  blank : IsBlankEcho command → Speaks command (codes "AC_MSG_RESULT") ([] ∷ []) (codes "echo: -q drops the line")
+  ends : (status : List ℕ) → command ≡ codes "exit " ++ status → length status ≡ 1 → list_all is_status status ≡ true
+      → Speaks command (codes "AC_MSG_ERROR") (command ∷ status ∷ []) (codes "exit: an error is printed")
+  fails : (message status : List ℕ) → Fails command message status
+      → Speaks command (codes "AC_MSG_ERROR") (message ∷ status ∷ []) (codes "echo and exit: the message is an error")
+
+-- A byte of a variable's name.
+abbrev pub is_of_name : ℕ → Bool
+is_of_name b = is_ascii_alphanumeric b || b == 95
+
+-- The command unsets this variable alone.
+pub record Unsets (command name : List ℕ) : Type 0 where
+  pub is : command ≡ codes "unset " ++ name
+  pub some : 0 < length name
+  pub plain : list_all is_of_name name ≡ true
+
+-- A byte of a variable's name, or a space.
+abbrev pub is_of_names : ℕ → Bool
+is_of_names b = is_of_name b || b == 32
+
+-- The text is names with spaces between them.
+abbrev pub AreNames : List ℕ → Type 0
+AreNames names = (0 < length names) × (list_all is_of_names names ≡ true)
+
+-- The byte, or `= ` in the place of a space.
+abbrev pub set_byte : ℕ → List ℕ
+set_byte b = if b == 32 then 61 ∷ 32 ∷ [] else b ∷ []
+
+-- An assignment of nothing to each of these names.
+unfoldable pub each_cleared : List ℕ → List ℕ
+each_cleared names = flat_map set_byte names ++ 61 ∷ []
+
+-- A digit. (own)
+abbrev pub is_digit : ℕ → Bool
+is_digit b = nat_lt 47 b && nat_lt b 58
+
+-- The command appends this word to the value of a variable. (own: no POSIX shell need have `+=`)
+pub record Appends (command name word : List ℕ) : Type 0 where
+  pub is : command ≡ name ++ (codes "+=" ++ word)
+  pub some : 0 < length name
+  pub plain : list_all is_of_name name ≡ true
+  pub no_digit : is_digit (slice_index name 0) ≡ false
+  pub one : IsOneWord word
+
+-- The text is this name, `=` and this word. The name may be in brackets, so that m4 doesn't take it for a macro.
+abbrev pub IsSetTo : List ℕ → List ℕ → List ℕ → Type 0
+IsSetTo text name word = (text ≡ name ++ (codes "=" ++ word)) ⊎ (text ≡ codes "[" ++ (name ++ (codes "]=" ++ word)))
+
+-- The text assigns one word to a variable.
+pub record IsSet (text : List ℕ) : Type 0 where
+  pub name : List ℕ
+  pub word : List ℕ
+  pub is : IsSetTo text name word
+  pub some : 0 < length name
+  pub plain : list_all is_of_name name ≡ true
+  pub no_digit : is_digit (slice_index name 0) ≡ false
+  pub one : IsOneWord word
+
+-- A text that takes the place of a command, and in what it differs. `export` changes what programs see, and acrun gives none of them a
+-- variable of the source. (POSIX shell, "export", "unset")
+pub data IsSilenced (command : List ℕ) : List ℕ → List ℕ → Type 0 where
+  exports : (names : List ℕ) → command ≡ codes "export " ++ names → AreNames names
+      → IsSilenced command (codes "export: no program that acrun starts sees the variable") (58 ∷ [])
+  exports_set : (set : List ℕ) → command ≡ codes "export " ++ set → IsSet set
+      → IsSilenced command (codes "export: no program that acrun starts sees the variable") set
+  unsets : (names : List ℕ) → command ≡ codes "unset " ++ names → AreNames names → IsAccepted (source_with (each_cleared names))
+      → IsSilenced command (codes "unset: the variables are empty") (each_cleared names)
+
+-- The assignment of the variable's value, with the word after it.
+unfoldable pub longer : List ℕ → List ℕ → List ℕ
+longer name word = (name ++ 61 ∷ 34 ∷ 36 ∷ []) ++ (name ++ 34 ∷ word)
+
+-- A comment with these words, and below it a text, each after the indent.
+unfoldable pub noted_so : List ℕ → List ℕ → List ℕ → List ℕ
+noted_so indent said put = ((indent ++ codes "dnl acrun: in place of ") ++ said) ++ 10 ∷ (indent ++ put)
+
+-- So much of a text has been read, and this was written: everything is copied, but a line that prints a message by `echo` may become a
+-- comment and the call of AC_MSG_RESULT with the message, after the line's indent. A line with another command may become a comment and the
+-- call that takes its place; one that unsets a variable, a comment and an assignment of nothing; one that unsets several or exports some, a
+-- comment and assignments or `:`; and one that appends a word to a variable, a comment and an assignment.
+pub data IsToldTo (text : List ℕ) : ℕ → List ℕ → Type 0 where
+  begun : IsToldTo text 0 []
+  copied : {at : ℕ} {out : List ℕ} (next : ℕ) → IsToldTo text at out → at ≤ next → next ≤ length text → IsToldTo text next (out ++ slice_range text at next)
+  told : {start : ℕ} {out : List ℕ} (at end : ℕ) (message call : List ℕ) → IsToldTo text start out → IsEcho text start at end message
+      → IsPut (codes "AC_MSG_RESULT") (message ∷ []) call → IsToldTo text end (out ++ noted (slice_range text start at) call)
+  spoken : {start : ℕ} {out : List ℕ} (at end : ℕ) (command name : List ℕ) (args : List (List ℕ)) (said call : List ℕ) → IsToldTo text start out
+      → IsCommandLine text start at end command → Speaks command name args said → IsPut name args call
+      → IsToldTo text end (out ++ noted_so (slice_range text start at) said call)
+  cleared : {start : ℕ} {out : List ℕ} (at end : ℕ) (command name : List ℕ) → IsToldTo text start out → IsCommandLine text start at end command → Unsets command name
+      → IsToldTo text end (out ++ noted_so (slice_range text start at) (codes "unset: the variable is empty") (name ++ 61 ∷ []))
+  silenced : {start : ℕ} {out : List ℕ} (at end : ℕ) (command said put : List ℕ) → IsToldTo text start out → IsCommandLine text start at end command
+      → IsSilenced command said put → IsToldTo text end (out ++ noted_so (slice_range text start at) said put)
+  appended : {start : ℕ} {out : List ℕ} (at end : ℕ) (command name word : List ℕ) → IsToldTo text start out → IsCommandLine text start at end command
+      → Appends command name word → IsAccepted (source_with (longer name word)) → IsToldTo text end (out ++ noted_so (slice_range text start at) (codes "+=: some shells take it for a command") (longer name word))
+
+-- The whole text becomes this one.
+abbrev pub IsTold : List ℕ → List ℕ → Type 0
+IsTold text out = IsToldTo text (length text) out

@@ -1,0 +1,6 @@
+use Rattle.std.specs.Prelude.{All}
+use Rattle.port_places.specs.Outside.{IsList}
+use Rattle.port_statements.proofs.lists.push_of_call.Given as goal
+
+abbrev pub invariant-loop-i : goal.invariant-loop-i
+invariant-loop-i l = All (IsList l.text l.calls) l.lists.items
