@@ -40,6 +40,7 @@ WHY_NONE = {
     "run_words": "They choose words for a reader. Which words are right is a judgement, and examples hold it.",
     "lint_warnings": "What means something else than it seems to is a judgement, row by row. Examples hold each row.",
     "port_definitions": "They look for places at which something may be written. What is written there is stated by `port_calls`.",
+    "port_breaks": "It says where to look for a command. Where a line may be broken is stated by `broken`.",
     "port_statements": "Whether Autoconf makes checks before a call is a judgement by the table of macros.",
     "port_reasons": "It names statements that stay, for the words of an error.",
 }

@@ -6,7 +6,7 @@ use Rattle.port_calls.specs.Rewritten.{IsRewritten}
 use Rattle.port_calls.specs.Stated.{IsStated}
 use Rattle.port_idioms.specs.declared.idioms.Idioms.{Idioms}
 use Rattle.port_idioms.specs.declared.idioms.Idioms.TheVariants.{Exact, All}
-use Rattle.port_messages.specs.Told.{IsTold}
+use Rattle.port_messages.specs.Told.{IsBrokenAndTold}
 use Rattle.port_shell.specs.Formed.{IsFormed}
 use Rattle.text_cut.specs.Cuts.{parts}
 use Rattle.cmd_port.specs.Asked.{Package}
@@ -54,10 +54,10 @@ abbrev pub IsPrinted : List ℕ → Bool → List ℕ → Type 0
 IsPrinted text false out = (out ≡ text) × IsAccepted text
 IsPrinted text true out = IsCommented text (length text) out × (IsAccepted text → ⊥) × HasLeft out
 
--- If all idioms are wanted, what `echo` prints becomes a message. Otherwise the text stays.
+-- If all idioms are wanted, what `echo` prints becomes a message, on lines that may be broken for it. Otherwise the text stays.
 abbrev pub IsToldBy : Idioms → List ℕ → List ℕ → Type 0
 IsToldBy Exact text out = out ≡ text
-IsToldBy All text out = IsTold text out
+IsToldBy All text out = IsBrokenAndTold text out
 
 -- The calls of the text are rewritten, by the idioms that are wanted, then its statements of a shell, and then what `echo` prints.
 pub record IsTurn (idioms : Idioms) (text out : List ℕ) : Type 0 where

@@ -189,7 +189,8 @@ fn is_line_start(text: &[u8], at: usize) -> bool {
     at == 0 || text.get(at.saturating_sub(1)) == Some(&b'\n')
 }
 
-/// Breaks the line before a command between two offsets, if it has something before it on its line.
+/// Breaks the line before a command between two offsets, if it has something before it on its line,
+/// and if the line wasn't broken right before it.
 fn break_before(
     text: &[u8],
     at: usize,
@@ -200,7 +201,7 @@ fn break_before(
     ensures { OnOk result (specs.IsBrokenTo text.now breaking.new.at breaking.new.out.items) }
 {
     let start = before_spaces(text, 0, at);
-    if !is_line_start(text, start) && may_break_before(text, start, at, to) {
+    if breaking.at != at && !is_line_start(text, start) && may_break_before(text, start, at, to) {
         write_break(text, start, at, breaking)
     } else {
         Ok(())
@@ -270,6 +271,23 @@ fn exit_after(text: &[u8], at: usize, to: usize) -> usize {
     } else {
         at
     }
+}
+
+/// Returns the command at an offset, or nothing if it isn't known what takes its place. An `exit`
+/// after an `echo` belongs to it.
+pub fn command_at(text: &[u8], at: usize) -> &[u8] {
+    let to = command_end(text, at);
+    if !is_told_between(text, at, to) {
+        return b"";
+    }
+    let from = exit_after(text, at, to);
+    let end = command_end(text, from);
+    let end = if is_told_between(text, from, end) {
+        end
+    } else {
+        to
+    };
+    text.get(at..end).unwrap_or(b"")
 }
 
 /// Breaks the line of the command at an offset before it, and after the command at another offset,

@@ -23,4 +23,4 @@ mod breaks;
 mod tests;
 mod told;
 
-pub use breaks::broken;
+pub use breaks::{broken, command_at};

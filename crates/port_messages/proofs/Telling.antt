@@ -5,9 +5,10 @@ use Rattle.std.specs.Prelude.{◌≢◌, codes, IfSome, MatchOption}
 use Rattle.std.specs.Borrow.{Bor}
 use Rattle.port_echo.specs.Echo.{IsEcho, IsMessage, Prints}
 use Rattle.port_echo.specs.Commands.{IsCommandLine}
+use Rattle.port_breaks.specs.Breaks.{IsBroken}
 use Rattle.lint_errors.specs.Errors.{IsAccepted}
 use Rattle.port_put.specs.Calls.{IsPut, source_with}
-use Rattle.port_messages.specs.Told.{IsToldTo, IsEchoThen, IsExit, Fails, Speaks, Unsets, Appends, IsSilenced, IsSetTo, noted, noted_so, longer}
+use Rattle.port_messages.specs.Told.{IsToldTo, IsTold, IsBrokenAndTold, IsEchoThen, IsExit, Fails, Speaks, Unsets, Appends, IsSilenced, IsSetTo, noted, noted_so, longer}
 use Rattle.port_messages.specs.Told as specs
 
 -- What follows from what an `Ok` says holds of the `Ok`.
@@ -20,6 +21,14 @@ pub stripped : (text front : List ℕ) (r : Option (Bor (List ℕ))) → MatchOp
     → IfSome r (λ rest. text ≡ front ++ rest.now)
 stripped text front None h = tt
 stripped text front (Some x) h = h
+
+-- Telling begins with nothing read and nothing written.
+pub begun_at : {text : List ℕ} {at : ℕ} {out : List ℕ} → at ≡ 0 → out ≡ [] → IsToldTo text at out
+begun_at {text} {at} {out} read none = subst (λ a. IsToldTo text a out) (sym read) (subst (IsToldTo text 0) (sym none) specs.IsToldTo.begun)
+
+-- The lines were broken, and then the text was told.
+pub broken_and_told : (text mid out : List ℕ) → IsBroken text mid → IsTold mid out → IsBrokenAndTold text out
+broken_and_told text mid out broken told = record { mid = mid; broken = broken; told = told }
 
 pub told_bound : (text : List ℕ) (at : ℕ) (out : List ℕ) → IsToldTo text at out → at ≤ length text
 told_bound text at out specs.IsToldTo.begun = omega arith

@@ -6,6 +6,7 @@ use Rattle.port_compounds.specs.Places.{AreSpaces, IsWord}
 use Rattle.port_echo.specs.Echo.{IsEcho, IsMessage, Prints}
 use Rattle.port_echo.specs.Commands.{IsCommandLine, IsBlankEcho, IsOneWord}
 use Rattle.lint_errors.specs.Errors.{IsAccepted}
+use Rattle.port_breaks.specs.Breaks.{IsBroken}
 use Rattle.port_put.specs.Calls.{IsPut, source_with}
 
 -- A comment, and below it a call, each after the indent. The comment says in what the call differs from `echo`.
@@ -141,3 +142,9 @@ pub data IsToldTo (text : List ℕ) : ℕ → List ℕ → Type 0 where
 -- The whole text becomes this one.
 abbrev pub IsTold : List ℕ → List ℕ → Type 0
 IsTold text out = IsToldTo text (length text) out
+
+-- The text becomes this one: lines may be broken around a command of which it is known what takes its place, and each line is then read.
+pub record IsBrokenAndTold (text out : List ℕ) : Type 0 where
+  pub mid : List ℕ
+  pub broken : IsBroken text mid
+  pub told : IsTold mid out

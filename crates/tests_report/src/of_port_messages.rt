@@ -24,7 +24,7 @@ const ECHOES: &[u8] = br##"
 echo using $x, 1.2 => dnl acrun: in place of echo: -q drops the line^JAC_MSG_RESULT([using $x, 1.2])
 a=1^J  echo 'no  x'^Jb=2 => a=1^J  dnl acrun: in place of echo: -q drops the line^J  AC_MSG_RESULT([no  x])^Jb=2
 if test -n "$a"; then^J  echo "a: $a (b)"^Jfi => if test -n "$a"; then^J  dnl acrun: in place of echo: -q drops the line^J  AC_MSG_RESULT([a: $a (b)])^Jfi
-AS_IF([a], [^Jecho b]) => the same
+AS_IF([a], [^Jecho b]) => AS_IF([a], [^Jdnl acrun: in place of echo: -q drops the line^JAC_MSG_RESULT([b])^J  ])
 AS_IF([a], [^Jecho b^J]) => AS_IF([a], [^Jdnl acrun: in place of echo: -q drops the line^JAC_MSG_RESULT([b])^J])
 echo '  a ' => dnl acrun: in place of echo: -q drops the line^JAC_MSG_RESULT([  a ])
 echo => dnl acrun: in place of echo: -q drops the line^JAC_MSG_RESULT([])
@@ -44,16 +44,9 @@ echo "no $a"; exit 1 => dnl acrun: in place of echo and exit: the message is an 
   echo no a ;  exit 2 =>   dnl acrun: in place of echo and exit: the message is an error^J  AC_MSG_ERROR([no a], [2])
 echo 'a; exit 1';exit 3 => dnl acrun: in place of echo and exit: the message is an error^JAC_MSG_ERROR([a; exit 1], [3])
 AS_IF([a], [^J  echo b; exit 1^J]) => AS_IF([a], [^J  dnl acrun: in place of echo and exit: the message is an error^J  AC_MSG_ERROR([b], [1])^J])
-echo a; exit 0 => the same
-echo a; exit => the same
-echo a; exit 1; b => the same
-echo; exit 1 => the same
 echo -n a; exit 1 => the same
 echo a >&2; exit 1 => the same
-echo a; b; exit 1 => the same
 echo a & exit 1 => the same
-echo a; exit 1 # b => the same
-b; echo a; exit 1 => the same
 // `+=`
 CFLAGS+=" -Wall" => dnl acrun: in place of +=: some shells take it for a command^JCFLAGS="$CFLAGS"" -Wall"
   a_1+=b$c =>   dnl acrun: in place of +=: some shells take it for a command^J  a_1="$a_1"b$c
@@ -77,6 +70,30 @@ echo a+=b c+=d => dnl acrun: in place of echo: -q drops the line^JAC_MSG_RESULT(
 while b; do^Ja+=c^Jdone => the same
 for a in b; do^Ja+=c^Jdone => for a in b; do^Jdnl acrun: in place of +=: some shells take it for a command^Ja="$a"c^Jdone
 a && b+=c => the same
+// lines that are broken
+if a; then echo b; c=1; fi => if a; then^J  dnl acrun: in place of echo: -q drops the line^J  AC_MSG_RESULT([b])^J  c=1; fi
+if a; then echo b; fi => if a; then^J  dnl acrun: in place of echo: -q drops the line^J  AC_MSG_RESULT([b])^J  fi
+case $a in^J  b) exit 3 ;;^J  *) echo ;;^Jesac => case $a in^J  b)^J    dnl acrun: in place of exit: an error is printed^J    AC_MSG_ERROR([exit 3], [3])^J    ;;^J  *)^J    dnl acrun: in place of echo: -q drops the line^J    AC_MSG_RESULT([])^J    ;;^Jesac
+AS_IF([a], [echo b]) => AS_IF([a], [^J  dnl acrun: in place of echo: -q drops the line^J  AC_MSG_RESULT([b])^J  ])
+AS_IF([a], [echo b; exit 1], [c=1; exit 2]) => AS_IF([a], [^J  dnl acrun: in place of echo and exit: the message is an error^J  AC_MSG_ERROR([b], [1])^J  ], [c=1; exit 2])
+for a in b; do echo $a; done => for a in b; do^J  dnl acrun: in place of echo: -q drops the line^J  AC_MSG_RESULT([$a])^J  done
+  a=1; echo "b; c" ; d=1 =>   a=1;^J    dnl acrun: in place of echo: -q drops the line^J    AC_MSG_RESULT([b; c])^J    d=1
+echo a;echo b => dnl acrun: in place of echo: -q drops the line^JAC_MSG_RESULT([a])^J  dnl acrun: in place of echo: -q drops the line^J  AC_MSG_RESULT([b])
+echo a; b=1 => dnl acrun: in place of echo: -q drops the line^JAC_MSG_RESULT([a])^J  b=1
+echo a; exit 0 => dnl acrun: in place of echo: -q drops the line^JAC_MSG_RESULT([a])^J  exit 0
+echo a; exit => dnl acrun: in place of echo: -q drops the line^JAC_MSG_RESULT([a])^J  exit
+echo a; exit 1; b => dnl acrun: in place of echo and exit: the message is an error^JAC_MSG_ERROR([a], [1])^J  b
+b; echo a; exit 1 => b;^J  dnl acrun: in place of echo and exit: the message is an error^J  AC_MSG_ERROR([a], [1])
+echo; exit 1 => dnl acrun: in place of echo: -q drops the line^JAC_MSG_RESULT([])^J  dnl acrun: in place of exit: an error is printed^J  AC_MSG_ERROR([exit 1], [1])
+echo a; b; exit 1 => dnl acrun: in place of echo: -q drops the line^JAC_MSG_RESULT([a])^J  b; exit 1
+echo a; exit 1 # b => dnl acrun: in place of echo: -q drops the line^JAC_MSG_RESULT([a])^J  exit 1 # b
+// lines that aren't, since nothing takes the place of the command
+echo "$(a)"; b=1 => the same
+b=1; echo "$(a)" => the same
+a; unset b; c => the same
+a && echo b; c => the same
+while b; do echo a; done => the same
+echo "a" "b"; c => the same
 // which stay
 exit 0 => the same
 exit 10 => the same
@@ -105,7 +122,6 @@ echo a  b => the same
 echo -n a => the same
 echo '-n' => the same
 echo a > b => the same
-echo a; b=1 => the same
 echo a | b => the same
 echo `a` => the same
 echo a* => the same
