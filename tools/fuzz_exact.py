@@ -20,7 +20,8 @@ From number 3000000 on it may also have blanks after the arguments of macros tha
 the macros of NEWEST_NAMES. From number 4000000 on it also defines macros without parameters, and calls them. From number 5000000 on it also
 has AC_PATH_PROGS, checks with `break`, and AC_CACHE_VAL between its messages, and defines plain words. From number 6000000 on it also has
 `for` over words, assignments with `&&` after them, and lines that m4 joins to a comment. From number 7000000 on it has fewer of all these, and
-three of the five kinds of statements of tools/exact_forms.py, with --forms those that are named; with --idioms some get --package too.
+three of the five kinds of statements of tools/exact_forms.py, with --forms those that are named; with --idioms some get --package too. From
+number 8000000 on it also defines macros that it calls nowhere, or by a name that m4 makes of parts.
 A difference is allowed if a line `~ ` of macros.txt states it for a macro of the source, or one of the sentences below of docs/differences.md.
 
 With --idioms a source has also calls of the macros that have a line `& `, if Autoconf itself has them, and port is given that switch. If
@@ -890,6 +891,17 @@ OF_SHELL = (
     "level=2\nif test \"$level\" -ne 3 -a 2 -eq 2; then\n  v1=both\nfi", "if test \"$level\" -eq 3; then\n  v2=three\nfi",
     "if test \"$enable_foo\" = stop; then\n  echo\n  echo stop it\n  exit 3\nfi", "echo", "echo \"\"",
 )
+# From this number on also definitions of macros that nothing calls, beside what names, calls or makes their names.
+UNUSED = 8_000_000
+UNUSED_BODIES = (
+    "v1=$1", "\nAC_REQUIRE([AC_PROG_AWK])\nv2=\"$1 $2\"\n", "AC_DEFINE([{D}], [$1], [a text])dnl {N}\n", "AC_BEFORE([$0], [AC_PROG_LN_S])AC_SUBST([{D}], [$1])",
+    "AS_IF([test \"$v1\" = \"$1\"],\n  [v2=a], [{N}([$2])])", "v1=plain # [it]",
+)
+NAMING = (
+    "dnl {N} is here", "# {N} is here", "v2=1 # {N}", "v2=2 dnl {N}", "{N}([yes])", "m4_ifdef([{N}], [v1=yes])", "AS_IF([:], [\ndnl {N}\nv2=1])",
+    "AS_IF([:], [v1=1\ndnl ], [{N}([b])])", "AC_DEFUN([{C}], [{F}$1])\n{C}([{B}])", "AC_DEFUN([{C}], [\ndnl $1 {N}([no])\n])\n{C}([b\nv1=2])",
+    "AS_IF([:], [{F}[]{B}([yes])])", "AC_DEFUN([{C}], [AC_REQUIRE([{N}])v2=3])\n{C}", "v1={N}more",
+)
 # Statements that port rewrites with --idioms if a document says so. A shell with `+=` runs a source that has one.
 NEWER_SHELL = (
     (OF_ECHO_EXIT, ("if test \"$v2\" = yes; then\n  echo v2 is set; exit 3\nfi", "if test -n \"$level\"; then\n  v1=4\n  echo \"no $level here\"; exit 1\nfi")),
@@ -905,7 +917,7 @@ class Maker(exact_forms.Forms):
     def __init__(self, number, names=None, switches=(), forms=()):
         self.at = random.Random(number)
         self.is_later, self.is_newer, self.is_newest, self.is_defining = (number >= it for it in (LATER, NEWER, NEWEST, DEFINING))
-        self.is_writing, self.is_looping = number >= WRITING, number >= LOOPING
+        self.is_writing, self.is_looping, self.has_unused = number >= WRITING, number >= LOOPING, number >= UNUSED
         self.is_forming, self.switches = number >= FORMING, switches
         self.forms = [*forms] or (self.at.sample(exact_forms.FORMS, 3) if self.is_forming else [])
         self.all_idioms, self.is_mild = switches == IDIOMS, self.is_forming and self.has(0.7)
@@ -1103,6 +1115,19 @@ class Maker(exact_forms.Forms):
             for _ in range(self.at.choice((0, 1, 1, 2))):
                 blocks.insert(self.at.randint(place + 1, len(blocks)), self.one([name, name, f"  {name}", f"{name} # a note", f"if test -n \"$v1\"; then\n  {name}\nfi"]))
 
+    def with_unused(self, blocks):
+        """Adds definitions of macros that nothing calls, and sometimes what names them, calls them, or makes their names of parts."""
+        for _ in range(self.at.randint(1, 2)):
+            name = self.fresh(self.one(["FZ_UNUSED", "FzUnused", "AX_FZ", "AC_FZ"]))
+            cut = self.at.randint(2, len(name) - 1)
+            words = {"N": name, "F": name[:cut], "B": name[cut:], "C": self.fresh("FZ_CALL"), "D": self.fresh("D")}
+            body = re.sub(r"\{([A-Z])\}", lambda found: words[found[1]], self.one(UNUSED_BODIES))
+            place = self.at.randint(0, len(blocks))
+            blocks.insert(place, f"AC_DEFUN([{name}],{self.one([' ', chr(10), ''])}[{body}]){self.one(['', 'dnl', f'dnl {name}', f'# {name}', ' # a note'])}")
+            if self.has(0.6):
+                naming = re.sub(r"\{([A-Z])\}", lambda found: words[found[1]], self.one(NAMING))
+                blocks.insert(self.at.randint(place + 1, len(blocks)), naming)
+
     def with_programs(self, blocks):
         """Adds calls of AC_PATH_PROGS, most of which are a statement at the top."""
         for _ in range(self.at.randint(0, 2)):
@@ -1273,6 +1298,8 @@ class Maker(exact_forms.Forms):
             self.with_words(first, blocks)
         if self.is_looping and self.is_plain():
             self.with_loops(blocks)
+        if self.has_unused:
+            self.with_unused(blocks)
         if self.all_idioms:
             # The stand-in for a compiler looks at no file, so such a test has an operator that stays.
             blocks = [it.replace("test -f configure", "test -L configure") for it in blocks]

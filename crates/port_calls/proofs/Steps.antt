@@ -12,6 +12,7 @@ use Rattle.port_calls.specs.Rewritten as specs
 use Rattle.port_calls.specs.Exchanged.{IsExchanged}
 use Rattle.port_calls.specs.Making.{IsMade}
 use Rattle.port_definitions.specs.Defined.{Defines, DefinesWord, IsNameAt, IsPlainUse, IsUnused}
+use Rattle.port_definitions.specs.Unused.{DefinesUnused}
 use Rattle.port_idioms.specs.Filled.{text_of}
 use Rattle.port_calls.specs.Put.{MayPut, arg_text, is_space_or_return, difference, below}
 use Rattle.lint_macros.specs.Entries.{entry_of}
@@ -36,6 +37,7 @@ pass_bound idioms text at out (specs.IsPass.made c put before is all made to) = 
 pass_bound idioms text at out (specs.IsPass.exchanged end put before is to) = to
 pass_bound idioms text at out (specs.IsPass.written d name body before defined defines after here to) = to
 pass_bound idioms text at out (specs.IsPass.forgotten d name body before defined defines unused to) = to
+pass_bound idioms text at out (specs.IsPass.unused d name before defined unused to) = to
 pass_bound idioms text at out (specs.IsPass.substituted start end name word before defines after here to) = to
 pass_bound idioms text at out (specs.IsPass.undefined end name word before defines unused to) = to
 
@@ -124,6 +126,14 @@ forget_step idioms text at out d name body new_at new before is defines unused f
     let copied = specs.IsPass.copied d.start before from (omega (arith, order, to)) in
     subst (λ a. IsPass idioms text a new) (sym at_is)
     (subst (IsPass idioms text d.end) (sym (new_is ∙ append-nil (out ++ slice_range text at d.start))) (specs.IsPass.forgotten d name body copied is defines unused to))
+
+pub unused_step : (idioms : Idioms) (text : List ℕ) (at : ℕ) (out : List ℕ) (d : MacroCall) (name : List ℕ) (new_at : ℕ) (new : List ℕ)
+    → IsPass idioms text at out → Contains (calls_in text) d → DefinesUnused text d name → at ≤ d.start → d.start ≤ d.end → d.end ≤ length text
+    → (new_at ≡ d.end) × (new ≡ (out ++ slice_range text at d.start) ++ []) → IsPass idioms text new_at new
+unused_step idioms text at out d name new_at new before is unused from order to (at_is, new_is) =
+    let copied = specs.IsPass.copied d.start before from (omega (arith, order, to)) in
+    subst (λ a. IsPass idioms text a new) (sym at_is)
+    (subst (IsPass idioms text d.end) (sym (new_is ∙ append-nil (out ++ slice_range text at d.start))) (specs.IsPass.unused d name copied is unused to))
 
 pub word_step : (idioms : Idioms) (text : List ℕ) (read : ℕ) (out : List ℕ) (start end : ℕ) (name word : List ℕ) (at new_at : ℕ) (new : List ℕ)
     → IsPass idioms text read out → DefinesWord text start end name word → end ≤ at → IsPlainUse text at name → read ≤ at → at + length name ≤ length text

@@ -12,6 +12,7 @@ use Rattle.lint_macros.specs.declared.text.TheConstants.{TABLE}
 use Rattle.port_idioms.specs.Rows.{put_by, Differs}
 use Rattle.port_idioms.specs.declared.idioms.Idioms.TheVariants.{Exact, All}
 use Rattle.port_definitions.specs.Defined.{Defines, DefinesWord, IsNameAt, IsPlainUse, IsUnused, is_letter, is_of_name}
+use Rattle.port_definitions.specs.Unused.{DefinesUnused}
 use Rattle.port_calls.specs.Compiler.{IsBelowCompiler}
 use Rattle.port_calls.specs.Exchanged.{IsExchanged}
 use Rattle.port_calls.specs.Making.{IsMade, LacksVersion}
@@ -246,14 +247,14 @@ before_output = codes "dnl acrun: in place of what is printed after AC_OUTPUT: i
 abbrev pub messages_first : List ℕ → List ℕ → List ℕ
 messages_first messages call = ((((before_output ++ 10 ∷ []) ++ messages) ++ 10 ∷ []) ++ call) ++ 10 ∷ []
 
--- One pass over the calls of a text has read so much of it, and written this. Everything is copied, with thirteen exceptions: a call that has
+-- One pass over the calls of a text has read so much of it, and written this. Everything is copied, with fourteen exceptions: a call that has
 -- to go, with blanks around it, may be replaced by what may be put in its place; in a call that declares an option the old name of
 -- AS_HELP_STRING may become the name; a backslash that joins two lines of a list of words may go; after a call that ends its line a newline
 -- and an indent may be put in place of the spaces; an argument of a macro that acrun reads, which has no brackets outside the calls in it,
 -- may get a pair; so may an argument of another macro that does what it says, and the name of a variable that is spelled as a macro; in the place of calls may be put others
 -- that do the same; in the place of the name
 -- of a macro without parameters that the source defines before, by AC_DEFUN or as a plain word, may be put its body, and the definition of one whose name
--- is nowhere after it may go; and if all idioms are wanted, the lines that set GCC and CFLAGS and look for the default headers may be put
+-- is nowhere after it may go; so may the definition of any macro that nothing calls; and if all idioms are wanted, the lines that set GCC and CFLAGS and look for the default headers may be put
 -- after AC_PROG_CC, messages after AC_OUTPUT may be put before it, if nothing else is there, and in the place of AC_INIT and of AC_EGREP_CPP may be put what
 -- is made of the text of another call or of a program.
 pub data IsPass (idioms : Idioms) (text : List ℕ) : ℕ → List ℕ → Type 0 where
@@ -284,6 +285,8 @@ pub data IsPass (idioms : Idioms) (text : List ℕ) : ℕ → List ℕ → Type 
       → at + length name ≤ length text → IsPass idioms text (at + length name) (out ++ body)
   forgotten : {out : List ℕ} (d : MacroCall) (name body : List ℕ) → IsPass idioms text d.start out → Contains (calls_in text) d → Defines text d name body → IsUnused text d.end name
       → d.end ≤ length text → IsPass idioms text d.end out
+  unused : {out : List ℕ} (d : MacroCall) (name : List ℕ) → IsPass idioms text d.start out → Contains (calls_in text) d → DefinesUnused text d name → d.end ≤ length text
+      → IsPass idioms text d.end out
   substituted : {at : ℕ} {out : List ℕ} (start end : ℕ) (name word : List ℕ) → IsPass idioms text at out → DefinesWord text start end name word → end ≤ at → IsPlainUse text at name
       → at + length name ≤ length text → IsPass idioms text (at + length name) (out ++ word)
   undefined : {start : ℕ} {out : List ℕ} (end : ℕ) (name word : List ℕ) → IsPass idioms text start out → DefinesWord text start end name word → IsUnused text end name

@@ -3,12 +3,15 @@
 ghost use Rattle.std.specs.Prelude.{◌≡◌, ◌≤◌, ◌<◌, ◌+◌, map, length, Contains, OnOk};
 ghost use Rattle.ac_calls.specs.Calls.{calls_in, macro_call_of};
 ghost use Rattle.port_definitions.specs.Defined as specs;
+ghost use Rattle.port_definitions.specs.Unused.{DefinesUnused};
 ghost use Rattle.port_calls.specs.Rewritten as rewritten;
 
 use crate::changes::Known;
 use crate::writing::{Pass, write_change};
 use ac_calls::CallAt;
-use port_definitions::{UseSpot, argument, body_of, inner, is_name_at, is_used};
+use port_definitions::{
+    UseSpot, argument, body_of, inner, is_name_at, is_unused_definition, is_used,
+};
 use port_idioms::Idioms;
 use std::alloc::AllocError;
 
@@ -157,7 +160,68 @@ fn pass_definition(
     }
 }
 
-/// Leaves out the definition of a macro without parameters whose name is nowhere after it.
+/// Leaves out the definition of a macro that nothing calls, unless it is not after what was read.
+fn drop_unused(
+    idioms: Idioms,
+    text: &[u8],
+    d: &CallAt,
+    name: &[u8],
+    pass: &mut Pass,
+) -> Result<(), AllocError>
+    requires defined { Contains (calls_in text.now) (macro_call_of d.now) }
+    requires unused { DefinesUnused text.now (macro_call_of d.now) name.now }
+    requires begun { rewritten.IsPass idioms text.now pass.old.at pass.old.out.items }
+    ensures { OnOk result (rewritten.IsPass idioms text.now pass.new.at pass.new.out.items) }
+{
+    let _ = idioms;
+    let _ = name;
+    if d.start < pass.at || d.end < d.start || text.len() < d.end {
+        return Ok(());
+    }
+    write_change(text, d.start, d.end, b"", pass)
+}
+
+/// Leaves out the definition of a macro, if nothing calls it.
+fn pass_unused(
+    idioms: Idioms,
+    text: &[u8],
+    d: &CallAt,
+    name: &[u8],
+    pass: &mut Pass,
+) -> Result<(), AllocError>
+    requires defined { Contains (calls_in text.now) (macro_call_of d.now) }
+    requires begun { rewritten.IsPass idioms text.now pass.old.at pass.old.out.items }
+    ensures { OnOk result (rewritten.IsPass idioms text.now pass.new.at pass.new.out.items) }
+{
+    if is_unused_definition(text, d, name) {
+        return drop_unused(idioms, text, d, name, pass);
+    }
+    Ok(())
+}
+
+/// Leaves out the definition of a macro whose body is written out wherever its name is, or, if it
+/// isn't, of one that nothing calls.
+fn pass_named(
+    idioms: Idioms,
+    text: &[u8],
+    d: &CallAt,
+    is_written: bool,
+    name: &[u8],
+    pass: &mut Pass,
+) -> Result<(), AllocError>
+    requires defined { Contains (calls_in text.now) (macro_call_of d.now) }
+    requires begun { rewritten.IsPass idioms text.now pass.old.at pass.old.out.items }
+    ensures { OnOk result (rewritten.IsPass idioms text.now pass.new.at pass.new.out.items) }
+{
+    if is_written {
+        pass_definition(idioms, text, d, name, pass)
+    } else {
+        pass_unused(idioms, text, d, name, pass)
+    }
+}
+
+/// Leaves out the definition of a macro without parameters whose name is nowhere after it, or of
+/// one that nothing calls.
 pub(crate) fn pass_defined(
     idioms: Idioms,
     known: &Known,
@@ -170,11 +234,12 @@ pub(crate) fn pass_defined(
     requires begun { rewritten.IsPass idioms text.now pass.old.at pass.old.out.items }
     ensures { OnOk result (rewritten.IsPass idioms text.now pass.new.at pass.new.out.items) }
 {
-    if !known.written.indices.contains(&first) {
+    let is_written = known.written.indices.contains(&first);
+    if !is_written && !known.written.unused.contains(&first) {
         return Ok(());
     }
     match argument(call, 0) {
-        Some(title) => pass_definition(idioms, text, call, inner(text, title), pass),
+        Some(title) => pass_named(idioms, text, call, is_written, inner(text, title), pass),
         None => Ok(()),
     }
 }

@@ -6,8 +6,8 @@
 //! AS_HELP_STRING is replaced too, a backslash that joins two lines of a list of words goes, a
 //! statement after AC_DEFINE gets a line of its own, and an argument with a compound statement of a
 //! shell gets brackets, and so does the name of a variable that is spelled as a macro. A macro
-//! without parameters that the source defines is written out where it is called. If all
-//! idioms are wanted, GCC is set after AC_PROG_CC, messages after AC_OUTPUT come before it, AC_INIT
+//! without parameters that the source defines is written out where it is called, and the definition
+//! of one that nothing calls is left out. If all idioms are wanted, GCC is set after AC_PROG_CC, messages after AC_OUTPUT come before it, AC_INIT
 //! gets the name and the version of AM_INIT_AUTOMAKE, AC_EGREP_CPP of a word in a condition becomes
 //! AC_PREPROC_IFELSE, and PATH is set around a call that looks for a program along a path. All else
 //! is copied to the byte. [`with_package`] writes a name and a version that are given from outside

@@ -37,7 +37,7 @@ pub fn inner(text: &[u8], arg: Extent) -> &[u8]
 }
 
 /// Returns whether the call is one of AC_DEFUN.
-fn is_definition(text: &[u8], call: &CallAt) -> bool
+pub(crate) fn is_definition(text: &[u8], call: &CallAt) -> bool
     ensures { IsTrue result
         → slice_range text.now (macro_call_of call.now).start (macro_call_of call.now).name_end
         ≡ codes "AC_DEFUN" }
@@ -186,7 +186,7 @@ pub fn ends_word(text: &[u8], at: usize) -> bool
 }
 
 /// Returns whether m4 takes a name at an offset for a macro.
-fn is_word_at(text: &[u8], at: usize, name: &[u8]) -> bool
+pub(crate) fn is_word_at(text: &[u8], at: usize, name: &[u8]) -> bool
     requires { at ≤ length text.now }
     ensures { result ≡ false → specs.IsWordAt text.now at name.now → ⊥ }
 {

@@ -3,6 +3,8 @@
 use crate::definition::{has_parameter, inner};
 use crate::lines::{is_dropped, last_line, space_len};
 use crate::reading::{changes_reading, chooses_language, is_in_word, is_whole, tops_in};
+use crate::reserved::may_be_of_autoconf;
+use crate::unused::{is_in_remark, is_unused_definition};
 use ac_calls::CallAt;
 use ac_macros::table::row_named;
 use lint_macros::Index;
@@ -106,6 +108,57 @@ fn is_own(alloc: Global, index: &Index, name: &[u8]) -> Result<bool, AllocError>
     Ok(index.entry_of(alloc, name)?.is_none())
 }
 
+/// The macros that make other letters of a text, or call a macro by a text.
+const MAKING: [&[u8]; 6] = [
+    b"m4_bpatsubst",
+    b"m4_format",
+    b"m4_indir",
+    b"m4_tolower",
+    b"m4_toupper",
+    b"m4_translit",
+];
+
+/// Returns whether m4 may make the name of a macro of parts that are outside its definition: the
+/// name begins with a word that is no macro of the source, or that a parameter follows.
+fn may_be_composed(text: &[u8], search: &DefinitionSearch<'_>, d: &CallAt, name: &[u8]) -> bool {
+    for word in search.words {
+        let len = word.end.saturating_sub(word.start);
+        if len < 2 || name.len() <= len || d.start <= word.start && word.start < d.end {
+            continue;
+        }
+        let front = part(text, word.start, word.end);
+        let is_followed = text.get(word.end) == Some(&b'$');
+        if name.starts_with(front)
+            && (is_followed || !search.defined.contains(front))
+            && !is_in_remark(text, d.end, word.start)
+        {
+            return true;
+        }
+    }
+    false
+}
+
+/// Returns whether a name is outside of its definition and of comments.
+fn is_elsewhere(text: &[u8], words: &[SourceWord], d: &CallAt, name: &[u8]) -> bool {
+    for word in words {
+        let is_within = d.start <= word.start && word.start < d.end;
+        if !is_within && is_named(text, *word, name) && !is_in_remark(text, d.end, word.start) {
+            return true;
+        }
+    }
+    false
+}
+
+/// Returns whether Autoconf has no macro of this name and no word of its own texts, so that a
+/// definition of it does nothing as long as the source doesn't call it.
+fn is_apart(alloc: Global, index: &Index, name: &[u8]) -> Result<bool, AllocError> {
+    if name.starts_with(b"AX_") {
+        return Ok(true);
+    }
+    let is_of_package = name.starts_with(b"AC_") || !may_be_of_autoconf(name);
+    Ok(is_of_package && is_own(alloc, index, name)?)
+}
+
 /// Returns whether a macro is named between two offsets of a body that another file may define.
 fn may_be_called(body: &[u8], at: usize, end: usize) -> bool {
     let word = part(body, at, end);
@@ -175,19 +228,59 @@ pub struct UseSpot {
     pub index: usize,
 }
 
-/// Returns whether a macro of this name is at an offset.
-fn is_called(text: &[u8], at: usize, name: &[u8]) -> bool {
-    let goes_on = text
-        .get(at.saturating_add(name.len()))
-        .is_some_and(|byte| is_word_byte(*byte));
-    !is_in_word(before(text, at)) && from(text, at).starts_with(name) && !goes_on
+/// A word of a text, which may be the name of a macro.
+#[derive(Clone, Copy)]
+struct SourceWord {
+    start: usize,
+    end: usize,
+    /// Whether its line is a comment.
+    is_comment: bool,
+}
+
+/// Returns the words of a text that begin with a letter or `_`, before which is neither.
+fn words_in(alloc: Global, text: &[u8]) -> Result<Vec<SourceWord>, AllocError> {
+    let mut words = Vec::new(alloc);
+    let mut is_comment = is_comment_line(text);
+    let mut is_in = false;
+    let mut end: usize = 0;
+    for at in 0..text.len() {
+        if text[at] == b'\n' {
+            is_comment = is_comment_line(from(text, at.saturating_add(1)));
+        }
+        let is_letter = is_word_byte(text[at]) && !text[at].is_ascii_digit();
+        if is_letter && !is_in {
+            if end <= at {
+                end = at.saturating_add(first_name(from(text, at)).len());
+            }
+            let start = at;
+            words.push(SourceWord {
+                start,
+                end,
+                is_comment,
+            })?;
+        }
+        is_in = is_letter;
+    }
+    Ok(words)
+}
+
+/// Returns whether a word is a name.
+fn is_named(text: &[u8], word: SourceWord, name: &[u8]) -> bool {
+    word.end.saturating_sub(word.start) == name.len() && part(text, word.start, word.end) == name
+}
+
+/// Returns whether a word is that of a macro that makes other letters of a text, or calls another by
+/// a text.
+fn is_making(text: &[u8], word: SourceWord) -> bool {
+    let name = part(text, word.start, word.end);
+    name.starts_with(b"m4_") && MAKING.iter().any(|other| *other == name)
 }
 
 /// Appends the places at which a body is to be put. Returns whether the text has the name at no
 /// other place, but in the definition and in comments before it.
 fn push_uses(
     text: &[u8],
-    tops: &[bool],
+    search: &DefinitionSearch<'_>,
     d: &CallAt,
     index: usize,
     name: &[u8],
@@ -197,18 +290,17 @@ fn push_uses(
     let Some(title) = d.args.get(0) else {
         return Ok(false);
     };
-    let mut is_comment = is_comment_line(text);
-    for at in 0..text.len() {
-        if text[at] == b'\n' {
-            is_comment = is_comment_line(from(text, at.saturating_add(1)));
-        }
-        let is_title = title.start <= at && at < title.end;
-        if is_title || !is_called(text, at, name) || at < d.end && is_comment {
+    for word in search.words {
+        if !is_named(text, *word, name) {
             continue;
         }
-        let end = at.saturating_add(name.len());
-        let is_top = tops.get(at) == Some(&true);
-        if at < d.end || at < start || !is_top || !is_alone(text, at, end) {
+        let at = word.start;
+        let is_title = title.start <= at && at < title.end;
+        if is_title || at < d.end && word.is_comment {
+            continue;
+        }
+        let is_top = search.tops.get(at) == Some(&true);
+        if at < d.end || at < start || !is_top || !is_alone(text, at, word.end) {
             return Ok(false);
         }
         uses.push(UseSpot { at, index })?;
@@ -221,6 +313,8 @@ fn push_uses(
 pub struct Written {
     pub indices: Vec<usize>,
     pub uses: Vec<UseSpot>,
+    /// The indices of other definitions, of macros that nothing calls.
+    pub unused: Vec<usize>,
 }
 
 /// Returns whether an argument has nothing but a name, perhaps in brackets: m4 takes a blank after
@@ -263,7 +357,38 @@ fn plain_title<'a>(text: &'a [u8], d: &CallAt) -> Option<&'a [u8]> {
     }
 }
 
-/// Appends a definition, if it may be written out.
+/// Appends a definition, if it may be written out. Returns whether it may.
+fn push_written(
+    alloc: Global,
+    search: &DefinitionSearch<'_>,
+    text: &[u8],
+    d: &CallAt,
+    index: usize,
+    name: &[u8],
+    out: &mut Written,
+) -> Result<bool, AllocError> {
+    let Some(body) = plain_body(text, d, search.defined) else {
+        return Ok(false);
+    };
+    if !search.is_of_c || !is_own(alloc, search.index, name)? {
+        return Ok(false);
+    }
+    let start = if needs_compiler(body) {
+        search.after_compiler
+    } else {
+        0
+    };
+    let len = out.uses.len();
+    let is_written = push_uses(text, search, d, index, name, start, &mut out.uses)?;
+    if is_written {
+        out.indices.push(index)?;
+    } else {
+        out.uses.truncate(len);
+    }
+    Ok(is_written)
+}
+
+/// Appends a definition, if it may be written out, or if nothing calls its macro.
 fn push_definition(
     alloc: Global,
     search: &DefinitionSearch<'_>,
@@ -275,22 +400,19 @@ fn push_definition(
     let Some(name) = plain_title(text, d) else {
         return Ok(());
     };
-    let Some(body) = plain_body(text, d, search.defined) else {
-        return Ok(());
-    };
-    if !is_own(alloc, search.index, name)? {
+    if may_be_composed(text, search, d, name)
+        || push_written(alloc, search, text, d, index, name, out)?
+    {
         return Ok(());
     }
-    let start = if needs_compiler(body) {
-        search.after_compiler
-    } else {
-        0
-    };
-    let len = out.uses.len();
-    if push_uses(text, search.tops, d, index, name, start, &mut out.uses)? {
-        out.indices.push(index)?;
-    } else {
-        out.uses.truncate(len);
+    let front = from(before(text, d.start), last_line(before(text, d.start)));
+    let is_first = space_len(front) == front.len();
+    if is_first
+        && !is_elsewhere(text, search.words, d, name)
+        && is_unused_definition(text, d, name)
+        && is_apart(alloc, search.index, name)?
+    {
+        out.unused.push(index)?;
     }
     Ok(())
 }
@@ -301,10 +423,13 @@ struct DefinitionSearch<'a> {
     index: &'a Index,
     /// The names that the source defines as macros.
     defined: &'a BTreeSet<Vec<u8>>,
+    words: &'a [SourceWord],
     /// The offsets at which m4 expands a macro as a part of the source.
     tops: &'a [bool],
     /// The offset after AC_PROG_CC, or after the text if it isn't there.
     after_compiler: usize,
+    /// Whether the source chooses no other language than C.
+    is_of_c: bool,
 }
 
 /// Appends the definitions that may be written out.
@@ -329,7 +454,8 @@ fn push_definitions(
 }
 
 /// Returns the definitions of macros without parameters that may be written out, if the source
-/// changes no quotes and no language, and reads no other file.
+/// chooses no other language, and those of macros that nothing calls. There are none if the source
+/// changes quotes, reads another file, or may make names of other texts.
 pub fn written_in(
     alloc: Global,
     index: &Index,
@@ -341,16 +467,23 @@ pub fn written_in(
     let mut out = Written {
         indices: Vec::new(alloc),
         uses: Vec::new(alloc),
+        unused: Vec::new(alloc),
     };
-    if changes_reading(text) || chooses_language(text, calls) {
+    if changes_reading(text) {
+        return Ok(out);
+    }
+    let words = words_in(alloc, text)?;
+    if words.iter().any(|word| is_making(text, *word) && !is_in_remark(text, 0, word.start)) {
         return Ok(out);
     }
     let tops = tops_in(alloc, text, calls)?;
     let search = DefinitionSearch {
         index,
         defined,
+        words: words.as_slice(),
         tops: tops.as_slice(),
         after_compiler: after_compiler.unwrap_or(text.len()),
+        is_of_c: !chooses_language(text, calls),
     };
     push_definitions(alloc, &search, text, calls, &mut out)?;
     out.uses.sort_by_key(|spot| spot.at)?;

@@ -125,7 +125,7 @@ fn are_of_name(text: &[u8]) -> bool
 }
 
 /// Returns whether a text is a name.
-fn is_name(text: &[u8]) -> bool
+pub(crate) fn is_name(text: &[u8]) -> bool
     ensures { result ≡ (nat_lt 0 (length text.now) && list_all specs.is_of_name text.now) }
 {
     0 < text.len() && are_of_name(text)

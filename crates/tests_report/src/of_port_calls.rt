@@ -131,6 +131,54 @@ fn definitions(rt: HostRuntime) -> Result<(), Fail> {
     try_rows(rt.alloc(), &Calls, DEFINITIONS)
 }
 
+/// A text that defines macros that nothing calls, and what becomes of it.
+const UNUSED: &[u8] = br##"
+// a body with a parameter is never written out
+AC_DEFUN([MY_M], [a=$1])^Jb=2 => ^Jb=2
+  AC_DEFUN(MyM,^J [AC_REQUIRE([AC_PROG_CC])^JMyM([$1])^J])dnl MyM^Jb=2 =>   dnl MyM^Jb=2
+AC_DEFUN([AC_MY_M], [a=$1]) # AC_MY_M^Jb=2 =>  # AC_MY_M^Jb=2
+AC_DEFUN([AX_CHECK_COMPILE_FLAG], [a=$1])^Jb=2 => ^Jb=2
+# MY_M(a)^Jdnl MY_M^JAC_DEFUN([MY_M], [a=$1])^J  dnl acrun: in place of MY_M: b => # MY_M(a)^Jdnl MY_M^J^J  dnl acrun: in place of MY_M: b
+AC_DEFUN([MY_M], [a=$1])^Jb=MY_MS c=xMY_M => ^Jb=MY_MS c=xMY_M
+AC_DEFUN([MY_M], [a=$1])^JAC_DEFUN([MY_N], [MY_M([$1])])^Jb=2 => ^J^Jb=2
+AC_LANG_CPLUSPLUS^JAC_DEFUN([MY_M], [a=$1])^Jb=2 => AC_LANG_CPLUSPLUS^J^Jb=2
+// it is called, or named where m4 may call it
+AC_DEFUN([MY_M], [a=$1])^JMY_M([b]) => the same
+MY_M([b])^JAC_DEFUN([MY_M], [a=$1]) => the same
+AC_DEFUN([MY_M], [a=$1])^JAC_DEFUN([MY_M], [a=$2]) => the same
+AC_DEFUN([MY_M], [a=$1])^JAC_DEFUN([MY_N], [AC_REQUIRE([MY_M])])^JMY_N => the same
+AC_DEFUN([MY_M], [a=$1])^Jm4_ifdef([MY_M], [b=1]) => the same
+AC_DEFUN([MY_M], [a=$1])^Jb=$MY_M => the same
+AC_DEFUN([MY_M], [a=$1])^Jb=1 dnl MY_M => the same
+AC_DEFUN([MY_M], [a=$1])^JF([^Jdnl ], MY_M)^J => the same
+AC_DEFUN([MY_M], [a=$1])^JAC_DEFUN([MY_N], [^Jdnl $1 MY_M^J])^JMY_N([b^J]) => the same
+// m4 may make its name
+AC_DEFUN([MY_M], [a=$1])^JAC_DEFUN([CALL], [MY_$1])^JCALL([M]) => the same
+AC_DEFUN([MY_M], [a=$1])^JF([MY_[]M]) => the same
+AC_DEFUN([MY_M], [a=$1])^JF([m4_toupper([my_m])]) => the same
+AC_DEFUN([MY_M], [a=1])^JAC_DEFUN([CALL], [MY_$1])^JCALL([M]) => the same
+AC_DEFUN([MY_M], [a=$1])^JAC_DEFUN([MY], [b=$1])^JAC_DEFUN([CALL], [MY$1])^JMY([b])^JCALL([_M]) => the same
+AC_DEFUN([MY_M], [a=$1])^JAC_DEFUN([MY], [b=$1])^JMY([b]) => ^JAC_DEFUN([MY], [b=$1])^JMY([b])
+// Autoconf may have its name
+AC_DEFUN([MYM], [a=$1])^Jb=2 => the same
+AC_DEFUN([exec_prefix], [a=$1])^Jb=2 => the same
+AC_DEFUN([AC_PROG_CC], [a=$1])^Jb=2 => the same
+AC_DEFUN([AM_M], [a=$1])^Jb=2 => the same
+AC_DEFUN([_AC_M], [a=$1])^Jb=2 => the same
+// m4 expands its body where it is defined
+AC_DEFUN([MY_M], a=$1)^Jb=2 => the same
+AC_DEFUN([MY_M], [a=$1]AC_SUBST([A])[])^Jb=2 => the same
+// it is not a part of the source, or does not begin its line
+AS_IF([:], [^JAC_DEFUN([MY_M], [a=$1])^J]) => the same
+b=2 AC_DEFUN([MY_M], [a=$1]) => the same
+m4_include([a.m4])^JAC_DEFUN([MY_M], [a=$1])^Jb=2 => the same
+"##;
+
+#[test]
+fn unused_definitions(rt: HostRuntime) -> Result<(), Fail> {
+    try_rows(rt.alloc(), &Calls, UNUSED)
+}
+
 /// A text that defines plain words, and what becomes of it.
 const WORDS: &[u8] = br##"
 define(my_word, 1.2)^Ja=my_word => ^Ja=1.2
