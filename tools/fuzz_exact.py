@@ -899,7 +899,7 @@ UNUSED_BODIES = (
 )
 NAMING = (
     "dnl {N} is here", "# {N} is here", "v2=1 # {N}", "v2=2 dnl {N}", "{N}([yes])", "m4_ifdef([{N}], [v1=yes])", "AS_IF([:], [\ndnl {N}\nv2=1])",
-    "AS_IF([:], [v1=1\ndnl ], [{N}([b])])", "AC_DEFUN([{C}], [{F}$1])\n{C}([{B}])", "AC_DEFUN([{C}], [\ndnl $1 {N}([no])\n])\n{C}([b\nv1=2])",
+    "AC_DEFUN([{C}], [$2])\n{C}([\ndnl ], [{N}([b])])", "AC_DEFUN([{C}], [{F}$1])\n{C}([{B}])", "AC_DEFUN([{C}], [\ndnl $1 {N}([no])\n])\n{C}([b\nv1=2])",
     "AS_IF([:], [{F}[]{B}([yes])])", "AC_DEFUN([{C}], [AC_REQUIRE([{N}])v2=3])\n{C}", "v1={N}more",
 )
 # Statements that port rewrites with --idioms if a document says so. A shell with `+=` runs a source that has one.
@@ -1118,7 +1118,7 @@ class Maker(exact_forms.Forms):
     def with_unused(self, blocks):
         """Adds definitions of macros that nothing calls, and sometimes what names them, calls them, or makes their names of parts."""
         for _ in range(self.at.randint(1, 2)):
-            name = self.fresh(self.one(["FZ_UNUSED", "FzUnused", "AX_FZ", "AC_FZ"]))
+            name = self.fresh(self.one(["FZ_UNUSED", "FzUnused", "AX_FZ", "AC_FZ_IT"]))
             cut = self.at.randint(2, len(name) - 1)
             words = {"N": name, "F": name[:cut], "B": name[cut:], "C": self.fresh("FZ_CALL"), "D": self.fresh("D")}
             body = re.sub(r"\{([A-Z])\}", lambda found: words[found[1]], self.one(UNUSED_BODIES))
