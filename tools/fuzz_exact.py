@@ -417,6 +417,7 @@ OF_LANGUAGE = (
      "the variables that begin with `abs_` are not output variables",
      r"values (SHELL|PATH_SEPARATOR|OBJEXT|EXEEXT|ECHO_[NCT]|(build|host|target)_alias|program_transform_name|ac_ct_CC)"),
     ("Nor are CPP, GREP and EGREP, which Autoconf's checks look for on their way, nor DEFS without a header", r"values (CPP|E?GREP|DEFS)"),
+    ("PACKAGE_URL of a GNU package is empty by default too", r"(values|config\.h) PACKAGE_URL"),
 )
 
 # What docs/differences.md states of AC_INIT with an empty name and version, and what acrun then leaves.
@@ -512,9 +513,9 @@ def of_language():
 
 
 def is_missing(value):
-    """Returns whether a run has not defined a name, left a variable of a template as it is, or given it no value, as it does if a
-    statement that is not reached declares it."""
-    return not value or re.fullmatch(r"@\w+@", value)
+    """Returns whether a run has not defined a name, left a variable of a template as it is, or given it no value or an empty text, as it
+    does if a statement that is not reached declares it."""
+    return value in (None, "", '""') or re.fullmatch(r"@\w+@", value)
 
 
 def is_of_language(name, after):
