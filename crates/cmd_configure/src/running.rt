@@ -29,6 +29,7 @@ use file_disk::Disk;
 use file_texts::{path_in, read_limited};
 use options::srcdir_of;
 use std::io::{Read, Write};
+use std::mem::ManuallyDrop;
 
 /// Returns the text of the cache, if there is one.
 fn cache_of(supplies: &Supplies) -> Option<&[u8]>
@@ -126,7 +127,12 @@ fn run_needs<D: Disk, C: Crew + Causes, R: Read, W: Write, E: Hears>(
 {
     let disk = terminal.outputs.disk();
     match read_supplies(terminal.alloc, disk, needs.source(), needs.settings()) {
-        Ok(supplies) => run_supplied(terminal, window, why, needs, &supplies, crew),
+        Ok(supplies) => {
+            let happened = run_supplied(terminal, window, why, needs, &supplies, crew);
+            // The process ends soon, and the system takes its memory back at once.
+            let _kept = ManuallyDrop::new(supplies);
+            happened
+        }
         Err(_) => no_memory(&mut terminal.errors),
     }
 }
@@ -204,7 +210,11 @@ fn run_text<D: Disk, C: Crew + Causes, R: Read, W: Write, E: Hears>(
     ensures input { terminal.new.input ≡ terminal.old.input }
 {
     match parse(terminal.alloc, why.text) {
-        Ok(source) => run_source(terminal, window, why, &source, crew),
+        Ok(source) => {
+            let happened = run_source(terminal, window, why, &source, crew);
+            let _kept = ManuallyDrop::new(source);
+            happened
+        }
         Err(fault) => {
             let wrong = Fault::from(fault);
             let disk = terminal.outputs.disk();

@@ -29,6 +29,7 @@ use file_texts::FileOutputs;
 use options::Settings;
 use std::alloc::Global;
 use std::io::{Read, Write};
+use std::mem::ManuallyDrop;
 
 /// Returns the name of the cache, or an empty text if none is named.
 fn cache_name(settings: &Settings) -> &[u8] {
@@ -257,6 +258,8 @@ pub fn finish_run<D: Disk, C: Causes, R: Read, W: Write, E: Hears>(
     match answer {
         Ok(report) => {
             let left = finish_report(terminal, given, &report, None, crew);
+            // The process ends soon, and the system takes its memory back at once.
+            let _kept = ManuallyDrop::new(report);
             Happened::Ran(left)
         }
         Err(fault) => finish_fault(terminal, why, given, fault, crew),
