@@ -283,6 +283,20 @@ fn warn_of_lines(
     Ok(())
 }
 
+/// Returns whether a line undefines a name that isn't one of these.
+fn is_undefined(defined: &SubstList, line: &[u8]) -> bool {
+    match from_name(false, line) {
+        Some(rest) => !defined.has(first_name(rest)),
+        None => false,
+    }
+}
+
+/// Returns whether a line of a text undefines a name that isn't one of these.
+fn has_undefined(defined: &SubstList, text: &[u8]) -> bool {
+    text.split(|byte| *byte == b'\n')
+        .any(|line| is_undefined(defined, line))
+}
+
 /// Adds the warnings about the template of a header: the names with `#undef` that no statement
 /// defines. Each of which more can be said has a warning of its own, and the others have one (own).
 ///
@@ -299,6 +313,9 @@ pub fn warn_of_header(
     // If the findings of this file were in its text, they still are.
     ensures within { OnOk result (KeepsWithin file text.now out.old.items out.new.items) }
 {
+    if !has_undefined(&given.defined, text) {
+        return Ok(());
+    }
     let candidates = unlisted(alloc, given, text)?;
     let known = Known {
         all: &given.defined,

@@ -37,8 +37,9 @@ fn role_of(kind: Option<ArgumentKind>) -> Role {
 
 /// Sets what the bytes between two offsets are parts of.
 fn fill(roles: &mut [Role], start: usize, end: usize, role: Role) {
-    for i in start..end.min(roles.len()) {
-        roles[i] = role;
+    let end = end.min(roles.len());
+    if start < end {
+        roles[start..end].fill(role);
     }
 }
 
