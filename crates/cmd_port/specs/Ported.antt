@@ -2,11 +2,11 @@
 use Rattle.std.specs.Prelude.{◌≡◌, ◌⊎◌, ℕ, ◌-◌, ◌≤◌, ◌==◌, nat_eq, ◌||◌, ◌&&◌, not, Bool, true, false, List, [], ◌∷◌, ◌++◌, length, slice_index, slice_range, Option, Some, None, codes}
 use Rattle.std.specs.List.{flat_map, starts_with}
 use Rattle.lint_errors.specs.Errors.{IsAccepted}
-use Rattle.port_calls.specs.Rewritten.{IsRewritten}
 use Rattle.port_calls.specs.Stated.{IsStated}
 use Rattle.port_idioms.specs.declared.idioms.Idioms.{Idioms}
 use Rattle.port_idioms.specs.declared.idioms.Idioms.TheVariants.{Exact, All}
 use Rattle.port_messages.specs.Told.{IsBrokenAndTold}
+use Rattle.port_passes.specs.Rewritten.{IsRewritten}
 use Rattle.port_shell.specs.Formed.{IsFormed}
 use Rattle.text_cut.specs.Cuts.{parts}
 use Rattle.cmd_port.specs.Asked.{Package}

@@ -1,8 +1,1 @@
-pub mod Chains
-pub mod Compiler
-pub mod Exchanged
-pub mod Making
-pub mod Pathed
-pub mod Put
-pub mod Rewritten
 pub mod Stated

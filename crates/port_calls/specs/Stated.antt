@@ -1,12 +1,12 @@
 -- A name and a version that are given from outside, in the place of those of AC_INIT. All of this is own.
-use Rattle.std.specs.Prelude.{◌≡◌, ◌⊎◌, ℕ, ◌+◌, ◌-◌, ◌<◌, ◌≤◌, ◌==◌, ◌||◌, ◌&&◌, not, nat_eq, Bool, true, false, List, [], ◌∷◌, ◌++◌, length, slice_range, slice_index, slice_get, Some, Contains, codes}
+use Rattle.std.specs.Prelude.{◌≡◌, ℕ, ◌+◌, ◌-◌, ◌<◌, ◌≤◌, ◌==◌, ◌||◌, not, nat_eq, Bool, true, false, List, ◌∷◌, ◌++◌, length, slice_range, slice_index, slice_get, Some, Contains, codes}
 use Rattle.std.specs.Char.{is_ascii_digit}
 use Rattle.std.specs.List.{list_all, list_any, ends_with}
 use Rattle.ac_calls.specs.Calls.{MacroCall, calls_in}
 use Rattle.ac_calls.specs.declared.call.Extent.{Extent}
 use Rattle.port_idioms.specs.Filled.{text_of}
 use Rattle.port_definitions.specs.Defined.{EndsWord, is_of_name}
-use Rattle.port_calls.specs.Put.{arg_text, difference, is_space_or_return}
+use Rattle.port_spots.specs.Put.{arg_text, difference, is_space_or_return}
 
 -- ---- what is not kept
 

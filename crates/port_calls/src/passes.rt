@@ -1,7 +1,7 @@
 //! Passes over the calls, until none is replaced.
 
 ghost use Rattle.std.specs.Prelude.{IfOk};
-ghost use Rattle.port_calls.specs.Rewritten as specs;
+ghost use Rattle.port_passes.specs.Rewritten as specs;
 
 use crate::passing::replaced_once;
 use port_idioms::Idioms;

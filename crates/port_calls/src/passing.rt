@@ -1,33 +1,23 @@
 //! One pass over the calls of a text, each of which is replaced if it has an idiom that is wanted.
 
-ghost use Rattle.std.specs.Prelude.{◌≡◌, ◌⊎◌, ◌≤◌, ◌<◌, Some, map, length, slice_range, codes, Contains, IfOk, IfSome, OnOk, IsTrue};
+ghost use Rattle.std.specs.Prelude.{◌≡◌, ◌⊎◌, ◌≤◌, map, length, slice_range, codes, Contains, IfOk, IfSome, OnOk, IsTrue};
 ghost use Rattle.ac_calls.specs.Calls.{calls_in, macro_call_of};
-ghost use Rattle.port_calls.specs.Put.{MayPut};
-ghost use Rattle.port_calls.specs.Rewritten as specs;
+ghost use Rattle.port_spots.specs.Put.{MayPut};
+ghost use Rattle.port_passes.specs.Rewritten as specs;
 
-use crate::around::{are_blank, blank_len};
-use crate::brackets::pass_arguments;
-use crate::cached::pass_cached;
-use crate::chains::pass_chain;
-use crate::changes::{Change, Known, change_of, known_of};
-use crate::definitions::{pass_defined, pass_spots};
-use crate::exchanging::pass_first_found;
-use crate::gnu::pass_compiler;
-use crate::joints::{first_argument, pass_words};
-use crate::lines::pass_line;
-use crate::making::lacks_version;
-use crate::names::{names_variable, pass_name};
-use crate::output::pass_output;
-use crate::package::pass_title;
-use crate::pathed::pass_path;
-use crate::plain::pass_plain;
-use crate::seeking::pass_search;
-use crate::spots::{CallWalk, Spot};
-use crate::types::names_default;
-use crate::writing::{Pass, write_change};
+use crate::knowing::known_of;
 use ac_calls::{CallAt, Extent, calls_of};
 use lint_text::{from, part};
+use port_changes::{Change, change_of};
+use port_exchanges::{names_default, pass_cached, pass_chain, pass_first_found, pass_path};
 use port_idioms::{Idioms, text_of};
+use port_passes::{
+    Pass, first_argument, is_around, is_output, lacks_version, names_variable, pass_arguments,
+    pass_defined, pass_line, pass_name, pass_output, pass_plain, pass_spots, pass_words,
+    write_change,
+};
+use port_setup::{pass_compiler, pass_search, pass_title};
+use port_spots::{CallWalk, Known, Spot, blank_len};
 use std::alloc::{AllocError, Global};
 
 /// The old name of AS_HELP_STRING.
@@ -51,16 +41,6 @@ fn names_files(text: &[u8], call: &CallAt) -> bool
         Some(list) => is_given(text, list),
         None => false,
     }
-}
-
-/// Returns whether the call is one of AC_OUTPUT.
-pub(crate) fn is_output(text: &[u8], call: &CallAt) -> bool
-    ensures { IsTrue result
-        → slice_range text.now (macro_call_of call.now).start (macro_call_of call.now).name_end
-        ≡ codes "AC_OUTPUT" }
-{
-    let has_name = call.start <= call.name_end && call.name_end <= text.len();
-    has_name && &text[call.start..call.name_end] == b"AC_OUTPUT".as_slice()
 }
 
 /// Returns whether the call is one of AC_MSG_RESULT.
@@ -101,19 +81,6 @@ fn has_to_go(text: &[u8], call: &CallAt) -> bool
         || lacks_version(text, call)
         || lacks_result(text, call)
         || names_default(text, call)
-}
-
-/// Returns whether the call and, around it, nothing but blanks are between two offsets of the text.
-pub(crate) fn is_around(text: &[u8], call: &CallAt, start: usize, end: usize) -> bool
-    ensures { IsTrue result
-        → specs.IsAround text.now (macro_call_of call.now) start end × (end ≤ length text.now)
-        × (start ≤ length text.now) }
-{
-    let is_there = start <= call.start
-        && call.start <= text.len()
-        && call.end <= end
-        && end <= text.len();
-    is_there && are_blank(&text[start..call.start]) && are_blank(&text[call.end..end])
 }
 
 /// Returns whether a macro of this name declares an option.

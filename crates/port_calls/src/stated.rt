@@ -1,23 +1,20 @@
 //! Writes a name and a version that are given from outside into AC_INIT.
 
-ghost use Rattle.std.specs.Prelude.{◌≡◌, ◌≤◌, ◌<◌, ◌+◌, ◌++◌, ◌∷◌, true, false, Some, length, map, slice_get, slice_range, codes, Contains, IfOk, IfSome, OnOk, IsTrue};
+ghost use Rattle.std.specs.Prelude.{◌≡◌, ◌≤◌, ◌<◌, ◌+◌, ◌++◌, true, length, map, slice_range, codes, Contains, IfOk, IfSome, IsTrue};
 ghost use Rattle.std.specs.Char.{is_ascii_digit};
 ghost use Rattle.std.specs.List.{list_all, list_any};
 ghost use Rattle.ac_calls.specs.Calls.{calls_in, macro_call_of};
-ghost use Rattle.port_idioms.specs.Filled.{text_of};
 ghost use Rattle.port_definitions.specs.Defined.{EndsWord};
-ghost use Rattle.port_calls.specs.Put.{arg_text, is_space_or_return};
+ghost use Rattle.port_spots.specs.Put.{is_space_or_return};
 ghost use Rattle.port_calls.specs.Stated as specs;
 
-use crate::around::line_indent;
-use crate::changes::known_of;
-use crate::making::{can_be_made, is_init};
-use crate::noting::{difference, put_text};
-use crate::package::{Title, first_two};
-use crate::spots::{CallWalk, Spot};
+use crate::knowing::known_of;
 use ac_calls::{CallAt, calls_of};
 use lint_text::from;
 use port_definitions::{ends_word, has_name, inner, is_of_name};
+use port_passes::{can_be_made, is_init};
+use port_setup::{Title, first_two};
+use port_spots::{CallWalk, Spot, difference, line_indent, put_text};
 use std::alloc::{AllocError, Global};
 
 /// The name and the version of a package.

@@ -1,5 +1,5 @@
 use Rattle.std.proofs.Common.{subst, sym}
-use Rattle.port_calls.specs.Rewritten as specs
+use Rattle.port_passes.specs.Rewritten as specs
 use Rattle.port_calls.proofs.Steps.{pass_more}
 use Rattle.port_calls.proofs.passes.replaced.Goals as goal
 

@@ -1,4 +1,4 @@
-use Rattle.port_calls.specs.Rewritten.{IsRewritten}
+use Rattle.port_passes.specs.Rewritten.{IsRewritten}
 use Rattle.port_calls.proofs.passes.replaced.Given as goal
 
 abbrev pub invariant-loop : goal.invariant-loop

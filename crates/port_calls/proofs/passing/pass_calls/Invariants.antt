@@ -1,4 +1,4 @@
-use Rattle.port_calls.specs.Rewritten.{IsPass}
+use Rattle.port_passes.specs.Rewritten.{IsPass}
 use Rattle.port_calls.proofs.passing.pass_calls.Given as goal
 
 abbrev pub invariant-loop-i : goal.invariant-loop-i

@@ -1,7 +1,8 @@
 use Rattle.ac_calls.specs.Calls.{macro_call_of}
 use Rattle.std.proofs.Common.{arith, refl, subst, sym}
-use Rattle.port_calls.specs.Put.{MayPut}
-use Rattle.port_calls.proofs.Steps.{on_ok, pass_step}
+use Rattle.port_spots.specs.Put.{MayPut}
+use Rattle.port_passes.proofs.Steps.{on_ok}
+use Rattle.port_calls.proofs.Steps.{pass_step}
 use Rattle.port_calls.proofs.passing.put_change.Goals as goal
 
 pub returns : goal.returns

@@ -1,6 +1,7 @@
 use Rattle.ac_calls.specs.Calls.{macro_call_of}
 use Rattle.std.proofs.Common.{arith, refl}
-use Rattle.port_calls.proofs.Steps.{on_ok, help_step}
+use Rattle.port_passes.proofs.Steps.{on_ok}
+use Rattle.port_calls.proofs.Steps.{help_step}
 use Rattle.port_calls.proofs.passing.put_help.Goals as goal
 
 pub returns : goal.returns

@@ -1,5 +1,5 @@
 use Rattle.std.proofs.Common.{subst, sym}
-use Rattle.port_calls.specs.Rewritten as specs
+use Rattle.port_passes.specs.Rewritten as specs
 use Rattle.port_calls.proofs.passing.replaced_once.Goals as goal
 
 pub pass_text-requires-clause-begun : goal.pass_text-requires-clause-begun

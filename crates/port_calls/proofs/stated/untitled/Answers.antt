@@ -1,6 +1,6 @@
 use Rattle.std.proofs.Common.{refl, subst, Some}
 use Rattle.port_idioms.specs.Filled.{text_of}
-use Rattle.port_calls.specs.Put.{arg_text}
+use Rattle.port_spots.specs.Put.{arg_text}
 use Rattle.port_calls.specs.Stated.{LacksTitle}
 use Rattle.port_calls.proofs.stated.untitled.Goals as goal
 

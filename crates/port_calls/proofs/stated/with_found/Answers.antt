@@ -1,6 +1,6 @@
 use Rattle.ac_calls.specs.Calls.{calls_in}
 use Rattle.std.proofs.Common.{arith}
-use Rattle.port_calls.proofs.Steps.{has_call}
+use Rattle.port_passes.proofs.Steps.{has_call}
 use Rattle.port_calls.proofs.stated.with_found.Goals as goal
 
 pub with_call-requires : goal.with_call-requires

@@ -1,5 +1,0 @@
-use Rattle.port_calls.specs.Put as specs
-use Rattle.port_calls.proofs.changes.left_out.Goals as goal
-
-pub returns : goal.returns
-returns c = specs.IsPut.dropped _ c.requires.dropped c.in_ok-change.ensures

@@ -1,5 +1,0 @@
-use Rattle.port_calls.proofs.Below.{headers}
-use Rattle.port_calls.proofs.compiler.headers_below.Goals as goal
-
-pub returns : goal.returns
-returns c = headers (λ v. v.items) c.lines_below.result c.args.indent.now c.headers_said.result.now c.headers_text.result.now c.headers_said.ensures c.headers_text.ensures c.requires c.lines_below.ensures

@@ -1,8 +1,0 @@
-use Rattle.std.proofs.Common.{arith}
-use Rattle.port_calls.proofs.Steps.{on_ok, exchange_step}
-use Rattle.port_calls.proofs.exchanging.put_exchange.Goals as goal
-
-pub returns : goal.returns
-returns c =
-    on_ok (exchange_step c.args.idioms c.args.text.now _ _ c.args.start c.args.end _ _ _ c.requires.begun c.requires.exchanged (omega (arith, c.if-start-pass.false)) (omega (arith, c.if-end-start.false)) (omega (arith, c.if-text-end.false)))
-    c.write_change.result c.write_change.ensures

@@ -1,9 +1,0 @@
-use Rattle.std.proofs.Common.{subst, sym}
-use Rattle.ac_calls.specs.Calls.{macro_call_of}
-use Rattle.port_calls.specs.Put.{IsNoted}
-use Rattle.port_calls.specs.Put as specs
-use Rattle.port_calls.proofs.noted.with_colon.Goals as goal
-
-pub returns : goal.returns
-returns c =
-    subst (IsNoted c.args.text.now (macro_call_of c.args.call.now)) (sym c.in_ok-push.ensures.items) (specs.IsNoted.idle _ c.requires.put c.requires.dropped)

@@ -1,0 +1,4 @@
+pub mod Along
+pub mod Chained
+pub mod Others
+pub mod Steps

@@ -1,0 +1,7 @@
+use Rattle.std.proofs.Common.{refl}
+use Rattle.ac_calls.specs.Calls.{macro_call_of}
+use Rattle.port_passes.specs.Exchanged.{IsExchanged}
+use Rattle.port_exchanges.proofs.exchanging.put_first_found.Goals as goal
+
+pub put_exchange-requires-clause-exchanged : goal.put_exchange-requires-clause-exchanged
+put_exchange-requires-clause-exchanged c = IsExchanged.found (macro_call_of c.args.call.now) c.requires.call (refl, refl) c.requires.found

@@ -1,0 +1,6 @@
+pub mod Chains
+pub mod Compiler
+pub mod Exchanged
+pub mod Making
+pub mod Pathed
+pub mod Rewritten

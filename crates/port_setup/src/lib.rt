@@ -1,0 +1,24 @@
+//! Writes the calls that set a package and its compiler up, and AC_EGREP_CPP, if all idioms are wanted.
+//!
+//! GCC and CFLAGS are set after AC_PROG_CC, and the default headers looked for. AC_INIT gets the name and
+//! the version of AM_INIT_AUTOMAKE. AC_EGREP_CPP of a word in a condition becomes AC_PREPROC_IFELSE.
+//!
+//! ```text
+//! AC_INIT(main.c)                 // becomes AC_INIT([a], [1.0]) and AC_CONFIG_SRCDIR([main.c]), below a comment,
+//! AM_INIT_AUTOMAKE(a, 1.0)        // if this is below it
+//! ```
+//!
+//! Read `specs/Making` and `specs/Compiler` of `port_passes` (what is put), and then `package`, `compiler`
+//! with `gnu`, and `seeking`. A call fails only if memory runs out. "own" marks a rule that no manual
+//! gives.
+#![tactic(auto)]
+
+mod compiler;
+mod gnu;
+mod package;
+mod seeking;
+
+pub use compiler::lines_needed;
+pub use gnu::{compiler_in, pass_compiler};
+pub use package::{Title, first_two, pass_title, title_in};
+pub use seeking::pass_search;
