@@ -23,7 +23,7 @@ CASES = ["crates/tests_cases/data", "crates/tests_cases/stdout"]
 PAGE = ["docs/language.md", "CHANGELOG.md"]
 MACRO = [*CASES, *PAGE, "README.md", "crates/lint_macros/macros.txt"]
 # The crates in which `lint`, `why` and `port` say something of a macro.
-SAYING = ("lint_words", "run_words", "lint_warnings", "lint_templates", "cmd_why", "cmd_port", "port_calls", "port_definitions", "port_idioms", "port_shell", "port_statements")
+SAYING = ("lint_words", "run_words", "lint_warnings", "lint_templates", "cmd_why", "cmd_port", "port_calls", "port_changes", "port_definitions", "port_exchanges", "port_idioms", "port_passes", "port_setup", "port_shell", "port_spots", "port_statements")
 # The form of each macro is here.
 FORMS = pathlib.Path("crates/lint_words/src/forms.rt")
 # In rows of tests a newline is `^J`.

@@ -1,8 +1,9 @@
 //! Writes calls that do the same in the place of others, which acrun does not read as they are.
 //!
-//! AC_PATH_PROGS without a path becomes calls of AC_PATH_PROG, a check for the first of two headers or
-//! functions a check within another one, and AC_CACHE_VAL between its messages AC_CACHE_CHECK. If all
-//! idioms are wanted, PATH is set around a call that looks for a program along a path.
+//! AC_PATH_PROGS without a path becomes calls of AC_PATH_PROG. A check for the first of two headers or
+//! functions becomes two checks, of which the second one is made if the first one finds nothing.
+//! AC_CACHE_VAL between its messages becomes AC_CACHE_CHECK. If all idioms are wanted, PATH is set around
+//! a call that looks for a program along a path.
 //!
 //! ```text
 //! AC_PATH_PROGS([A], [b c])    // becomes AC_PATH_PROG([A], [b]), and a line below it that looks for c

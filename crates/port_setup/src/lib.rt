@@ -1,7 +1,8 @@
-//! Writes the calls that set a package and its compiler up, and AC_EGREP_CPP, if all idioms are wanted.
+//! Writes what sets a package and its compiler up, and a program in the place of AC_EGREP_CPP, if all
+//! idioms are wanted.
 //!
-//! GCC and CFLAGS are set after AC_PROG_CC, and the default headers looked for. AC_INIT gets the name and
-//! the version of AM_INIT_AUTOMAKE. AC_EGREP_CPP of a word in a condition becomes AC_PREPROC_IFELSE.
+//! After AC_PROG_CC, GCC and CFLAGS are set, and the default headers are looked for. AC_INIT gets the name
+//! and the version of AM_INIT_AUTOMAKE. AC_EGREP_CPP of a word in a condition becomes AC_PREPROC_IFELSE.
 //!
 //! ```text
 //! AC_INIT(main.c)                 // becomes AC_INIT([a], [1.0]) and AC_CONFIG_SRCDIR([main.c]), below a comment,

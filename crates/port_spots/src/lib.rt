@@ -11,11 +11,10 @@
 //! dnl acrun: in place of AC_FUNC_MALLOC: ..    // such a comment is above an idiom that differs
 //! ```
 //!
-//! Read `specs/Put`, which says what may be put in the place of a call: all crates of `port` that replace
-//! calls cite it. In `src`, read `spots`, `around` and `bare` (where a call is, and what is before and
-//! after it), `rows` (its name in the table), `facts`, and `comments`. The time is in proportion to the
-//! length of what is read. A call fails only if memory runs out. "own" marks a rule that no manual
-//! gives.
+//! Read `specs/Put`, which says what may be put in the place of a call: the crates that replace calls cite
+//! it. In `src`, read `spots`, `around` and `bare` (where a call is, and what is before and after it),
+//! `rows` (its name in the table), `facts`, and `comments`. The time is in proportion to the length of
+//! what is read. A call fails only if memory runs out. "own" marks a rule that no manual gives.
 #![tactic(auto)]
 
 mod around;
