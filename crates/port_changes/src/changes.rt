@@ -21,8 +21,11 @@ use std::alloc::{AllocError, Global};
 /// What a part of the text is replaced by.
 #[derive(Drop)]
 pub struct Change {
+    /// The offset of its first byte.
     pub start: usize,
+    /// The offset after it.
     pub end: usize,
+    /// What is put in its place.
     pub put: Vec<u8>,
 }
 
