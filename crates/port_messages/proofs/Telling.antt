@@ -1,13 +1,15 @@
 -- What one step of telling makes.
-use Rattle.std.proofs.Common.{◌≡◌, ℕ, ◌≤◌, List, [], ◌∷◌, ◌++◌, length, Result, Ok, Err, is_ok, OnOk, if◌then◌else◌, slice_range, sym, subst, ap, ◌∙◌, arith, inl, inr}
+use Rattle.std.proofs.Common.{◌≡◌, ℕ, ◌<◌, ◌≤◌, List, [], ◌∷◌, ◌++◌, length, get_or, Result, Ok, Err, is_ok, OnOk, if◌then◌else◌, slice_range, sym, subst, ap, ◌∙◌, arith, inl, inr}
 use Rattle.std.proofs.Common.{Option, Some, None}
-use Rattle.std.specs.Prelude.{◌≢◌, codes, IfSome, MatchOption}
+use Rattle.std.specs.Prelude.{◌≢◌, codes, All, IfSome, MatchOption}
+use Rattle.std.proofs.lemmas.List.Elements.{All-get_or}
 use Rattle.std.specs.Borrow.{Bor}
 use Rattle.port_echo.specs.Echo.{IsEcho, IsMessage, Prints}
 use Rattle.port_echo.specs.Commands.{IsCommandLine}
 use Rattle.port_breaks.specs.Breaks.{IsBroken}
 use Rattle.lint_errors.specs.Errors.{IsAccepted}
 use Rattle.port_put.specs.Calls.{IsPut, source_with}
+use Rattle.port_statements.specs.Statements.{MayBegin}
 use Rattle.port_messages.specs.Told.{IsToldTo, IsTold, IsBrokenAndTold, IsEchoThen, IsExit, Fails, Speaks, Unsets, Appends, IsSilenced, IsSetTo, noted, noted_so, longer}
 use Rattle.port_messages.specs.Told as specs
 
@@ -33,18 +35,18 @@ broken_and_told text mid out broken told = record { mid = mid; broken = broken; 
 pub told_bound : (text : List ℕ) (at : ℕ) (out : List ℕ) → IsToldTo text at out → at ≤ length text
 told_bound text at out specs.IsToldTo.begun = omega arith
 told_bound text at out (specs.IsToldTo.copied next before from to) = to
-told_bound text at out (specs.IsToldTo.told echo end message call before is puts) = is.line.order.2
-told_bound text at out (specs.IsToldTo.spoken place end command name args said call before is speaks puts) = is.order.2
-told_bound text at out (specs.IsToldTo.cleared place end command name before is unsets) = is.order.2
-told_bound text at out (specs.IsToldTo.appended place end command name word before is appends accepted) = is.order.2
-told_bound text at out (specs.IsToldTo.silenced place end command said put before is silenced) = is.order.2
+told_bound text at out (specs.IsToldTo.told echo end message call before begins is puts) = is.line.order.2
+told_bound text at out (specs.IsToldTo.spoken place end command name args said call before begins is speaks puts) = is.order.2
+told_bound text at out (specs.IsToldTo.cleared place end command name before begins is unsets) = is.order.2
+told_bound text at out (specs.IsToldTo.appended place end command name word before begins is appends accepted) = is.order.2
+told_bound text at out (specs.IsToldTo.silenced place end command said put before begins is silenced) = is.order.2
 
 pub told_step : (text : List ℕ) (read : ℕ) (out : List ℕ) (start at end : ℕ) (message call put : List ℕ) (new_at : ℕ) (new : List ℕ)
-    → IsToldTo text read out → IsEcho text start at end message → IsPut (codes "AC_MSG_RESULT") (message ∷ []) call → read ≤ start → start ≤ length text
+    → IsToldTo text read out → MayBegin text at → IsEcho text start at end message → IsPut (codes "AC_MSG_RESULT") (message ∷ []) call → read ≤ start → start ≤ length text
     → put ≡ noted (slice_range text start at) call → (new_at ≡ end) × (new ≡ (out ++ slice_range text read start) ++ put) → IsToldTo text new_at new
-told_step text read out start at end message call put new_at new before is puts from within put_is (at_is, new_is) =
+told_step text read out start at end message call put new_at new before begins is puts from within put_is (at_is, new_is) =
     subst (λ a. IsToldTo text a new) (sym at_is)
-    (subst (IsToldTo text end) (sym (new_is ∙ ap (λ p. (out ++ slice_range text read start) ++ p) put_is)) (specs.IsToldTo.told at end message call (specs.IsToldTo.copied start before from within) is puts))
+    (subst (IsToldTo text end) (sym (new_is ∙ ap (λ p. (out ++ slice_range text read start) ++ p) put_is)) (specs.IsToldTo.told at end message call (specs.IsToldTo.copied start before from within) begins is puts))
 
 pub told_end : {T E : Type 0} (r : Result T E) (text : List ℕ) (at : ℕ) (out new : List ℕ) → IsToldTo text at out
     → new ≡ (if is_ok r then out ++ slice_range text at (length text) else out) → OnOk r (IsToldTo text (length text) new)
@@ -52,39 +54,39 @@ told_end (Ok v) text at out new before is = subst (IsToldTo text (length text)) 
 told_end (Err e) text at out new before is = tt
 
 pub spoken_step : (text : List ℕ) (read : ℕ) (out : List ℕ) (start at end : ℕ) (command name : List ℕ) (args : List (List ℕ)) (said call put : List ℕ) (new_at : ℕ) (new : List ℕ)
-    → IsToldTo text read out → IsCommandLine text start at end command → Speaks command name args said → IsPut name args call → read ≤ start → start ≤ length text
+    → IsToldTo text read out → MayBegin text at → IsCommandLine text start at end command → Speaks command name args said → IsPut name args call → read ≤ start → start ≤ length text
     → put ≡ noted_so (slice_range text start at) said call → (new_at ≡ end) × (new ≡ (out ++ slice_range text read start) ++ put) → IsToldTo text new_at new
-spoken_step text read out start at end command name args said call put new_at new before is speaks puts from within put_is (at_is, new_is) =
+spoken_step text read out start at end command name args said call put new_at new before begins is speaks puts from within put_is (at_is, new_is) =
     subst (λ a. IsToldTo text a new) (sym at_is)
     (subst (IsToldTo text end) (sym (new_is ∙ ap (λ p. (out ++ slice_range text read start) ++ p) put_is))
-    (specs.IsToldTo.spoken at end command name args said call (specs.IsToldTo.copied start before from within) is speaks puts))
+    (specs.IsToldTo.spoken at end command name args said call (specs.IsToldTo.copied start before from within) begins is speaks puts))
 
 pub cleared_step : (text : List ℕ) (read : ℕ) (out : List ℕ) (start at end : ℕ) (command name put : List ℕ) (new_at : ℕ) (new : List ℕ)
-    → IsToldTo text read out → IsCommandLine text start at end command → Unsets command name → read ≤ start → start ≤ length text
+    → IsToldTo text read out → MayBegin text at → IsCommandLine text start at end command → Unsets command name → read ≤ start → start ≤ length text
     → put ≡ noted_so (slice_range text start at) (codes "unset: the variable is empty") (name ++ 61 ∷ [])
     → (new_at ≡ end) × (new ≡ (out ++ slice_range text read start) ++ put) → IsToldTo text new_at new
-cleared_step text read out start at end command name put new_at new before is unsets from within put_is (at_is, new_is) =
+cleared_step text read out start at end command name put new_at new before begins is unsets from within put_is (at_is, new_is) =
     subst (λ a. IsToldTo text a new) (sym at_is)
     (subst (IsToldTo text end) (sym (new_is ∙ ap (λ p. (out ++ slice_range text read start) ++ p) put_is))
-    (specs.IsToldTo.cleared at end command name (specs.IsToldTo.copied start before from within) is unsets))
+    (specs.IsToldTo.cleared at end command name (specs.IsToldTo.copied start before from within) begins is unsets))
 
 pub appended_step : (text : List ℕ) (read : ℕ) (out : List ℕ) (start at end : ℕ) (command name word put : List ℕ) (new_at : ℕ) (new : List ℕ)
-    → IsToldTo text read out → IsCommandLine text start at end command → Appends command name word → IsAccepted (source_with (longer name word)) → read ≤ start → start ≤ length text
+    → IsToldTo text read out → MayBegin text at → IsCommandLine text start at end command → Appends command name word → IsAccepted (source_with (longer name word)) → read ≤ start → start ≤ length text
     → put ≡ noted_so (slice_range text start at) (codes "+=: some shells take it for a command") (longer name word)
     → (new_at ≡ end) × (new ≡ (out ++ slice_range text read start) ++ put) → IsToldTo text new_at new
-appended_step text read out start at end command name word put new_at new before is appends accepted from within put_is (at_is, new_is) =
+appended_step text read out start at end command name word put new_at new before begins is appends accepted from within put_is (at_is, new_is) =
     subst (λ a. IsToldTo text a new) (sym at_is)
     (subst (IsToldTo text end) (sym (new_is ∙ ap (λ p. (out ++ slice_range text read start) ++ p) put_is))
-    (specs.IsToldTo.appended at end command name word (specs.IsToldTo.copied start before from within) is appends accepted))
+    (specs.IsToldTo.appended at end command name word (specs.IsToldTo.copied start before from within) begins is appends accepted))
 
 pub silenced_step : (text : List ℕ) (read : ℕ) (out : List ℕ) (start at end : ℕ) (command said put line : List ℕ) (new_at : ℕ) (new : List ℕ)
-    → IsToldTo text read out → IsCommandLine text start at end command → IsSilenced command said put → read ≤ start → start ≤ length text
+    → IsToldTo text read out → MayBegin text at → IsCommandLine text start at end command → IsSilenced command said put → read ≤ start → start ≤ length text
     → line ≡ noted_so (slice_range text start at) said put
     → (new_at ≡ end) × (new ≡ (out ++ slice_range text read start) ++ line) → IsToldTo text new_at new
-silenced_step text read out start at end command said put line new_at new before is silenced from within line_is (at_is, new_is) =
+silenced_step text read out start at end command said put line new_at new before begins is silenced from within line_is (at_is, new_is) =
     subst (λ a. IsToldTo text a new) (sym at_is)
     (subst (IsToldTo text end) (sym (new_is ∙ ap (λ p. (out ++ slice_range text read start) ++ p) line_is))
-    (specs.IsToldTo.silenced at end command said put (specs.IsToldTo.copied start before from within) is silenced))
+    (specs.IsToldTo.silenced at end command said put (specs.IsToldTo.copied start before from within) begins is silenced))
 
 -- A message and a status that the command ends with.
 pub failing : (command : List ℕ) (to from : ℕ) (message status : List ℕ) → IsEchoThen command to from → IsExit command from status
@@ -102,3 +104,9 @@ quoted_set_by text inner name rest word whole named parts = inr (whole ∙ ap (�
 -- The parts of a command that `+=` is between.
 pub joined_by : (command name rest word : List ℕ) → command ≡ name ++ rest → rest ≡ codes "+=" ++ word → command ≡ name ++ (codes "+=" ++ word)
 joined_by command name rest word split is = split ∙ ap (λ r. name ++ r) is
+
+-- ---- where a command begins
+
+-- What holds of each element of a list holds of the one at an index.
+pub of_each : {A : Type 0} (P : A → Type 0) (xs : List A) (i : ℕ) (x : A) → All P xs → i < length xs → x ≡ get_or xs i x → P x
+of_each P xs i x all lt here = subst P (sym here) (All-get_or P xs i x lt all)

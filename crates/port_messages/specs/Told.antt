@@ -8,6 +8,7 @@ use Rattle.port_echo.specs.Commands.{IsCommandLine, IsBlankEcho, IsOneWord}
 use Rattle.lint_errors.specs.Errors.{IsAccepted}
 use Rattle.port_breaks.specs.Breaks.{IsBroken}
 use Rattle.port_put.specs.Calls.{IsPut, source_with}
+use Rattle.port_statements.specs.Statements.{MayBegin}
 
 -- A comment, and below it a call, each after the indent. The comment says in what the call differs from `echo`.
 unfoldable pub noted : List ℕ → List ℕ → List ℕ
@@ -123,20 +124,21 @@ noted_so indent said put = ((indent ++ codes "dnl acrun: in place of ") ++ said)
 -- So much of a text has been read, and this was written: everything is copied, but a line that prints a message by `echo` may become a
 -- comment and the call of AC_MSG_RESULT with the message, after the line's indent. A line with another command may become a comment and the
 -- call that takes its place; one that unsets a variable, a comment and an assignment of nothing; one that unsets several or exports some, a
--- comment and assignments or `:`; and one that appends a word to a variable, a comment and an assignment.
+-- comment and assignments or `:`; and one that appends a word to a variable, a comment and an assignment. Each of these commands begins outside
+-- quotes, substitutions, comments and here-documents.
 pub data IsToldTo (text : List ℕ) : ℕ → List ℕ → Type 0 where
   begun : IsToldTo text 0 []
   copied : {at : ℕ} {out : List ℕ} (next : ℕ) → IsToldTo text at out → at ≤ next → next ≤ length text → IsToldTo text next (out ++ slice_range text at next)
-  told : {start : ℕ} {out : List ℕ} (at end : ℕ) (message call : List ℕ) → IsToldTo text start out → IsEcho text start at end message
+  told : {start : ℕ} {out : List ℕ} (at end : ℕ) (message call : List ℕ) → IsToldTo text start out → MayBegin text at → IsEcho text start at end message
       → IsPut (codes "AC_MSG_RESULT") (message ∷ []) call → IsToldTo text end (out ++ noted (slice_range text start at) call)
-  spoken : {start : ℕ} {out : List ℕ} (at end : ℕ) (command name : List ℕ) (args : List (List ℕ)) (said call : List ℕ) → IsToldTo text start out
+  spoken : {start : ℕ} {out : List ℕ} (at end : ℕ) (command name : List ℕ) (args : List (List ℕ)) (said call : List ℕ) → IsToldTo text start out → MayBegin text at
       → IsCommandLine text start at end command → Speaks command name args said → IsPut name args call
       → IsToldTo text end (out ++ noted_so (slice_range text start at) said call)
-  cleared : {start : ℕ} {out : List ℕ} (at end : ℕ) (command name : List ℕ) → IsToldTo text start out → IsCommandLine text start at end command → Unsets command name
+  cleared : {start : ℕ} {out : List ℕ} (at end : ℕ) (command name : List ℕ) → IsToldTo text start out → MayBegin text at → IsCommandLine text start at end command → Unsets command name
       → IsToldTo text end (out ++ noted_so (slice_range text start at) (codes "unset: the variable is empty") (name ++ 61 ∷ []))
-  silenced : {start : ℕ} {out : List ℕ} (at end : ℕ) (command said put : List ℕ) → IsToldTo text start out → IsCommandLine text start at end command
+  silenced : {start : ℕ} {out : List ℕ} (at end : ℕ) (command said put : List ℕ) → IsToldTo text start out → MayBegin text at → IsCommandLine text start at end command
       → IsSilenced command said put → IsToldTo text end (out ++ noted_so (slice_range text start at) said put)
-  appended : {start : ℕ} {out : List ℕ} (at end : ℕ) (command name word : List ℕ) → IsToldTo text start out → IsCommandLine text start at end command
+  appended : {start : ℕ} {out : List ℕ} (at end : ℕ) (command name word : List ℕ) → IsToldTo text start out → MayBegin text at → IsCommandLine text start at end command
       → Appends command name word → IsAccepted (source_with (longer name word)) → IsToldTo text end (out ++ noted_so (slice_range text start at) (codes "+=: some shells take it for a command") (longer name word))
 
 -- The whole text becomes this one.

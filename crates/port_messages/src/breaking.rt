@@ -1,9 +1,13 @@
-//! Where lines are broken, so that a command has a line of its own.
+//! Lines that are broken, so that a command has a line of its own, and what the text then becomes.
 
-use crate::echoes::is_rewritten;
+ghost use Rattle.std.specs.Prelude.{IfOk};
+ghost use Rattle.port_breaks.specs.Breaks.{IsBroken};
+ghost use Rattle.port_messages.specs.Told as specs;
+
+use crate::passing::{is_rewritten, told_alone};
 use ac_calls::calls_of;
 use lint_text::{line_end, line_start, part};
-use port_breaks::command_at;
+use port_breaks::{broken, command_at};
 use port_compounds::are_spaces;
 use port_statements::{StatementCut, cuts_in};
 use std::alloc::{AllocError, Global};
@@ -33,7 +37,7 @@ fn push_place(
 }
 
 /// Returns the offsets of the commands that get a line of their own, in order.
-pub(crate) fn places_in(alloc: Global, text: &[u8]) -> Result<Vec<usize>, AllocError> {
+fn places_in(alloc: Global, text: &[u8]) -> Result<Vec<usize>, AllocError> {
     let calls = calls_of(alloc, text)?;
     let mut places = Vec::new(alloc);
     for cut in &cuts_in(alloc, text, calls.as_slice())? {
@@ -42,4 +46,45 @@ pub(crate) fn places_in(alloc: Global, text: &[u8]) -> Result<Vec<usize>, AllocE
         }
     }
     Ok(places)
+}
+
+/// Returns what a text becomes of which the lines were broken.
+#[tactic(auto, using(crate::proofs::Telling::broken_and_told))]
+fn told_of(alloc: Global, text: &[u8], mid: &[u8]) -> Result<Vec<u8>, AllocError>
+    requires { IsBroken text.now mid.now }
+    ensures { IfOk result (λ v. specs.IsBrokenAndTold text.now v.items) }
+{
+    let _ = text;
+    let out = told_alone(alloc, mid)?;
+    Ok(out)
+}
+
+/// Returns the text with what takes the place of the commands in it, after its lines are broken around
+/// those at these offsets.
+fn told_broken(alloc: Global, text: &[u8], places: &[usize]) -> Result<Vec<u8>, AllocError>
+    ensures { IfOk result (λ v. specs.IsBrokenAndTold text.now v.items) }
+{
+    let mid = broken(alloc, text, places)?;
+    told_of(alloc, text, mid.as_slice())
+}
+
+/// Returns the text with each `echo` as a message, below a comment, if what it prints is known. Other
+/// than `echo`, a message is dropped by `-q`. So an `exit` with a status becomes an error, with the
+/// message of an `echo` before it on its line, an `unset` of a variable an assignment of nothing, and
+/// `+=` an assignment of the variable's value and the word. Only a command on a line of its own is
+/// rewritten, but the lines are first broken around an `echo` and an `exit`, if that leads to it.
+///
+/// # Errors
+///
+/// Fails only if memory runs out.
+pub fn told(alloc: Global, text: &[u8]) -> Result<Vec<u8>, AllocError>
+    // Lines may be broken around commands of which it is known what takes their place. Then a line
+    // with an `echo` may become a comment and the call of AC_MSG_RESULT with what it prints, one with
+    // an `exit` a comment and the call of AC_MSG_ERROR, and one with an `unset` or with `+=` a comment
+    // and an assignment. Each of these commands begins outside quotes, substitutions, comments and
+    // here-documents. All else is copied.
+    ensures told { IfOk result (λ v. specs.IsBrokenAndTold text.now v.items) }
+{
+    let places = places_in(alloc, text)?;
+    told_broken(alloc, text, places.as_slice())
 }

@@ -2,6 +2,7 @@
 
 ghost use Rattle.std.specs.Prelude.{OnOk};
 ghost use Rattle.port_echo.specs.Commands.{IsCommandLine};
+ghost use Rattle.port_statements.specs.Statements.{MayBegin};
 ghost use Rattle.port_messages.specs.Told as specs;
 
 use crate::noting::rest_after;
@@ -21,6 +22,7 @@ fn pass_other(
     command: &[u8],
     pass: &mut Pass,
 ) -> Result<(), AllocError>
+    requires begins { MayBegin text.now at }
     requires line { IsCommandLine text.now start at end command.now }
     requires begun { specs.IsToldTo text.now pass.old.at pass.old.out.items }
     ensures { OnOk result (specs.IsToldTo text.now pass.new.at pass.new.out.items) }
@@ -51,6 +53,7 @@ fn pass_silent(
     command: &[u8],
     pass: &mut Pass,
 ) -> Result<(), AllocError>
+    requires begins { MayBegin text.now at }
     requires line { IsCommandLine text.now start at end command.now }
     requires begun { specs.IsToldTo text.now pass.old.at pass.old.out.items }
     ensures { OnOk result (specs.IsToldTo text.now pass.new.at pass.new.out.items) }
@@ -80,6 +83,7 @@ fn pass_line(
     command: &[u8],
     pass: &mut Pass,
 ) -> Result<(), AllocError>
+    requires begins { MayBegin text.now at }
     requires line { IsCommandLine text.now start at end command.now }
     requires begun { specs.IsToldTo text.now pass.old.at pass.old.out.items }
     ensures { OnOk result (specs.IsToldTo text.now pass.new.at pass.new.out.items) }
@@ -101,6 +105,7 @@ pub(crate) fn pass_command(
     end: usize,
     pass: &mut Pass,
 ) -> Result<(), AllocError>
+    requires begins { MayBegin text.now at }
     requires begun { specs.IsToldTo text.now pass.old.at pass.old.out.items }
     ensures { OnOk result (specs.IsToldTo text.now pass.new.at pass.new.out.items) }
 {

@@ -5,6 +5,7 @@ ghost use Rattle.std.specs.List.{list_all};
 ghost use Rattle.lint_errors.specs.Errors.{IsAccepted};
 ghost use Rattle.port_echo.specs.Commands.{IsCommandLine};
 ghost use Rattle.port_put.specs.Calls.{source_with};
+ghost use Rattle.port_statements.specs.Statements.{MayBegin};
 ghost use Rattle.port_messages.specs.Told as specs;
 
 use crate::noting::{noted_so, rest_after};
@@ -86,6 +87,7 @@ pub(crate) fn pass_unset(
     name: &[u8],
     pass: &mut Pass,
 ) -> Result<(), AllocError>
+    requires begins { MayBegin text.now at }
     requires line { IsCommandLine text.now start at end command.now }
     requires unsets { specs.Unsets command.now name.now }
     requires begun { specs.IsToldTo text.now pass.old.at pass.old.out.items }
@@ -161,6 +163,7 @@ fn put_silenced(
     put: &[u8],
     pass: &mut Pass,
 ) -> Result<(), AllocError>
+    requires begins { MayBegin text.now at }
     requires line { IsCommandLine text.now start at end command.now }
     requires silenced { specs.IsSilenced command.now said.now put.now }
     requires begun { specs.IsToldTo text.now pass.old.at pass.old.out.items }
@@ -185,6 +188,7 @@ fn put_cleared(
     names: &[u8],
     pass: &mut Pass,
 ) -> Result<(), AllocError>
+    requires begins { MayBegin text.now at }
     requires line { IsCommandLine text.now start at end command.now }
     requires is { command.now ≡ codes "unset " ++ names.now }
     requires names { specs.AreNames names.now }
@@ -228,6 +232,7 @@ fn pass_cleared(
     names: &[u8],
     pass: &mut Pass,
 ) -> Result<(), AllocError>
+    requires begins { MayBegin text.now at }
     requires line { IsCommandLine text.now start at end command.now }
     requires is { command.now ≡ codes "unset " ++ names.now }
     requires names { specs.AreNames names.now }
@@ -251,6 +256,7 @@ pub(crate) fn pass_unset_each(
     rest: &[u8],
     pass: &mut Pass,
 ) -> Result<(), AllocError>
+    requires begins { MayBegin text.now at }
     requires line { IsCommandLine text.now start at end command.now }
     requires is { command.now ≡ codes "unset " ++ rest.now }
     requires begun { specs.IsToldTo text.now pass.old.at pass.old.out.items }
@@ -342,6 +348,7 @@ pub(crate) fn pass_export(
     rest: &[u8],
     pass: &mut Pass,
 ) -> Result<(), AllocError>
+    requires begins { MayBegin text.now at }
     requires line { IsCommandLine text.now start at end command.now }
     requires is { command.now ≡ codes "export " ++ rest.now }
     requires begun { specs.IsToldTo text.now pass.old.at pass.old.out.items }
@@ -436,6 +443,7 @@ fn put_appended(
     word: &[u8],
     pass: &mut Pass,
 ) -> Result<(), AllocError>
+    requires begins { MayBegin text.now at }
     requires line { IsCommandLine text.now start at end command.now }
     requires appends { specs.Appends command.now name.now word.now }
     requires accepted { IsAccepted (source_with (specs.longer name.now word.now)) }
@@ -472,6 +480,7 @@ fn pass_accepted(
     word: &[u8],
     pass: &mut Pass,
 ) -> Result<(), AllocError>
+    requires begins { MayBegin text.now at }
     requires line { IsCommandLine text.now start at end command.now }
     requires appends { specs.Appends command.now name.now word.now }
     requires begun { specs.IsToldTo text.now pass.old.at pass.old.out.items }
@@ -495,6 +504,7 @@ fn pass_appended(
     word: &[u8],
     pass: &mut Pass,
 ) -> Result<(), AllocError>
+    requires begins { MayBegin text.now at }
     requires line { IsCommandLine text.now start at end command.now }
     requires is { command.now ≡ name.now ++ (codes "+=" ++ word.now) }
     requires begun { specs.IsToldTo text.now pass.old.at pass.old.out.items }
@@ -520,6 +530,7 @@ fn pass_rest(
     rest: &[u8],
     pass: &mut Pass,
 ) -> Result<(), AllocError>
+    requires begins { MayBegin text.now at }
     requires line { IsCommandLine text.now start at end command.now }
     requires split { command.now ≡ name.now ++ rest.now }
     requires begun { specs.IsToldTo text.now pass.old.at pass.old.out.items }
@@ -543,6 +554,7 @@ pub(crate) fn pass_named(
     length: usize,
     pass: &mut Pass,
 ) -> Result<(), AllocError>
+    requires begins { MayBegin text.now at }
     requires line { IsCommandLine text.now start at end command.now }
     requires begun { specs.IsToldTo text.now pass.old.at pass.old.out.items }
     ensures { OnOk result (specs.IsToldTo text.now pass.new.at pass.new.out.items) }

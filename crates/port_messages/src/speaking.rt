@@ -6,6 +6,7 @@ ghost use Rattle.std.specs.List.{list_all};
 ghost use Rattle.port_echo.specs.Commands.{IsCommandLine};
 ghost use Rattle.port_echo.specs.Echo.{IsMessage, Prints};
 ghost use Rattle.port_put.specs.Calls.{IsPut};
+ghost use Rattle.port_statements.specs.Statements.{MayBegin};
 ghost use Rattle.port_messages.specs.Told as specs;
 
 use crate::noting::{noted_so, rest_after};
@@ -31,6 +32,7 @@ fn put_call(
     call: &[u8],
     pass: &mut Pass,
 ) -> Result<(), AllocError>
+    requires begins { MayBegin text.now at }
     requires line { IsCommandLine text.now start at end command.now }
     requires speaks { specs.Speaks command.now name.now (map (λ a. a.now) args.now) said.now }
     requires call { IsPut name.now (map (λ a. a.now) args.now) call.now }
@@ -61,6 +63,7 @@ fn pass_call(
     said: &[u8],
     pass: &mut Pass,
 ) -> Result<(), AllocError>
+    requires begins { MayBegin text.now at }
     requires line { IsCommandLine text.now start at end command.now }
     requires speaks { specs.Speaks command.now name.now (map (λ a. a.now) args.now) said.now }
     requires begun { specs.IsToldTo text.now pass.old.at pass.old.out.items }
@@ -97,6 +100,7 @@ pub(crate) fn pass_blank(
     command: &[u8],
     pass: &mut Pass,
 ) -> Result<(), AllocError>
+    requires begins { MayBegin text.now at }
     requires line { IsCommandLine text.now start at end command.now }
     requires speaks { specs.Speaks command.now (codes "AC_MSG_RESULT") ([] ∷ [])
         (codes "echo: -q drops the line") }
@@ -172,6 +176,7 @@ pub(crate) fn pass_status(
     status: &[u8],
     pass: &mut Pass,
 ) -> Result<(), AllocError>
+    requires begins { MayBegin text.now at }
     requires line { IsCommandLine text.now start at end command.now }
     requires speaks { specs.Speaks command.now (codes "AC_MSG_ERROR") (command.now ∷ status.now ∷ [])
         (codes "exit: an error is printed") }
@@ -267,6 +272,7 @@ fn pass_error(
     status: &[u8],
     pass: &mut Pass,
 ) -> Result<(), AllocError>
+    requires begins { MayBegin text.now at }
     requires line { IsCommandLine text.now start at end command.now }
     requires speaks { specs.Speaks command.now (codes "AC_MSG_ERROR") (message.now ∷ status.now ∷ [])
         (codes "echo and exit: the message is an error") }
@@ -302,6 +308,7 @@ fn pass_failing(
     status: &[u8],
     pass: &mut Pass,
 ) -> Result<(), AllocError>
+    requires begins { MayBegin text.now at }
     requires line { IsCommandLine text.now start at end command.now }
     requires front { specs.IsEchoThen command.now to from }
     requires exits { specs.IsExit command.now from status.now }
@@ -328,6 +335,7 @@ fn pass_exit_after(
     status: &[u8],
     pass: &mut Pass,
 ) -> Result<(), AllocError>
+    requires begins { MayBegin text.now at }
     requires line { IsCommandLine text.now start at end command.now }
     requires front { specs.IsEchoThen command.now to from }
     requires exits { specs.IsExit command.now from status.now }
@@ -356,6 +364,7 @@ pub(crate) fn pass_joined(
     semicolon: usize,
     pass: &mut Pass,
 ) -> Result<(), AllocError>
+    requires begins { MayBegin text.now at }
     requires line { IsCommandLine text.now start at end command.now }
     requires begun { specs.IsToldTo text.now pass.old.at pass.old.out.items }
     ensures { OnOk result (specs.IsToldTo text.now pass.new.at pass.new.out.items) }

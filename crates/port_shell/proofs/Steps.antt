@@ -26,9 +26,9 @@ pub pass_bound : (idioms : Idioms) (text : List ℕ) (at : ℕ) (out : List ℕ)
 pass_bound idioms text at out specs.IsPass.begun = omega arith
 pass_bound idioms text at out (specs.IsPass.copied next before from to) = to
 pass_bound idioms text at out (specs.IsPass.changed end note put before begins puts notes) = put_bound text _ end put puts
-pass_bound idioms text at out (specs.IsPass.tested start to put before is order become) = order.2
-pass_bound idioms text at out (specs.IsPass.respelled from to put indent all before is order spelled blank) = order.2
-pass_bound idioms text at out (specs.IsPass.asked from to put call indent all before is order may asks blank) = order.2
+pass_bound idioms text at out (specs.IsPass.tested start to put before begins is order become) = order.2
+pass_bound idioms text at out (specs.IsPass.respelled from to put indent all before begins is order spelled blank) = order.2
+pass_bound idioms text at out (specs.IsPass.asked from to put call indent all before begins is order may asks blank) = order.2
 
 -- What holds of each element holds of the one at an index.
 pub of_each : {A : Type 0} (P : A → Type 0) (xs : List A) (i : ℕ) (x : A) → All P xs → i < length xs → x ≡ get_or xs i x → P x

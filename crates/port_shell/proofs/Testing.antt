@@ -14,33 +14,34 @@ use Rattle.port_joints.specs.Files.{program_of}
 use Rattle.port_joints.specs.Joints.{Becomes}
 use Rattle.port_put.specs.Calls.{IsPut}
 use Rattle.port_joints.specs.Spelled.{IsRespelled}
+use Rattle.port_statements.specs.Statements.{MayBegin}
 use Rattle.port_shell.specs.Formed.{IsPass, IsTestAt, IsListTest, Asks, IsAsked, MayAskAt, AreOrdered, spelled_so, asked_so}
 use Rattle.port_shell.specs.Formed as specs
 
 pub tested_step : (idioms : Idioms) (text : List ℕ) (at : ℕ) (out : List ℕ) (start from to : ℕ) (put : List ℕ) (new_at : ℕ) (new : List ℕ)
-    → IsPass idioms text at out → IsTestAt text start from to → AreOrdered text start from to → Becomes (slice_range text from to) put → at ≤ from
+    → IsPass idioms text at out → MayBegin text start → IsTestAt text start from to → AreOrdered text start from to → Becomes (slice_range text from to) put → at ≤ from
     → (new_at ≡ to) × (new ≡ (out ++ slice_range text at from) ++ put) → IsPass idioms text new_at new
-tested_step idioms text at out start from to put new_at new before is (first, second, third) become place (at_is, new_is) =
+tested_step idioms text at out start from to put new_at new before begins is (first, second, third) become place (at_is, new_is) =
     subst (λ a. IsPass idioms text a new) (sym at_is)
-    (subst (IsPass idioms text to) (sym new_is) (specs.IsPass.tested start to put (specs.IsPass.copied from before place (omega (arith, second, third))) is (first, second, third) become))
+    (subst (IsPass idioms text to) (sym new_is) (specs.IsPass.tested start to put (specs.IsPass.copied from before place (omega (arith, second, third))) begins is (first, second, third) become))
 
 pub spelled_step : (idioms : Idioms) (text : List ℕ) (at : ℕ) (out : List ℕ) (start from to : ℕ) (indent put whole : List ℕ) (new_at : ℕ) (new : List ℕ) → idioms ≡ All
-    → IsPass idioms text at out → IsTestAt text start from to → AreOrdered text start from to → IsRespelled (slice_range text from to) put → list_all is_space_or_return indent ≡ true → at ≤ start
+    → IsPass idioms text at out → MayBegin text start → IsTestAt text start from to → AreOrdered text start from to → IsRespelled (slice_range text from to) put → list_all is_space_or_return indent ≡ true → at ≤ start
     → whole ≡ spelled_so indent ++ (slice_range text start from ++ put)
     → (new_at ≡ to) × (new ≡ (out ++ slice_range text at start) ++ whole) → IsPass idioms text new_at new
-spelled_step idioms text at out start from to indent put whole new_at new all before is (first, second, third) spelled blank place whole_is (at_is, new_is) =
+spelled_step idioms text at out start from to indent put whole new_at new all before begins is (first, second, third) spelled blank place whole_is (at_is, new_is) =
     subst (λ a. IsPass idioms text a new) (sym at_is)
     (subst (IsPass idioms text to) (sym (new_is ∙ ap (λ w. (out ++ slice_range text at start) ++ w) whole_is))
-    (specs.IsPass.respelled from to put indent all (specs.IsPass.copied start before place (omega (arith, first, second, third))) is (first, second, third) spelled blank))
+    (specs.IsPass.respelled from to put indent all (specs.IsPass.copied start before place (omega (arith, first, second, third))) begins is (first, second, third) spelled blank))
 
 pub asked_step : (idioms : Idioms) (text : List ℕ) (at : ℕ) (out : List ℕ) (start from to : ℕ) (indent put call whole : List ℕ) (new_at : ℕ) (new : List ℕ) → idioms ≡ All
-    → IsPass idioms text at out → IsTestAt text start from to → AreOrdered text start from to → MayAskAt text start → IsAsked (slice_range text from to) put call → list_all is_space_or_return indent ≡ true → at ≤ start
+    → IsPass idioms text at out → MayBegin text start → IsTestAt text start from to → AreOrdered text start from to → MayAskAt text start → IsAsked (slice_range text from to) put call → list_all is_space_or_return indent ≡ true → at ≤ start
     → whole ≡ asked_so indent call ++ (slice_range text start from ++ put)
     → (new_at ≡ to) × (new ≡ (out ++ slice_range text at start) ++ whole) → IsPass idioms text new_at new
-asked_step idioms text at out start from to indent put call whole new_at new all before is (first, second, third) may asked blank place whole_is (at_is, new_is) =
+asked_step idioms text at out start from to indent put call whole new_at new all before begins is (first, second, third) may asked blank place whole_is (at_is, new_is) =
     subst (λ a. IsPass idioms text a new) (sym at_is)
     (subst (IsPass idioms text to) (sym (new_is ∙ ap (λ w. (out ++ slice_range text at start) ++ w) whole_is))
-    (specs.IsPass.asked from to put call indent all (specs.IsPass.copied start before place (omega (arith, first, second, third))) is (first, second, third) may asked blank))
+    (specs.IsPass.asked from to put call indent all (specs.IsPass.copied start before place (omega (arith, first, second, third))) begins is (first, second, third) may asked blank))
 
 -- The arguments of a call that asks.
 pub asks_for : {V E : Type 0} (items : V → List ℕ) (r : Result (Option V) E) (letter : ℕ) (path name program found lacks none : List ℕ)

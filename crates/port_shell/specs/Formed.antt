@@ -128,20 +128,21 @@ pub data MayPut (text : List ℕ) (start end : ℕ) (put : List ℕ) : Type 0 wh
   repeated : IsWrittenOut text start end put → IsAccepted (source_with put) → MayPut text start end put
 
 -- One pass over a text has read so much of it, and written this. Everything is copied, but what may be put in the place of a statement may be
--- written there, if the statement begins outside quotes, substitutions, comments and here-documents. In a condition, `-a` and `-o` of `test` may become `&&` and `||`. If all idioms are wanted, a comment may be right before what is
+-- written there. In a condition, `-a` and `-o` of `test` may become `&&` and `||`. If all idioms are wanted, a comment may be right before what is
 -- put, and in a condition of an `if`, of AS_IF or of a guarded statement `==`, `-eq` and `-ne` may be spelled otherwise, with a comment right before
 -- the statement. In such a condition the answer of a program may also come in the place of a test of a file, with a comment and the call that
--- asks right before the statement.
+-- asks right before the statement. Each of these statements begins outside quotes, substitutions, comments and here-documents: what is replaced,
+-- and the `if`, the `elif`, the call of AS_IF or the guarded statement whose condition is written otherwise.
 pub data IsPass (idioms : Idioms) (text : List ℕ) : ℕ → List ℕ → Type 0 where
   begun : IsPass idioms text 0 []
   copied : {at : ℕ} {out : List ℕ} (next : ℕ) → IsPass idioms text at out → at ≤ next → next ≤ length text → IsPass idioms text next (out ++ slice_range text at next)
   changed : {at : ℕ} {out : List ℕ} (end : ℕ) (note put : List ℕ) → IsPass idioms text at out → MayBegin text at → MayPut text at end put → IsNote idioms note
       → IsPass idioms text end (out ++ (note ++ put))
-  tested : {from : ℕ} {out : List ℕ} (start to : ℕ) (put : List ℕ) → IsPass idioms text from out → IsTestAt text start from to → AreOrdered text start from to
+  tested : {from : ℕ} {out : List ℕ} (start to : ℕ) (put : List ℕ) → IsPass idioms text from out → MayBegin text start → IsTestAt text start from to → AreOrdered text start from to
       → Becomes (slice_range text from to) put → IsPass idioms text to (out ++ put)
-  respelled : {start : ℕ} {out : List ℕ} (from to : ℕ) (put indent : List ℕ) → idioms ≡ All → IsPass idioms text start out → IsTestAt text start from to → AreOrdered text start from to
+  respelled : {start : ℕ} {out : List ℕ} (from to : ℕ) (put indent : List ℕ) → idioms ≡ All → IsPass idioms text start out → MayBegin text start → IsTestAt text start from to → AreOrdered text start from to
       → IsRespelled (slice_range text from to) put → list_all is_space_or_return indent ≡ true → IsPass idioms text to (out ++ (spelled_so indent ++ (slice_range text start from ++ put)))
-  asked : {start : ℕ} {out : List ℕ} (from to : ℕ) (put call indent : List ℕ) → idioms ≡ All → IsPass idioms text start out → IsTestAt text start from to → AreOrdered text start from to
+  asked : {start : ℕ} {out : List ℕ} (from to : ℕ) (put call indent : List ℕ) → idioms ≡ All → IsPass idioms text start out → MayBegin text start → IsTestAt text start from to → AreOrdered text start from to
       → MayAskAt text start → IsAsked (slice_range text from to) put call → list_all is_space_or_return indent ≡ true
       → IsPass idioms text to (out ++ (asked_so indent call ++ (slice_range text start from ++ put)))
 

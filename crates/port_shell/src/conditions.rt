@@ -1,13 +1,13 @@
 //! Conditions of `if`, of AS_IF and before `&&` and `||` that are written otherwise where they are.
 
-ghost use Rattle.std.specs.Prelude.{◌≡◌, ◌⊎◌, ◌≤◌, ◌<◌, ◌+◌, ◌++◌, ◌∷◌, true, Some, map, length, slice_get, slice_index, slice_range, codes, Contains, IfOk, IfSome, OnOk, IsTrue};
+ghost use Rattle.std.specs.Prelude.{◌≡◌, ◌⊎◌, ◌≤◌, ◌<◌, ◌+◌, ◌++◌, ◌∷◌, true, Some, map, length, slice_get, slice_index, slice_range, codes, All, Contains, IfOk, IfSome, OnOk, IsTrue};
 ghost use Rattle.std.specs.List.{list_all};
 ghost use Rattle.ac_calls.specs.Calls.{calls_in, macro_call_of};
 ghost use Rattle.port_compounds.specs.Guards.{IsGuarded};
 ghost use Rattle.port_compounds.specs.Places.{is_space_or_return, AreBlank, IsWord};
-ghost use Rattle.port_idioms.specs.declared.idioms.Idioms.TheVariants.{All};
 ghost use Rattle.port_joints.specs.Joints.{Becomes};
 ghost use Rattle.port_joints.specs.Spelled.{IsRespelled};
+ghost use Rattle.port_statements.specs.Statements.{MayBegin};
 ghost use Rattle.port_shell.specs.Formed as specs;
 
 use crate::files::pass_files;
@@ -18,7 +18,7 @@ use port_compounds::{GuardCut, IfCut, are_blank, are_spaces, guard_parts, is_lis
 use port_idioms::Idioms;
 use port_joints::{joined_condition, respelled};
 use port_put::{Pass, write_change};
-use port_statements::{StatementCut, cuts_in};
+use port_statements::{StatementCut, Statements, may_begin, statements_in};
 use std::alloc::{AllocError, Global};
 
 /// What is above a condition that is spelled otherwise.
@@ -333,16 +333,15 @@ fn push_of_call(
     Ok(())
 }
 
-/// Returns where conditions may be, in order of their offsets.
+/// Returns where conditions may be, in order of their offsets: those of statements and of calls.
 fn places_in(
     alloc: Global,
     text: &[u8],
     calls: &[CallAt],
-) -> Result<Vec<ConditionPlace>, AllocError>
-    requires { map macro_call_of calls.now ≡ calls_in text.now }
-{
+    cuts: &[StatementCut],
+) -> Result<Vec<ConditionPlace>, AllocError> {
     let mut places = Vec::new(alloc);
-    for cut in &cuts_in(alloc, text, calls)? {
+    for cut in cuts {
         push_of_cut(text, cut, &mut places)?;
     }
     for index in 0..calls.len() {
@@ -365,6 +364,7 @@ fn put_joined(
     put: &[u8],
     pass: &mut Pass,
 ) -> Result<(), AllocError>
+    requires begins { MayBegin text.now place.start }
     requires is { specs.IsTestAt text.now place.start place.from place.to }
     requires order { specs.AreOrdered text.now place.start place.from place.to }
     requires becomes { Becomes (slice_range text.now place.from place.to) put.now }
@@ -410,7 +410,8 @@ fn put_spelled(
     put: &[u8],
     pass: &mut Pass,
 ) -> Result<(), AllocError>
-    requires all { idioms ≡ All }
+    requires all { idioms ≡ Idioms.All }
+    requires begins { MayBegin text.now place.start }
     requires is { specs.IsTestAt text.now place.start place.from place.to }
     requires order { specs.AreOrdered text.now place.start place.from place.to }
     requires spelled { IsRespelled (slice_range text.now place.from place.to) put.now }
@@ -451,7 +452,8 @@ fn pass_spelled(
     put: &[u8],
     pass: &mut Pass,
 ) -> Result<(), AllocError>
-    requires all { idioms ≡ All }
+    requires all { idioms ≡ Idioms.All }
+    requires begins { MayBegin text.now place.start }
     requires is { specs.IsTestAt text.now place.start place.from place.to }
     requires order { specs.AreOrdered text.now place.start place.from place.to }
     requires spelled { IsRespelled (slice_range text.now place.from place.to) put.now }
@@ -474,7 +476,8 @@ fn pass_other(
     place: ConditionPlace,
     pass: &mut Pass,
 ) -> Result<(), AllocError>
-    requires all { idioms ≡ All }
+    requires all { idioms ≡ Idioms.All }
+    requires begins { MayBegin text.now place.start }
     requires is { specs.IsTestAt text.now place.start place.from place.to }
     requires order { specs.AreOrdered text.now place.start place.from place.to }
     requires begun { specs.IsPass idioms text.now pass.old.at pass.old.out.items }
@@ -497,7 +500,8 @@ fn pass_idioms(
     pass: &mut Pass,
 ) -> Result<(), AllocError>
     requires calls { map macro_call_of calls.now ≡ calls_in text.now }
-    requires all { idioms ≡ All }
+    requires all { idioms ≡ Idioms.All }
+    requires begins { MayBegin text.now place.start }
     requires is { specs.IsTestAt text.now place.start place.from place.to }
     requires order { specs.AreOrdered text.now place.start place.from place.to }
     requires begun { specs.IsPass idioms text.now pass.old.at pass.old.out.items }
@@ -517,6 +521,7 @@ fn pass_wanted(
     pass: &mut Pass,
 ) -> Result<(), AllocError>
     requires calls { map macro_call_of calls.now ≡ calls_in text.now }
+    requires begins { MayBegin text.now place.start }
     requires is { specs.IsTestAt text.now place.start place.from place.to }
     requires order { specs.AreOrdered text.now place.start place.from place.to }
     requires begun { specs.IsPass idioms text.now pass.old.at pass.old.out.items }
@@ -536,6 +541,7 @@ fn pass_joined(
     place: ConditionPlace,
     pass: &mut Pass,
 ) -> Result<(), AllocError>
+    requires begins { MayBegin text.now place.start }
     requires is { specs.IsTestAt text.now place.start place.from place.to }
     requires order { specs.AreOrdered text.now place.start place.from place.to }
     requires begun { specs.IsPass idioms text.now pass.old.at pass.old.out.items }
@@ -550,21 +556,24 @@ fn pass_joined(
     }
 }
 
-/// Writes a condition otherwise, if there is another text for it.
+/// Writes a condition otherwise, if there is another text for it, and if its statement begins at one
+/// of these offsets.
 fn pass_place(
     alloc: Global,
     idioms: Idioms,
     text: &[u8],
     calls: &[CallAt],
+    offsets: &[usize],
     place: ConditionPlace,
     pass: &mut Pass,
 ) -> Result<(), AllocError>
     requires calls { map macro_call_of calls.now ≡ calls_in text.now }
+    requires offsets { All (MayBegin text.now) offsets.now }
     requires begun { specs.IsPass idioms text.now pass.old.at pass.old.out.items }
     ensures { OnOk result (specs.IsPass idioms text.now pass.new.at pass.new.out.items) }
 {
     let is_there = place.start <= place.from && place.from <= place.to && place.to <= text.len();
-    if !is_there {
+    if !is_there || !may_begin(text, offsets, place.start) {
         return Ok(());
     }
     if !is_test_at(alloc, text, calls, place)? {
@@ -580,17 +589,46 @@ fn pass_places(
     idioms: Idioms,
     text: &[u8],
     calls: &[CallAt],
+    offsets: &[usize],
     places: &[ConditionPlace],
     pass: &mut Pass,
 ) -> Result<(), AllocError>
     requires calls { map macro_call_of calls.now ≡ calls_in text.now }
+    requires offsets { All (MayBegin text.now) offsets.now }
     requires begun { specs.IsPass idioms text.now pass.old.at pass.old.out.items }
     ensures { OnOk result (specs.IsPass idioms text.now pass.new.at pass.new.out.items) }
 {
     for i in 0..places.len() {
-        pass_place(alloc, idioms, text, calls, places[i], pass)?;
+        pass_place(alloc, idioms, text, calls, offsets, places[i], pass)?;
     }
     Ok(())
+}
+
+/// Returns what `tested_once` does, of the statements that were found.
+fn tested_with(
+    alloc: Global,
+    idioms: Idioms,
+    text: &[u8],
+    calls: &[CallAt],
+    found: &Statements,
+) -> Result<Option<Vec<u8>>, AllocError>
+    requires calls { map macro_call_of calls.now ≡ calls_in text.now }
+    requires offsets { All (MayBegin text.now) found.now.offsets.items }
+    ensures { IfOk result (λ o.
+        IfSome o (λ v. specs.IsPass idioms text.now (length text.now) v.items)) }
+{
+    let places = places_in(alloc, text, calls, found.cuts.as_slice())?;
+    let mut pass = Pass::new(alloc);
+    pass_places(
+        alloc,
+        idioms,
+        text,
+        calls,
+        found.offsets.as_slice(),
+        places.as_slice(),
+        &mut pass,
+    )?;
+    finish(idioms, text, pass)
 }
 
 /// Returns the text with conditions of AS_IF in which `-a` and `-o` became `&&` and `||`, and, if
@@ -605,15 +643,6 @@ pub(crate) fn tested_once(
         IfSome o (λ v. specs.IsPass idioms text.now (length text.now) v.items)) }
 {
     let calls = calls_of(alloc, text)?;
-    let places = places_in(alloc, text, calls.as_slice())?;
-    let mut pass = Pass::new(alloc);
-    pass_places(
-        alloc,
-        idioms,
-        text,
-        calls.as_slice(),
-        places.as_slice(),
-        &mut pass,
-    )?;
-    finish(idioms, text, pass)
+    let found = statements_in(alloc, text, calls.as_slice())?;
+    tested_with(alloc, idioms, text, calls.as_slice(), &found)
 }

@@ -7,6 +7,7 @@ ghost use Rattle.port_compounds.specs.Places.{is_space_or_return, IsWord};
 ghost use Rattle.port_idioms.specs.declared.idioms.Idioms.TheVariants.{All};
 ghost use Rattle.port_joints.specs.Files as files;
 ghost use Rattle.port_put.specs.Calls.{IsPut};
+ghost use Rattle.port_statements.specs.Statements.{MayBegin};
 ghost use Rattle.port_shell.specs.Formed as specs;
 
 use crate::conditions::{ConditionPlace, is_in_bare};
@@ -133,6 +134,7 @@ fn put_asked(
     pass: &mut Pass,
 ) -> Result<(), AllocError>
     requires all { idioms ≡ All }
+    requires begins { MayBegin text.now place.start }
     requires is { specs.IsTestAt text.now place.start place.from place.to }
     requires order { specs.AreOrdered text.now place.start place.from place.to }
     requires may { specs.MayAskAt text.now place.start }
@@ -161,6 +163,7 @@ fn pass_asked(
     pass: &mut Pass,
 ) -> Result<(), AllocError>
     requires all { idioms ≡ All }
+    requires begins { MayBegin text.now place.start }
     requires is { specs.IsTestAt text.now place.start place.from place.to }
     requires order { specs.AreOrdered text.now place.start place.from place.to }
     requires may { specs.MayAskAt text.now place.start }
@@ -232,6 +235,7 @@ fn pass_answer(
     pass: &mut Pass,
 ) -> Result<(), AllocError>
     requires all { idioms ≡ All }
+    requires begins { MayBegin text.now place.start }
     requires is { specs.IsTestAt text.now place.start place.from place.to }
     requires order { specs.AreOrdered text.now place.start place.from place.to }
     requires may { specs.MayAskAt text.now place.start }
@@ -269,6 +273,7 @@ fn pass_named(
     pass: &mut Pass,
 ) -> Result<(), AllocError>
     requires all { idioms ≡ All }
+    requires begins { MayBegin text.now place.start }
     requires is { specs.IsTestAt text.now place.start place.from place.to }
     requires order { specs.AreOrdered text.now place.start place.from place.to }
     requires may { specs.MayAskAt text.now place.start }
@@ -311,6 +316,7 @@ fn pass_cut(
 ) -> Result<(), AllocError>
     requires calls { map macro_call_of calls.now ≡ calls_in text.now }
     requires all { idioms ≡ All }
+    requires begins { MayBegin text.now place.start }
     requires is { specs.IsTestAt text.now place.start place.from place.to }
     requires order { specs.AreOrdered text.now place.start place.from place.to }
     requires condition { condition.now ≡ slice_range text.now place.from place.to }
@@ -345,6 +351,7 @@ pub(crate) fn pass_files(
 ) -> Result<(), AllocError>
     requires calls { map macro_call_of calls.now ≡ calls_in text.now }
     requires all { idioms ≡ All }
+    requires begins { MayBegin text.now place.start }
     requires is { specs.IsTestAt text.now place.start place.from place.to }
     requires order { specs.AreOrdered text.now place.start place.from place.to }
     requires begun { specs.IsPass idioms text.now pass.old.at pass.old.out.items }

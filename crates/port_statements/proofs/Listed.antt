@@ -1,8 +1,8 @@
 -- What is known of lists of statements, and of where statements begin.
-use Rattle.std.proofs.Common.{◌≡◌, ℕ, ◌<◌, List, [], ◌∷◌, ◌++◌, length, get_or, map, sym, subst, Result, Ok, Err, OnOk}
+use Rattle.std.proofs.Common.{◌≡◌, ℕ, ◌<◌, List, [], ◌∷◌, ◌++◌, length, get_or, map, sym, subst, refl, Result, Ok, Err, OnOk}
 use Rattle.std.specs.Prelude.{Contains, All}
 use Rattle.std.specs.List.Sorted.{IsPermutation}
-use Rattle.std.proofs.lemmas.List.Elements.{All-nil, All-push, Contains-get_or}
+use Rattle.std.proofs.lemmas.List.Elements.{All-nil, All-push, All-get_or, Contains-get_or}
 use Rattle.std.proofs.lemmas.List.Sorted.{All-permutation}
 use Rattle.ac_calls.specs.Calls.{calls_in, macro_call_of}
 use Rattle.ac_calls.specs.declared.call.CallAt.{CallAt}
@@ -28,3 +28,9 @@ in_order P (Err e) xs ys all same = tt
 
 pub begins : (text : List ℕ) (calls : List CallAt) (at start : ℕ) → map macro_call_of calls ≡ calls_in text → IsOutside text calls at → at ≡ start → MayBegin text start
 begins text calls at start are outside is = subst (MayBegin text) is (record { calls = calls; are = are; outside = outside })
+
+pub pushed_begun : (text : List ℕ) (calls : List CallAt) (at : ℕ) (xs ys : List ℕ) → map macro_call_of calls ≡ calls_in text → IsOutside text calls at → All (MayBegin text) xs → ys ≡ xs ++ at ∷ [] → All (MayBegin text) ys
+pushed_begun text calls at xs ys are outside all is = pushed (MayBegin text) xs ys at all (begins text calls at at are outside refl) is
+
+pub found_at : (text : List ℕ) (offsets : List ℕ) (i at : ℕ) → All (MayBegin text) offsets → i < length offsets → get_or offsets i 0 ≡ at → MayBegin text at
+found_at text offsets i at all lt is = subst (MayBegin text) is (All-get_or (MayBegin text) offsets i 0 lt all)

@@ -11,7 +11,8 @@
 //! here-documents. Nothing else is proved of what is found: `port_compounds` reads the parts of a
 //! statement, and judges whether it is one.
 //!
-//! Read `specs/Statements`, and then `lists` from `statements_in` on. In `reading` is one list, word by
+//! Read `specs/Statements`, and then `lists` from `statements_in` on. `offsets` has where statements may
+//! begin, in whatever list. In `reading` is one list, word by
 //! word, `compound` has a compound statement that is open, and `compounds` those that are open at one
 //! place. `needs` finds where Autoconf makes checks that macros require. Every function fails only if
 //! memory runs out.
@@ -22,9 +23,11 @@ mod compounds;
 mod cut;
 mod lists;
 mod needs;
+mod offsets;
 mod reading;
 mod words;
 
 pub use cut::{Kept, Obstacle, StatementCut};
 pub use lists::{Statements, cuts_in, statements_in};
 pub use needs::{drawing_in, draws};
+pub use offsets::may_begin;

@@ -7,6 +7,7 @@ ghost use Rattle.port_statements.specs.Statements as specs;
 
 use crate::compounds::Compounds;
 use crate::cut::{Kept, StatementCut};
+use crate::offsets::{push_offsets, put_offsets_in_order};
 use crate::reading::{Found, found_in};
 use ac_calls::{CallAt, Extent};
 use ac_macros::holds_statements;
@@ -194,6 +195,8 @@ pub struct Statements {
     pub cuts: Vec<StatementCut>,
     /// Each `if` and each `case` that isn't rewritten, whatever its parts are.
     pub kept: Vec<Kept>,
+    /// The offsets at which a statement may begin, in order, of those at which a word may begin.
+    pub offsets: Vec<usize>,
 }
 
 /// Appends a statement.
@@ -273,8 +276,10 @@ fn push_list(
     requires list { IsList text.now calls.now list }
     requires lists { All (IsList text.now calls.now) lists.old.items }
     requires cuts { All (specs.BeginsOutside text.now) statements.old.cuts.items }
+    requires offsets { All (specs.MayBegin text.now) statements.old.offsets.items }
     ensures lists { OnOk result (All (IsList text.now calls.now) lists.new.items) }
     ensures cuts { OnOk result (All (specs.BeginsOutside text.now) statements.new.cuts.items) }
+    ensures offsets { OnOk result (All (specs.MayBegin text.now) statements.new.offsets.items) }
 {
     let places = places_of(alloc, text, calls, list)?;
     let Found {
@@ -284,6 +289,12 @@ fn push_list(
     } = found_in(alloc, text, calls, list.start, places.marks.as_slice())?;
     push_lists(text, calls, indices.as_slice(), lists)?;
     push_kept(kept, &mut statements.kept)?;
+    push_offsets(
+        text,
+        calls,
+        places.outside.as_slice(),
+        &mut statements.offsets,
+    )?;
     push_cuts(text, calls, &places, cuts, &mut statements.cuts)
 }
 
@@ -311,8 +322,10 @@ fn push_list_at(
     requires within { index < length lists.old.items }
     requires lists { All (IsList text.now calls.now) lists.old.items }
     requires cuts { All (specs.BeginsOutside text.now) statements.old.cuts.items }
+    requires offsets { All (specs.MayBegin text.now) statements.old.offsets.items }
     ensures lists { OnOk result (All (IsList text.now calls.now) lists.new.items) }
     ensures cuts { OnOk result (All (specs.BeginsOutside text.now) statements.new.cuts.items) }
+    ensures offsets { OnOk result (All (specs.MayBegin text.now) statements.new.offsets.items) }
 {
     let list = list_at(text, calls, lists.as_slice(), index);
     push_list(alloc, text, calls, list, lists, statements)
@@ -329,7 +342,9 @@ fn push_all(
     requires calls { map macro_call_of calls.now ≡ calls_in text.now }
     requires lists { All (IsList text.now calls.now) lists.old.items }
     requires cuts { All (specs.BeginsOutside text.now) statements.old.cuts.items }
-    ensures { OnOk result (All (specs.BeginsOutside text.now) statements.new.cuts.items) }
+    requires offsets { All (specs.MayBegin text.now) statements.old.offsets.items }
+    ensures cuts { OnOk result (All (specs.BeginsOutside text.now) statements.new.cuts.items) }
+    ensures offsets { OnOk result (All (specs.MayBegin text.now) statements.new.offsets.items) }
 {
     for i in 0..text.len() {
         if i >= lists.len() {
@@ -381,14 +396,18 @@ pub fn statements_in(alloc: Global, text: &[u8], calls: &[CallAt]) -> Result<Sta
     // Each statement that may be rewritten begins outside quotes, substitutions, comments and
     // here-documents.
     ensures outside { IfOk result (λ s. All (specs.BeginsOutside text.now) s.cuts.items) }
+    // Each offset is outside them too.
+    ensures offsets { IfOk result (λ s. All (specs.MayBegin text.now) s.offsets.items) }
 {
     let mut lists = first_list(alloc, text, calls)?;
     let mut statements = Statements {
         cuts: Vec::new(alloc),
         kept: Vec::new(alloc),
+        offsets: Vec::new(alloc),
     };
     push_all(alloc, text, calls, &mut lists, &mut statements)?;
     put_in_order(text, &mut statements.cuts)?;
+    put_offsets_in_order(text, &mut statements.offsets)?;
     Ok(statements)
 }
 

@@ -184,6 +184,12 @@ AS_IF([test a -o b -a c], [x=1]) => the same
 AS_IF([test a -a -f b], [x=1]) => the same
 AS_IF([test a == b], [x=1]) => the same
 if test a == b; then x=1; fi => the same
+// in quotes, in a here-document, and in an argument without brackets
+a="AS_IF([test b -a c], [d=1])" => the same
+a="b^JAS_IF([test c -a d], [e=1])" => the same
+a=`AS_IF([test b -a c], [d=1])` => the same
+cat <<E^JAS_IF([test b -a c], [d=1])^JE => the same
+AC_ARG_WITH([a], [b], AS_IF([test c -a d], [e=1])) => the same
 // the first call that requires something of Autoconf
 if :; then AC_CHECK_HEADERS([a.h]); fi => the same
 if :; then AC_CHECK_FUNC([a]); fi => the same
@@ -321,6 +327,7 @@ AC_PROG_CC^Jif test -f /a; then x=1; fi => AC_PROG_CC^Jdnl acrun: in place of a 
 AC_PROG_CC^J  test ! -x "${a}/b:c" && x=1 => AC_PROG_CC^J  dnl acrun: in place of a test of a file: a program asks, whose answer is no in a cross build and if the word is empty^J  AC_RUN_IFELSE([AC_LANG_PROGRAM([[#include <sys/stat.h>^J#include <unistd.h>]], [[return access ("${a}/b:c", X_OK) != 0;]])], [acrun_file=yes], [acrun_file=no], [acrun_file=no])^J  AS_IF([test ! "$acrun_file" = yes], [x=1])
 // which stay
 if test -f /a; then x=1; fi^JAC_PROG_CC => the same
+AC_PROG_CC^Ja="b^JAS_IF([test -f /c], [d=1])" => the same
 AC_PROG_CC^Jif test -f; then x=1; fi => AC_PROG_CC^JAS_IF([test -f], [x=1])
 AC_PROG_CC^Jif test "a" = "b -f c"; then x=1; fi => AC_PROG_CC^JAS_IF([test "a" = "b -f c"], [x=1])
 AC_PROG_CC^Jif test -f $srcdir/a; then x=1; fi => the same
@@ -368,6 +375,7 @@ if test -f a == b; then x=1; fi => the same
 if a == b; then x=1; fi => the same
 a=1; if test a == b; then x=1; fi => the same
 AC_ARG_WITH([a], [b],^JAS_IF([test c == d], [x=1])) => the same
+a="b^JAS_IF([test c == d], [e=1])" => the same
 a=1; test a == b && x=1 => the same
 test a == b && x=1 && y=2 => the same
 test a == b && # c^Jx=1 => the same

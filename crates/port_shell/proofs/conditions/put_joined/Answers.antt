@@ -5,4 +5,4 @@ use Rattle.port_shell.proofs.conditions.put_joined.Goals as goal
 
 pub returns : goal.returns
 returns c =
-    on_ok (tested_step c.args.idioms c.args.text.now _ _ c.args.place.start c.args.place.from c.args.place.to c.args.put.now _ _ c.requires.begun c.requires.is c.requires.order c.requires.becomes (omega (arith, c.if-place-pass.false))) c.write_change.result c.write_change.ensures
+    on_ok (tested_step c.args.idioms c.args.text.now _ _ c.args.place.start c.args.place.from c.args.place.to c.args.put.now _ _ c.requires.begun c.requires.begins c.requires.is c.requires.order c.requires.becomes (omega (arith, c.if-place-pass.false))) c.write_change.result c.write_change.ensures
