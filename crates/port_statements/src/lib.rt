@@ -12,10 +12,9 @@
 //! statement, and judges whether it is one.
 //!
 //! Read `specs/Statements`, and then `lists` from `statements_in` on. `offsets` has where statements may
-//! begin, in whatever list. In `reading` is one list, word by
-//! word, `compound` has a compound statement that is open, and `compounds` those that are open at one
-//! place. `needs` finds where Autoconf makes checks that macros require. Every function fails only if
-//! memory runs out.
+//! begin, in whatever list. In `reading` is one list, word by word, `compound` has a compound statement
+//! that is open, and `compounds` those that are open at one place. `needs` finds where Autoconf makes
+//! checks that macros require. Every function fails only if memory runs out.
 #![tactic(auto)]
 
 mod compound;

@@ -396,7 +396,7 @@ pub fn statements_in(alloc: Global, text: &[u8], calls: &[CallAt]) -> Result<Sta
     // Each statement that may be rewritten begins outside quotes, substitutions, comments and
     // here-documents.
     ensures outside { IfOk result (λ s. All (specs.BeginsOutside text.now) s.cuts.items) }
-    // Each offset is outside them too.
+    // A statement may begin at each of the offsets.
     ensures offsets { IfOk result (λ s. All (specs.MayBegin text.now) s.offsets.items) }
 {
     let mut lists = first_list(alloc, text, calls)?;

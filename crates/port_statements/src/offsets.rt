@@ -94,6 +94,7 @@ fn is_at(text: &[u8], offsets: &[usize], index: usize, at: usize) -> bool
 
 /// Returns whether an offset is one of those at which a statement may begin, which are in order.
 pub fn may_begin(text: &[u8], offsets: &[usize], at: usize) -> bool
+    // A statement may begin at each of the offsets.
     requires offsets { All (specs.MayBegin text.now) offsets.now }
     // If so, the offset is outside quotes, substitutions, comments and here-documents.
     ensures outside { IsTrue result → specs.MayBegin text.now at }
