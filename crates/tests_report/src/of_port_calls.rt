@@ -197,6 +197,7 @@ define(FreeBSD, 1)^Ja=FreeBSD => the same
 define(my_word, 1)^J# my_word => the same
 define(my_word, 1)^Ja=[my_word] => the same
 define(my_word, 1)^JAC_SUBST([X], [[my_word]]) => the same
+define(my_word, 1)^JAC_MSG_NOTICE([it # my_word]) => the same
 define(my_word, 1)^JAC_CHECK_LIB([my_word], [f]) => the same
 define(my_word, 1)^JAS_IF([:], [a=my_word]) => the same
 define(my_word, 1)^Ja=my_word(b) => the same
