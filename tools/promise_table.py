@@ -45,6 +45,7 @@ WHY_NONE = {
     "port_passes": "They look for places and for names. What is written there is stated by the functions that write.",
     "port_setup": "They say whether something is to be written, and where. What is written there is stated by `pass_compiler` and `pass_title`.",
     "port_breaks": "It says where to look for a command. Where a line may be broken is stated by `broken`.",
+    "port_parts": "They say where to look for a part. What is there is stated by the functions that judge it.",
     "port_statements": "Whether Autoconf makes checks before a call is a judgement by the table of macros.",
     "port_reasons": "It names statements that stay, for the words of an error.",
 }

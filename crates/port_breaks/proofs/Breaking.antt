@@ -1,7 +1,7 @@
 -- What one step of breaking lines makes.
 use Rattle.std.proofs.Common.{◌≡◌, ℕ, ◌≤◌, List, [], ◌∷◌, ◌++◌, length, Result, Ok, Err, is_ok, OnOk, if◌then◌else◌, slice_range, true, sym, subst, arith}
 use Rattle.std.specs.List.{list_all}
-use Rattle.port_compounds.specs.Places.{is_space_or_return}
+use Rattle.port_parts.specs.Places.{is_space_or_return}
 use Rattle.std.proofs.Common.{Option, Some, None}
 use Rattle.std.specs.Prelude.{◌≢◌, codes, IfSome, MatchOption}
 use Rattle.std.specs.Borrow.{Bor}

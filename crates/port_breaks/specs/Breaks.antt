@@ -1,7 +1,7 @@
 -- Commands in a line, which get lines of their own. The offsets are those of the text that is read. All of this is own.
 use Rattle.std.specs.Prelude.{◌≡◌, ◌⊎◌, ℕ, ◌+◌, ◌-◌, ◌≤◌, nat_lt, ◌&&◌, Bool, true, List, [], ◌∷◌, ◌++◌, length, slice_index, slice_range, codes}
 use Rattle.std.specs.List.{list_all}
-use Rattle.port_compounds.specs.Places.{AreSpaces, BeginsStatement, IsWord, is_space_or_return}
+use Rattle.port_parts.specs.Places.{AreSpaces, BeginsStatement, IsWord, is_space_or_return}
 use Rattle.port_echo.specs.Commands.{IsBlankEcho}
 use Rattle.port_echo.specs.Echo.{IsMessage, Prints}
 

@@ -2,12 +2,12 @@
 
 ghost use Rattle.std.specs.Prelude.{◌≡◌, ◌≤◌, ◌+◌, ◌∷◌, ◌++◌, [], true, length, slice_index, slice_range, codes, IfOk, IfSome, IsTrue, OnOk};
 ghost use Rattle.std.specs.List.{list_all};
-ghost use Rattle.port_compounds.specs.Places.{AreSpaces, is_space_or_return};
+ghost use Rattle.port_parts.specs.Places.{AreSpaces, is_space_or_return};
 ghost use Rattle.port_breaks.specs.Breaks as specs;
 
 use crate::told::{after_spaces, before_spaces, command_end, is_told};
-use port_compounds::{are_spaces, begins_statement, is_word};
 use port_echo::is_blank_echo;
+use port_parts::{are_spaces, begins_statement, is_word};
 use std::alloc::{AllocError, Global};
 
 /// A text that is written while another is read.

@@ -1,23 +1,13 @@
 -- What a reader has found if it succeeds.
-use Rattle.std.proofs.Common.{◌≡◌, ◌∙◌, ap, sym, subst, ℕ, List, [], ◌∷◌, ◌++◌, map, Result, Ok, Err, Option, Some, None}
-use Rattle.std.specs.Prelude.{Bool, IfOk, IfSome, IsTrue, codes}
+use Rattle.std.proofs.Common.{◌≡◌, ◌∙◌, ap, sym, subst, ℕ, List, [], ◌∷◌, ◌++◌, map, Option, Some}
+use Rattle.std.specs.Prelude.{IfSome, codes}
 use Rattle.std.proofs.lemmas.List.{map_push}
 use Rattle.m4quote.specs.ItemValue.{ItemValue}
 use Rattle.m4quote.specs.Spelling.{IsSpelling}
 use Rattle.port_compounds.specs.Cases as cases
 use Rattle.port_compounds.specs.Guards as guards
 use Rattle.port_compounds.specs.Ifs as ifs
-use Rattle.port_compounds.specs.Places.{IsWord}
-
--- What follows from what a `true` says holds of the `true`.
-pub on_true : {E P Q : Type 0} → (P → Q) → (r : Result Bool E) → IfOk r (λ b. IsTrue b → P) → IfOk r (λ b. IsTrue b → Q)
-on_true f (Ok b) p = λ is. f (p is)
-on_true f (Err e) p = tt
-
--- What follows from what a `Some` says holds of the `Some`.
-pub on_some : {T : Type 0} {P Q : T → Type 0} → ((v : T) → P v → Q v) → (o : Option T) → IfSome o P → IfSome o Q
-on_some f (Some v) p = f v p
-on_some f None p = tt
+use Rattle.port_parts.specs.Places.{IsWord}
 
 -- The parts of a `case` begin with its word.
 pub begun_with : {V : Type 0} (view : V → List ℕ) (text : List ℕ) (start end : ℕ) (old new : List V) (o : Option V) (word : V) → old ≡ [] → o ≡ Some word

@@ -3,8 +3,8 @@
 use Rattle.std.specs.Prelude.{◌≡◌, ℕ, true, List, [], ◌∷◌, ◌++◌, codes}
 use Rattle.std.specs.List.{list_all}
 use Rattle.port_compounds.specs.Guards.{IsGuarded}
-use Rattle.port_compounds.specs.Places.{is_space_or_return}
-use Rattle.port_compounds.specs.Words.{IsValue, IsVariable}
+use Rattle.port_parts.specs.Places.{is_space_or_return}
+use Rattle.port_parts.specs.Words.{IsValue, IsVariable}
 
 -- The text assigns a word to a variable.
 pub record IsAssignment (text : List ℕ) : Type 0 where

@@ -1,8 +1,8 @@
 -- The `case` of a shell between two offsets of a text, and its parts: its word, the patterns and the body of each branch, and the body of
 -- a last branch whose pattern is `*`. (POSIX shell, 2.9.4.3 "Case Conditional Construct")
 use Rattle.std.specs.Prelude.{◌≡◌, ◌⊎◌, ℕ, ◌+◌, ◌<◌, ◌≤◌, true, List, [], ◌∷◌, ◌++◌, slice_range, slice_index, codes}
-use Rattle.port_compounds.specs.Parts.{EndsLast, HasPlainEnd, IsAtLineStart, IsBodyOf, IsNotEscaped, IsPlainLine, IsStatement}
-use Rattle.port_compounds.specs.Places.{is_blank_or_return, AreBlank, AreSpaces, IsWord}
+use Rattle.port_parts.specs.Parts.{EndsLast, HasPlainEnd, IsAtLineStart, IsBodyOf, IsNotEscaped, IsPlainLine, IsStatement}
+use Rattle.port_parts.specs.Places.{is_blank_or_return, AreBlank, AreSpaces, IsWord}
 
 -- ---- the word
 

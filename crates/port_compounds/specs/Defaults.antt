@@ -1,9 +1,9 @@
 -- An assignment to a variable of its own value, or of a word if that is empty. (POSIX shell, 2.6.2 "Parameter Expansion")
 use Rattle.std.specs.Prelude.{◌≡◌, ℕ, true, List, [], ◌∷◌, ◌++◌, slice_range, codes}
 use Rattle.std.specs.List.{list_all}
-use Rattle.port_compounds.specs.Parts.{IsPlainLine}
-use Rattle.port_compounds.specs.Places.{BeginsStatement, EndsStatement}
-use Rattle.port_compounds.specs.Words.{is_value, IsConstant, IsVariable}
+use Rattle.port_parts.specs.Parts.{IsPlainLine}
+use Rattle.port_parts.specs.Places.{BeginsStatement, EndsStatement}
+use Rattle.port_parts.specs.Words.{is_value, IsConstant, IsVariable}
 
 -- The value of the variable, or the word if that is empty.
 abbrev pub value_or : List ℕ → List ℕ → List ℕ

@@ -5,8 +5,8 @@ use Rattle.std.specs.List.{list_any}
 use Rattle.std.specs.Char.{is_ascii_alphabetic}
 use Rattle.m4quote.specs.ItemValue.{Span, ItemValue, call}
 use Rattle.m4quote.specs.Spelling.{IsSpelling}
-use Rattle.port_compounds.specs.Parts.{IsNotEscaped, IsPlainLine}
-use Rattle.port_compounds.specs.Places.{is_blank_or_return, AreBlank, AreSpaces, IsWord, BeginsStatement, EndsStatement}
+use Rattle.port_parts.specs.Parts.{IsNotEscaped, IsPlainLine}
+use Rattle.port_parts.specs.Places.{is_blank_or_return, AreBlank, AreSpaces, IsWord, BeginsStatement, EndsStatement}
 
 -- ---- the status of a command
 

@@ -3,8 +3,8 @@
 use Rattle.std.specs.Prelude.{◌≡◌, ℕ, ◌<◌, ◌≤◌, true, List, [], ◌∷◌, ◌++◌, slice_range, slice_index, codes}
 use Rattle.m4quote.specs.ItemValue.{bare}
 use Rattle.m4quote.specs.Spelling.{IsSpelling}
-use Rattle.port_compounds.specs.Parts.{EndsLast, IsBodyOf, IsListEnd, IsStatement}
-use Rattle.port_compounds.specs.Places.{HasNoHash, is_blank_or_return, AreBlank, IsWord}
+use Rattle.port_parts.specs.Parts.{EndsLast, IsBodyOf, IsListEnd, IsStatement}
+use Rattle.port_parts.specs.Places.{HasNoHash, is_blank_or_return, AreBlank, IsWord}
 
 -- Between two offsets is a condition, which ends before a `;` or a newline. It has no `#`. (own)
 pub record IsConditionAt (text : List ℕ) (start end from to : ℕ) : Type 0 where

@@ -1,9 +1,6 @@
-pub mod Places
-pub mod Parts
 pub mod Ifs
 pub mod Cases
 pub mod Guards
-pub mod Words
 pub mod Loops
 pub mod Assigned
 pub mod Defaults

@@ -2,9 +2,9 @@
 -- word. (POSIX shell, 2.9.4.2 "The for Loop")
 use Rattle.std.specs.Prelude.{◌≡◌, ◌⊎◌, ℕ, ◌<◌, ◌≤◌, ◌==◌, ◌||◌, Bool, true, List, [], ◌∷◌, ◌++◌, length, slice_range, slice_index, codes}
 use Rattle.std.specs.List.{flat_map, list_all}
-use Rattle.port_compounds.specs.Parts.{HasPlainEnd, IsListEnd, IsPlainLine, IsStatement}
-use Rattle.port_compounds.specs.Places.{is_space_or_return, AreBlank, AreSpaces, Has, IsWord}
-use Rattle.port_compounds.specs.Words.{IsConstant, IsVariable}
+use Rattle.port_parts.specs.Parts.{HasPlainEnd, IsListEnd, IsPlainLine, IsStatement}
+use Rattle.port_parts.specs.Places.{is_space_or_return, AreBlank, AreSpaces, Has, IsWord}
+use Rattle.port_parts.specs.Words.{IsConstant, IsVariable}
 
 -- Between these offsets are `for`, this name, and `in`.
 pub record IsHead (text : List ℕ) (start end : ℕ) (name : List ℕ) : Type 0 where

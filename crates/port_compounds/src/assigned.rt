@@ -3,13 +3,12 @@
 ghost use Rattle.std.specs.Prelude.{◌≡◌, ◌++◌, ◌∷◌, [], true, map, codes, IfOk, IfSome, IsTrue};
 ghost use Rattle.std.specs.List.{list_all};
 ghost use Rattle.port_compounds.specs.Guards.{IsGuarded};
-ghost use Rattle.port_compounds.specs.Places.{is_space_or_return};
+ghost use Rattle.port_parts.specs.Places.{is_space_or_return};
 ghost use Rattle.port_compounds.specs.Assigned as specs;
 
-use crate::cut::GuardCut;
 use crate::guards::guard_parts;
 use crate::loops::indent_at;
-use crate::words::{is_of_name, is_one_value, is_variable};
+use port_parts::{GuardCut, is_of_name, is_one_value, is_variable};
 use std::alloc::{AllocError, Global};
 
 /// Returns how many bytes of a variable's name are at the front of a text.

@@ -1,12 +1,51 @@
 //! The parts of an `if`.
 
-ghost use Rattle.std.specs.Prelude.{◌≡◌, [], map, IfOk, IfSome, IsTrue};
+ghost use Rattle.std.specs.Prelude.{◌≡◌, ◌≤◌, [], map, length, IfOk, IfSome, IsTrue};
 ghost use Rattle.port_compounds.specs.Ifs as specs;
 
-use crate::cut::{IfBranch, IfCut};
-use crate::parts::{condition, unclosed_body};
-use crate::places::{is_blank_at, is_statement, is_word};
+use port_parts::{
+    IfBranch, IfCut, after_blanks, are_blank, condition_end, has_hash, is_blank_at, is_list_end,
+    is_plain, is_statement, is_word, unclosed_body,
+};
 use std::alloc::{AllocError, Global};
+
+/// Returns whether between two offsets, which are within two others, is a condition, apart from
+/// what m4 finds in it.
+fn is_condition(text: &[u8], start: usize, end: usize, from: usize, to: usize) -> bool
+    ensures { IsTrue result
+        → specs.IsConditionAt text.now start end from to × (end ≤ length text.now) }
+{
+    start < from
+        && from <= to
+        && to <= end
+        && end <= text.len()
+        && are_blank(&text[start..from])
+        && is_list_end(text, to, end)
+        && !has_hash(&text[from..to])
+}
+
+/// Returns the condition between two offsets, if there is one.
+fn condition<'a>(
+    alloc: Global,
+    text: &'a [u8],
+    start: usize,
+    end: usize,
+) -> Result<Option<&'a [u8]>, AllocError>
+    ensures { IfOk result (λ o.
+        IfSome o (λ c. specs.IsCondition text.now start end c.now × (end ≤ length text.now))) }
+{
+    let from = after_blanks(text, start);
+    let to = condition_end(text, from, end);
+    if !is_condition(text, start, end, from, to) {
+        return Ok(None);
+    }
+    let found = &text[from..to];
+    if is_plain(alloc, found)? {
+        Ok(Some(found))
+    } else {
+        Ok(None)
+    }
+}
 
 /// Returns the body between two offsets, which begins with a blank, if there is one.
 fn body(text: &[u8], start: usize, end: usize) -> Option<&[u8]>

@@ -1,17 +1,14 @@
 //! The parts of a `case`.
 
 ghost use Rattle.std.specs.Prelude.{◌≡◌, ◌≤◌, ◌<◌, ◌+◌, ◌++◌, ◌∷◌, [], ◌⊎◌, map, length, true, false, slice_index, slice_range, codes, IfOk, IfSome, IsTrue, OnOk};
-ghost use Rattle.port_compounds.specs.Parts.{IsBodyOf, IsNotEscaped};
-ghost use Rattle.port_compounds.specs.Places.{AreBlank, AreSpaces};
+ghost use Rattle.port_parts.specs.Parts.{IsBodyOf, IsNotEscaped};
+ghost use Rattle.port_parts.specs.Places.{AreBlank, AreSpaces};
 ghost use Rattle.port_compounds.specs.Cases as specs;
 
-use crate::cut::{CaseBranch, CaseCut};
-use crate::parts::{
-    after_blanks, before_blanks, ends_in_line, has_plain_end, is_after_backslash, is_plain_line,
-    unclosed_body,
-};
-use crate::places::{
-    after_spaces, are_blank, are_spaces, before_spaces, is_blank_at, is_statement, is_word,
+use port_parts::{
+    CaseBranch, CaseCut, after_blanks, after_spaces, are_blank, are_spaces, before_blanks,
+    before_spaces, ends_in_line, has_plain_end, is_after_backslash, is_blank_at, is_plain_line,
+    is_statement, is_word, unclosed_body,
 };
 use std::alloc::{AllocError, Global};
 

@@ -2,16 +2,14 @@
 
 ghost use Rattle.std.specs.Prelude.{◌≡◌, ◌++◌, ◌∷◌, [], ◌≤◌, true, length, slice_range, codes, IfOk, IfSome, IsTrue, OnOk};
 ghost use Rattle.std.specs.List.{list_all};
-ghost use Rattle.port_compounds.specs.Parts.{IsPlainLine};
-ghost use Rattle.port_compounds.specs.Places.{BeginsStatement, EndsStatement};
-ghost use Rattle.port_compounds.specs.Words.{is_value, IsConstant, IsVariable};
+ghost use Rattle.port_parts.specs.Parts.{IsPlainLine};
+ghost use Rattle.port_parts.specs.Places.{BeginsStatement, EndsStatement};
+ghost use Rattle.port_parts.specs.Words.{is_value, IsConstant, IsVariable};
 ghost use Rattle.port_compounds.specs.Defaults as specs;
 
 use crate::assigned::name_length;
-use crate::cut::{DefaultOf, GuardCut};
 use crate::guards::is_own;
-use crate::parts::is_plain_line;
-use crate::words::{are_values, is_constant, is_variable};
+use port_parts::{DefaultOf, GuardCut, are_values, is_constant, is_plain_line, is_variable};
 use std::alloc::{AllocError, Global};
 
 /// Appends the value of a variable, or a word if that is empty.

@@ -3,15 +3,14 @@
 ghost use Rattle.std.specs.Prelude.{◌≡◌, ◌⊎◌, [], map, length, codes, IfOk, IfSome, IsTrue};
 ghost use Rattle.std.specs.List.{list_any};
 ghost use Rattle.m4quote.specs.ItemValue.{view, views};
-ghost use Rattle.port_compounds.specs.Places.{BeginsStatement, EndsStatement};
+ghost use Rattle.port_parts.specs.Places.{BeginsStatement, EndsStatement};
 ghost use Rattle.port_compounds.specs.Guards as specs;
 
-use crate::cut::GuardCut;
-use crate::parts::{after_blanks, is_after_backslash, is_plain_line};
-use crate::places::{
-    are_blank, are_spaces, before_spaces, begins_statement, ends_statement, is_word,
-};
 use m4quote::{Item, QuoteFault, read_items};
+use port_parts::{
+    GuardCut, after_blanks, are_blank, are_spaces, before_spaces, begins_statement, ends_statement,
+    is_after_backslash, is_plain_line, is_word,
+};
 use std::alloc::{AllocError, Global};
 
 /// Returns whether the byte ends a command, or joins it to the next.

@@ -12,33 +12,23 @@
 //! test -n "$a" || b=2                        // test -n "$a", nothing, b=2
 //! ```
 //!
-//! Read `specs/Places` (where a statement may begin and end) and `specs/Parts` first, and then
-//! `specs/Ifs`, `specs/Cases` and `specs/Guards`, which say what the parts are. `specs/Loops` and
-//! `specs/Assigned` say what is written. A call fails only if memory runs out. "own" marks a rule that
+//! Read the definitions of `port_parts` first, and then `specs/Ifs`, `specs/Cases` and `specs/Guards`,
+//! which say what the parts are. `specs/Loops` and `specs/Assigned` say what is written. A call fails only if memory runs out. "own" marks a rule that
 //! no manual gives.
 #![tactic(auto)]
 
 mod assigned;
 mod branches;
 mod cases;
-mod cut;
 mod defaults;
 mod guards;
-mod lines;
 mod loops;
-mod parts;
-mod places;
 mod status;
-mod words;
 
 pub use assigned::assigned_lines;
 pub use branches::if_parts;
 pub use cases::case_parts;
-pub use cut::{CaseBranch, CaseCut, DefaultOf, ForCut, GuardCut, IfBranch, IfCut};
 pub use defaults::{assignment_of, default_of, empty_test};
 pub use guards::guard_parts;
-pub use lines::{has, has_dnl};
 pub use loops::loop_turns;
-pub use parts::is_list_end;
-pub use places::{are_blank, are_spaces, begins_statement, is_word};
 pub use status::reads_status;

@@ -2,16 +2,16 @@
 
 ghost use Rattle.std.specs.Prelude.{◌≡◌, ◌⊎◌, ◌≤◌, ◌<◌, ◌+◌, ◌++◌, ◌∷◌, [], map, length, true, false, slice_index, slice_range, codes, IfOk, IfSome, IsTrue, OnOk};
 ghost use Rattle.std.specs.List.{flat_map, list_all};
-ghost use Rattle.port_compounds.specs.Parts.{HasPlainEnd, IsListEnd, IsPlainLine, IsStatement};
-ghost use Rattle.port_compounds.specs.Places.{is_space_or_return, AreBlank, AreSpaces, IsWord};
-ghost use Rattle.port_compounds.specs.Words.{IsConstant, IsVariable};
+ghost use Rattle.port_parts.specs.Parts.{HasPlainEnd, IsListEnd, IsPlainLine, IsStatement};
+ghost use Rattle.port_parts.specs.Places.{is_space_or_return, AreBlank, AreSpaces, IsWord};
+ghost use Rattle.port_parts.specs.Words.{IsConstant, IsVariable};
 ghost use Rattle.port_compounds.specs.Loops as specs;
 
-use crate::cut::ForCut;
-use crate::lines::{has, line_start};
-use crate::parts::{after_blanks, condition_end, has_plain_end, is_list_end, is_plain_line};
-use crate::places::{after_spaces, are_blank, are_spaces, before_spaces, is_statement, is_word};
-use crate::words::{is_constant, is_value, is_variable};
+use port_parts::{
+    ForCut, after_blanks, after_spaces, are_blank, are_spaces, before_spaces, condition_end, has,
+    has_plain_end, is_constant, is_list_end, is_plain_line, is_statement, is_value, is_variable,
+    is_word, line_start,
+};
 use std::alloc::{AllocError, Global};
 
 /// How many words a `for` has at most whose turns are written out.

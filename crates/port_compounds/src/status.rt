@@ -3,8 +3,8 @@
 ghost use Rattle.std.specs.Prelude.{◌≡◌, ◌≤◌, ◌+◌, false, length};
 ghost use Rattle.port_compounds.specs.Guards as specs;
 
-use crate::lines::has_at;
-use crate::places::is_blank_or_return;
+use port_parts::has_at;
+use text_cut::is_blank_or_return;
 
 /// Returns whether an option may begin with the byte, or the byte may be before one.
 fn may_begin_option(byte: u8) -> bool

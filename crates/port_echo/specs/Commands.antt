@@ -1,7 +1,7 @@
 -- A command of a shell on a line of its own. The offsets are those of the text. All of this is own.
 use Rattle.std.specs.Prelude.{◌≡◌, ◌⊎◌, ℕ, ◌-◌, ◌<◌, ◌≤◌, ◌==◌, Bool, false, List, ◌∷◌, [], ◌++◌, length, slice_index, slice_range, codes}
 use Rattle.std.specs.List.{list_any}
-use Rattle.port_compounds.specs.Places.{AreSpaces}
+use Rattle.port_parts.specs.Places.{AreSpaces}
 use Rattle.port_echo.specs.Echo.{Prints}
 
 -- Between the first and the last of these offsets is a line, which has only spaces, and this command at offset `at`.

@@ -1,7 +1,7 @@
 -- The `echo` of a shell on a line of its own, and what it prints. The offsets are those of the text.
 use Rattle.std.specs.Prelude.{◌≡◌, ◌⊎◌, ℕ, ◌+◌, ◌-◌, ◌<◌, ◌≤◌, ◌==◌, ◌||◌, ◌&&◌, nat_lt, not, Bool, true, List, [], ◌∷◌, ◌++◌, length, slice_index, slice_range, codes}
 use Rattle.std.specs.List.{list_all}
-use Rattle.port_compounds.specs.Places.{AreSpaces, HasDnl, IsWord}
+use Rattle.port_parts.specs.Places.{AreSpaces, HasDnl, IsWord}
 
 -- ---- what is printed
 

@@ -4,7 +4,7 @@ ghost use Rattle.std.specs.Prelude.{◌≡◌, ◌++◌, ◌∷◌, [], codes, I
 ghost use Rattle.port_echo.specs.Commands as specs;
 
 use crate::line::{begins_line, ends_line};
-use port_compounds::are_spaces;
+use port_parts::are_spaces;
 
 /// Returns the command of a line. The line is between the first and the last of three offsets, and
 /// the command is at the second one, after spaces alone. If it is another line, returns `None`.

@@ -4,7 +4,7 @@ ghost use Rattle.std.specs.Prelude.{◌≡◌, ◌⊎◌, ◌<◌, ◌-◌, leng
 ghost use Rattle.port_echo.specs.Echo as specs;
 
 use crate::printed::message_of;
-use port_compounds::{are_spaces, is_word};
+use port_parts::{are_spaces, is_word};
 
 /// Returns whether a line begins at an offset.
 pub(crate) fn begins_line(text: &[u8], at: usize) -> bool

@@ -5,7 +5,7 @@ ghost use Rattle.std.specs.List.{list_all, list_any};
 ghost use Rattle.port_echo.specs.Commands as words;
 ghost use Rattle.port_echo.specs.Echo as specs;
 
-use port_compounds::has_dnl;
+use port_parts::has_dnl;
 
 fn is_shown(byte: u8) -> bool
     ensures { result ≡ specs.is_shown byte }

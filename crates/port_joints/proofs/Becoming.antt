@@ -10,7 +10,7 @@ use Rattle.shellword.specs.declared.element.Element.{Element}
 use Rattle.shellword.specs.declared.token.Joint.{Joint}
 use Rattle.port_joints.specs.Joints.{HaveBecome, Becomes, BecomesIf, AllBecome, AreGaps, IsBegun, IsRejoined, IsOneTest, IsComparison, IsOperand, is_comparison, is_gap}
 use Rattle.port_joints.specs.Joints as specs
-use Rattle.port_compounds.specs.Places.{IsWord}
+use Rattle.port_parts.specs.Places.{IsWord}
 
 -- What follows from what an `Ok` says holds of the `Ok`.
 pub on_ok : {T E P Q : Type 0} → (P → Q) → (r : Result T E) → OnOk r P → OnOk r Q

@@ -3,7 +3,7 @@ use Rattle.std.proofs.Common.{◌≡◌, ℕ, ◌<◌, ◌≤◌, List, ◌++◌
 use Rattle.std.specs.List.{list_any}
 use Rattle.shellword.specs.Test.{IsTest}
 use Rattle.shellword.specs.Truth.{Joined}
-use Rattle.port_compounds.specs.Places.{IsWord}
+use Rattle.port_parts.specs.Places.{IsWord}
 use Rattle.port_joints.specs.Joints.{Becomes}
 use Rattle.port_joints.specs.Spelled.{IsSpelled, Spells, IsNumberAt, IsReadable, IsRespelled, is_open_after, is_hard}
 use Rattle.port_joints.specs.Spelled as specs

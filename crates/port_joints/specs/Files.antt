@@ -3,7 +3,7 @@
 use Rattle.std.specs.Prelude.{◌≡◌, ◌⊎◌, ℕ, ◌+◌, ◌<◌, ◌≤◌, ◌==◌, ◌||◌, Bool, true, false, List, [], ◌∷◌, ◌++◌, length, take, slice_range, slice_index, codes, if◌then◌else◌}
 use Rattle.std.specs.List.{list_all, list_any}
 use Rattle.std.specs.Char.{is_ascii_alphanumeric}
-use Rattle.port_compounds.specs.Places.{IsWord}
+use Rattle.port_parts.specs.Places.{IsWord}
 use Rattle.port_joints.specs.Joints.{is_gap}
 use Rattle.port_joints.specs.Spelled.{is_hard, is_open_after, IsReadable}
 

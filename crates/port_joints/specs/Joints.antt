@@ -9,7 +9,7 @@ use Rattle.shellword.specs.Truth.{single}
 use Rattle.shellword.specs.declared.element.Condition.{Condition}
 use Rattle.shellword.specs.declared.element.Condition.TheVariants.{True, False, Nonempty, Empty, Equal, Different}
 use Rattle.shellword.specs.declared.element.Element.{Element}
-use Rattle.port_compounds.specs.Places.{IsWord}
+use Rattle.port_parts.specs.Places.{IsWord}
 
 -- ---- operands
 

@@ -4,7 +4,7 @@ use Rattle.std.specs.Prelude.{◌≡◌, ◌⊎◌, ℕ, ◌+◌, ◌<◌, ◌�
 use Rattle.std.specs.List.{list_all, list_any}
 use Rattle.shellword.specs.Test.{IsTest}
 use Rattle.shellword.specs.Truth.{Joined}
-use Rattle.port_compounds.specs.Places.{IsWord}
+use Rattle.port_parts.specs.Places.{IsWord}
 use Rattle.port_joints.specs.Joints.{Becomes, is_gap}
 
 -- Whether a double quote is open after this text, if one is open before it or not. (POSIX shell, 2.2.3)

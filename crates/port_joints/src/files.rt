@@ -2,14 +2,14 @@
 
 ghost use Rattle.std.specs.Prelude.{◌≡◌, ◌⊎◌, ◌++◌, ◌+◌, ◌<◌, ◌≤◌, ◌∷◌, [], true, false, length, take, slice_index, slice_range, codes, IfOk, IfSome, IsTrue, OnOk};
 ghost use Rattle.std.specs.List.{list_all, list_any};
-ghost use Rattle.port_compounds.specs.Places.{IsWord};
+ghost use Rattle.port_parts.specs.Places.{IsWord};
 ghost use Rattle.port_joints.specs.Joints as joints;
 ghost use Rattle.port_joints.specs.Spelled.{IsReadable, is_hard, is_open_after};
 ghost use Rattle.port_joints.specs.Files as specs;
 
 use crate::joints::is_gap;
 use crate::spelled::{LONGEST, ends_word, has_hard, is_outside, is_readable};
-use port_compounds::is_word;
+use port_parts::is_word;
 use std::alloc::{AllocError, Global};
 
 /// Where a test of a file is in a condition.

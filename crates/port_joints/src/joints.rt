@@ -3,10 +3,10 @@
 ghost use Rattle.std.specs.Prelude.{◌≡◌, ◌++◌, ◌+◌, ◌-◌, ◌≤◌, true, false, length, slice_index, slice_range, codes, IfOk, IfSome, IsTrue, OnOk};
 ghost use Rattle.std.specs.List.{list_all, list_any};
 ghost use Rattle.shellword.specs.Test.{IsTest};
-ghost use Rattle.port_compounds.specs.Places.{IsWord};
+ghost use Rattle.port_parts.specs.Places.{IsWord};
 ghost use Rattle.port_joints.specs.Joints as specs;
 
-use port_compounds::is_word;
+use port_parts::is_word;
 use shellword::{Condition, ShellFault, Test, read_test};
 use std::alloc::{AllocError, Global};
 

@@ -3,14 +3,14 @@
 ghost use Rattle.std.specs.Prelude.{◌≡◌, ◌⊎◌, ◌++◌, ◌+◌, ◌<◌, ◌≤◌, true, false, length, take, drop, slice_index, slice_range, codes, IfOk, IfSome, IsTrue, OnOk};
 ghost use Rattle.std.specs.List.{list_all, list_any};
 ghost use Rattle.shellword.specs.Test.{IsTest};
-ghost use Rattle.port_compounds.specs.Places.{IsWord};
+ghost use Rattle.port_parts.specs.Places.{IsWord};
 ghost use Rattle.port_joints.specs.Joints.{Becomes};
 ghost use Rattle.port_joints.specs.Joints as joints;
 ghost use Rattle.port_joints.specs.Spelled as specs;
 
 use crate::conditions::condition_text;
 use crate::joints::{has_word, is_gap};
-use port_compounds::is_word;
+use port_parts::is_word;
 use shellword::{ShellFault, Test, read_test};
 use std::alloc::{AllocError, Global};
 

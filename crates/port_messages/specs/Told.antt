@@ -2,7 +2,7 @@
 use Rattle.std.specs.Prelude.{◌≡◌, ◌⊎◌, ℕ, ◌+◌, ◌<◌, ◌≤◌, ◌==◌, ◌||◌, nat_lt, ◌&&◌, Bool, true, false, List, [], ◌∷◌, ◌++◌, length, flat_map, slice_index, slice_range, codes, if◌then◌else◌}
 use Rattle.std.specs.List.{list_all}
 use Rattle.std.specs.Char.{is_ascii_alphanumeric}
-use Rattle.port_compounds.specs.Places.{AreSpaces, IsWord}
+use Rattle.port_parts.specs.Places.{AreSpaces, IsWord}
 use Rattle.port_echo.specs.Echo.{IsEcho, IsMessage, Prints}
 use Rattle.port_echo.specs.Commands.{IsCommandLine, IsBlankEcho, IsOneWord}
 use Rattle.lint_errors.specs.Errors.{IsAccepted}

@@ -8,7 +8,7 @@ use crate::passing::{is_rewritten, told_alone};
 use ac_calls::calls_of;
 use lint_text::{line_end, line_start, part};
 use port_breaks::{broken, command_at};
-use port_compounds::are_spaces;
+use port_parts::are_spaces;
 use port_statements::{StatementCut, cuts_in};
 use std::alloc::{AllocError, Global};
 

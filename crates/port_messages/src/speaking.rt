@@ -11,8 +11,8 @@ ghost use Rattle.port_messages.specs.Told as specs;
 
 use crate::noting::{noted_so, rest_after};
 use lint_text::part;
-use port_compounds::{are_spaces, is_word};
 use port_echo::message_of;
+use port_parts::{are_spaces, is_word};
 use port_put::{Pass, accepted_call, write_change};
 use std::alloc::{AllocError, Global};
 use text_cut::is_space;

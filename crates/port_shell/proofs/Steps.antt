@@ -2,7 +2,7 @@
 use Rattle.std.proofs.Common.{◌≡◌, ℕ, ◌≤◌, ◌<◌, List, [], ◌∷◌, ◌++◌, length, get_or, Result, Ok, Err, is_ok, OnOk, if◌then◌else◌, slice_range, sym, subst, ◌∙◌, append_assoc, Option, Some, arith}
 use Rattle.std.specs.Prelude.{All, IfSome}
 use Rattle.std.proofs.lemmas.List.Elements.{All-get_or}
-use Rattle.port_compounds.specs.Places.{EndsStatement}
+use Rattle.port_parts.specs.Places.{EndsStatement}
 use Rattle.port_idioms.specs.declared.idioms.Idioms.{Idioms}
 use Rattle.port_statements.specs.Statements.{MayBegin}
 use Rattle.port_shell.specs.Formed.{IsPass, IsChoice, IsFormed, IsNote, MayPut}

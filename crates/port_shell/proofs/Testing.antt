@@ -7,7 +7,7 @@ use Rattle.ac_calls.specs.declared.call.CallAt.{CallAt}
 use Rattle.ac_calls.specs.Calls.{MacroCall, macro_call_of}
 use Rattle.std.specs.List.{list_all}
 use Rattle.port_compounds.specs.Guards.{IsGuarded}
-use Rattle.port_compounds.specs.Places.{is_space_or_return}
+use Rattle.port_parts.specs.Places.{is_space_or_return}
 use Rattle.port_idioms.specs.declared.idioms.Idioms.{Idioms}
 use Rattle.port_idioms.specs.declared.idioms.Idioms.TheVariants.{All}
 use Rattle.port_joints.specs.Files.{program_of}

@@ -10,8 +10,8 @@ use Rattle.port_compounds.specs.Defaults.{IsDefaulting, assignment, empty_test}
 use Rattle.port_compounds.specs.Guards.{IsGuarded, ReadsStatus}
 use Rattle.port_compounds.specs.Ifs.{IsIf}
 use Rattle.port_compounds.specs.Loops.{IsWrittenOut}
-use Rattle.port_compounds.specs.Parts.{IsListEnd}
-use Rattle.port_compounds.specs.Places.{is_space_or_return, AreBlank, IsWord, BeginsStatement}
+use Rattle.port_parts.specs.Parts.{IsListEnd}
+use Rattle.port_parts.specs.Places.{is_space_or_return, AreBlank, IsWord, BeginsStatement}
 use Rattle.port_idioms.specs.declared.idioms.Idioms.{Idioms}
 use Rattle.port_idioms.specs.declared.idioms.Idioms.TheVariants.{All}
 use Rattle.port_joints.specs.Files.{HasPart, IsFileTest, IsTestOfFiles, program_of, with_answer}

@@ -3,7 +3,7 @@
 ghost use Rattle.std.specs.Prelude.{◌≡◌, ◌≤◌, ◌<◌, ◌+◌, ◌++◌, true, false, map, length, slice_range, codes, Contains, IfOk, IfSome, OnOk, IsTrue};
 ghost use Rattle.std.specs.List.{list_all};
 ghost use Rattle.ac_calls.specs.Calls.{calls_in, macro_call_of};
-ghost use Rattle.port_compounds.specs.Places.{is_space_or_return, IsWord};
+ghost use Rattle.port_parts.specs.Places.{is_space_or_return, IsWord};
 ghost use Rattle.port_idioms.specs.declared.idioms.Idioms.TheVariants.{All};
 ghost use Rattle.port_joints.specs.Files as files;
 ghost use Rattle.port_put.specs.Calls.{IsPut};
@@ -13,9 +13,9 @@ ghost use Rattle.port_shell.specs.Formed as specs;
 use crate::conditions::{ConditionPlace, is_in_bare};
 use ac_calls::CallAt;
 use lint_text::{line_start, part, without_end_blanks};
-use port_compounds::{are_spaces, begins_statement, is_word};
 use port_idioms::Idioms;
 use port_joints::{FileCut, file_test, has_part, is_test_of_files, program_of, with_answer};
+use port_parts::{are_spaces, begins_statement, is_word};
 use port_put::{Pass, accepted_call, write_change};
 use std::alloc::{AllocError, Global};
 

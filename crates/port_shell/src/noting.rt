@@ -2,12 +2,12 @@
 
 ghost use Rattle.std.specs.Prelude.{◌≡◌, true, IfOk, IfSome};
 ghost use Rattle.std.specs.List.{list_all};
-ghost use Rattle.port_compounds.specs.Places.{is_space_or_return};
+ghost use Rattle.port_parts.specs.Places.{is_space_or_return};
 ghost use Rattle.port_shell.specs.Formed as specs;
 
 use lint_text::{line_start, part};
-use port_compounds::are_spaces;
 use port_idioms::Idioms;
+use port_parts::are_spaces;
 use port_statements::draws;
 use std::alloc::{AllocError, Global};
 

@@ -12,10 +12,11 @@ ghost use Rattle.port_shell.specs.Formed as specs;
 
 use deftable::Bytes;
 use port_compounds::{
-    CaseCut, DefaultOf, ForCut, GuardCut, IfCut, assigned_lines, assignment_of, case_parts,
-    default_of, empty_test, guard_parts, if_parts, loop_turns,
+    assigned_lines, assignment_of, case_parts, default_of, empty_test, guard_parts, if_parts,
+    loop_turns,
 };
 use port_joints::joined_texts;
+use port_parts::{CaseCut, DefaultOf, ForCut, GuardCut, IfCut};
 use port_put::{accepted_call, is_accepted};
 use port_statements::StatementCut;
 use std::alloc::{AllocError, Global};

@@ -2,7 +2,7 @@
 
 use crate::cut::{Obstacle, StatementCut};
 use crate::words::ShellWord;
-use port_compounds::{CaseBranch, CaseCut, ForCut, IfBranch, IfCut};
+use port_parts::{CaseBranch, CaseCut, ForCut, IfBranch, IfCut};
 use std::alloc::{AllocError, Global};
 
 /// What a compound statement is.

@@ -4,7 +4,7 @@ use crate::compound::{Beginning, Compound, ConstructKind, OpenPart};
 use crate::cut::{Kept, Obstacle, StatementCut};
 use crate::words::{ShellWord, Sign};
 use lint_text::from;
-use port_compounds::{CaseBranch, GuardCut};
+use port_parts::{CaseBranch, GuardCut};
 use std::alloc::{AllocError, Global};
 
 /// The compound statements that are open, and those that were found.

@@ -3,7 +3,7 @@
 ghost use Rattle.std.specs.Prelude.{◌≡◌};
 ghost use Rattle.port_statements.specs.Statements as specs;
 
-use port_compounds::{CaseCut, ForCut, GuardCut, IfCut};
+use port_parts::{CaseCut, ForCut, GuardCut, IfCut};
 
 /// A statement by the offsets of its words.
 #[derive(Drop)]

@@ -1,5 +1,5 @@
 use Rattle.std.proofs.Common.{rules}
-use Rattle.port_compounds.specs.Places.{AreSpaces}
+use Rattle.port_parts.specs.Places.{AreSpaces}
 use Rattle.port_breaks.specs.Breaks as specs
 use Rattle.port_breaks.proofs.breaks.may_break_before.Goals as goal
 

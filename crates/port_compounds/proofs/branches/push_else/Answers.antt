@@ -1,6 +1,6 @@
 use Rattle.std.proofs.Common.{refl}
 use Rattle.port_compounds.specs.Ifs as specs
-use Rattle.port_compounds.proofs.Steps.{on_true}
+use Rattle.port_parts.proofs.Steps.{on_true}
 use Rattle.port_compounds.proofs.branches.push_else.Goals as goal
 
 pub returns : goal.returns

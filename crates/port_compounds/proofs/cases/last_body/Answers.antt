@@ -1,6 +1,6 @@
 use Rattle.std.proofs.Common.{refl}
 use Rattle.port_compounds.specs.Cases as specs
-use Rattle.port_compounds.proofs.Steps.{on_some}
+use Rattle.port_parts.proofs.Steps.{on_some}
 use Rattle.port_compounds.proofs.cases.last_body.Goals as goal
 
 pub returns-then-are_blank_to : goal.returns-then-are_blank_to

@@ -1,5 +1,5 @@
 use Rattle.port_compounds.specs.Loops as specs
-use Rattle.port_compounds.proofs.Steps.{on_true}
+use Rattle.port_parts.proofs.Steps.{on_true}
 use Rattle.port_compounds.proofs.loops.push_next.Goals as goal
 
 pub returns : goal.returns

@@ -1,6 +1,6 @@
 use Rattle.std.proofs.Common.{refl, subst, sym}
 use Rattle.std.specs.Prelude.{codes}
-use Rattle.port_compounds.specs.Places.{Has}
+use Rattle.port_parts.specs.Places.{Has}
 use Rattle.port_compounds.proofs.loops.without_cache.Goals as goal
 
 pub returns-else-has : goal.returns-else-has

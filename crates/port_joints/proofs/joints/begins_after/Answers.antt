@@ -1,5 +1,5 @@
 use Rattle.std.proofs.Common.{refl}
-use Rattle.port_compounds.proofs.Steps.{on_true}
+use Rattle.port_parts.proofs.Steps.{on_true}
 use Rattle.port_joints.specs.Joints as specs
 use Rattle.port_joints.proofs.joints.begins_after.Goals as goal
 

@@ -1,4 +1,4 @@
-use Rattle.port_compounds.proofs.Steps.{on_true}
+use Rattle.port_parts.proofs.Steps.{on_true}
 use Rattle.port_joints.proofs.joints.is_operand_begun.Goals as goal
 
 pub returns : goal.returns

@@ -3,7 +3,7 @@ use Rattle.std.specs.Prelude.{◌≡◌, ◌⊎◌, ℕ, ◌-◌, ◌+◌, ◌<�
 use Rattle.std.specs.List.{list_any}
 use Rattle.m4quote.specs.ItemValue.{bare}
 use Rattle.m4quote.specs.Spelling.{IsSpelling}
-use Rattle.port_compounds.specs.Places.{AreBlank, AreSpaces, BeginsStatement, EndsStatement, HasDnl, HasNoHash, IsWord, KeepsNewline}
+use Rattle.port_parts.specs.Places.{AreBlank, AreSpaces, BeginsStatement, EndsStatement, HasDnl, HasNoHash, IsWord, KeepsNewline}
 
 -- The byte is a newline. (own)
 abbrev pub is_newline : ℕ → Bool

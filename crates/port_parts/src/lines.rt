@@ -2,19 +2,19 @@
 
 ghost use Rattle.std.specs.Prelude.{◌≡◌, ◌⊎◌, ◌≤◌, ◌<◌, ◌+◌, ◌-◌, false, length, slice_index, slice_range, codes, IfSome, IsTrue};
 ghost use Rattle.std.specs.List.{list_any};
-ghost use Rattle.port_compounds.specs.Places as specs;
+ghost use Rattle.port_parts.specs.Places as specs;
 
 use crate::places::{after_spaces, are_spaces};
 
 /// Returns whether the text has a `#`.
-pub(crate) fn has_hash(text: &[u8]) -> bool
+pub fn has_hash(text: &[u8]) -> bool
     ensures { result ≡ list_any specs.is_hash text.now }
 {
     text.iter().any(|byte| *byte == b'#')
 }
 
 /// Returns whether a word is at an offset.
-pub(crate) fn has_at(text: &[u8], at: usize, word: &[u8]) -> bool
+pub fn has_at(text: &[u8], at: usize, word: &[u8]) -> bool
     requires { at ≤ length text.now }
     ensures yes { IsTrue result → specs.IsWord text.now at word.now (at + length word.now) }
     ensures no { result ≡ false → specs.IsWord text.now at word.now (at + length word.now) → ⊥ }
@@ -42,7 +42,7 @@ pub fn has_dnl(text: &[u8]) -> bool
 }
 
 /// Returns the offset after the last newline between two offsets, or the first offset.
-pub(crate) fn line_start(text: &[u8], start: usize, at: usize) -> usize {
+pub fn line_start(text: &[u8], start: usize, at: usize) -> usize {
     for i in (start..at.min(text.len())).rev() {
         if text[i] == b'\n' {
             return i.saturating_add(1);

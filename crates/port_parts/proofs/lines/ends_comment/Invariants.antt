@@ -1,5 +1,5 @@
-use Rattle.port_compounds.specs.Places.{EndsComment}
-use Rattle.port_compounds.proofs.lines.ends_comment.Given as goal
+use Rattle.port_parts.specs.Places.{EndsComment}
+use Rattle.port_parts.proofs.lines.ends_comment.Given as goal
 
 abbrev pub invariant-loop : goal.invariant-loop
 invariant-loop l = EndsComment l.text l.at → EndsComment l.text l.newline

@@ -4,9 +4,8 @@ ghost use Rattle.std.specs.Prelude.{◌≡◌, ◌⊎◌, ◌≤◌, ◌<◌, �
 ghost use Rattle.std.specs.List.{list_any};
 ghost use Rattle.m4quote.specs.ItemValue.{bare, view, views};
 ghost use Rattle.m4quote.specs.Spelling.{IsSpelling};
-ghost use Rattle.port_compounds.specs.Ifs as ifs;
-ghost use Rattle.port_compounds.specs.Parts as specs;
-ghost use Rattle.port_compounds.specs.Places.{AreSpaces};
+ghost use Rattle.port_parts.specs.Parts as specs;
+ghost use Rattle.port_parts.specs.Places.{AreSpaces};
 
 use crate::lines::{has_dnl, has_hash, has_no_hash, keeps_newline, line_start};
 use crate::places::{after_spaces, are_blank, are_spaces, before_spaces, is_blank_or_return};
@@ -21,7 +20,7 @@ fn has_newline(text: &[u8]) -> bool
 }
 
 /// Returns whether a backslash is right before an offset.
-pub(crate) fn is_after_backslash(text: &[u8], at: usize) -> bool
+pub fn is_after_backslash(text: &[u8], at: usize) -> bool
     ensures { result ≡ false → specs.IsNotEscaped text.now at }
 {
     let before = at.saturating_sub(1);
@@ -80,7 +79,11 @@ fn is_bare(item: &Item<'_>, text: &[u8]) -> bool
 }
 
 /// Returns whether m4 finds neither a macro nor `dnl` in a text.
-fn is_plain(alloc: Global, text: &[u8]) -> Result<bool, AllocError>
+///
+/// # Errors
+///
+/// Fails only if memory runs out.
+pub fn is_plain(alloc: Global, text: &[u8]) -> Result<bool, AllocError>
     ensures { IfOk result (λ b. IsTrue b → IsSpelling 0 text.now (bare text.now 0 ∷ [])) }
 {
     match read_items(alloc, text) {
@@ -99,7 +102,11 @@ fn are_bare(items: &[Item<'_>], text: &[u8]) -> bool
 
 /// Returns whether the text is on one line and has no `#`, and m4 finds neither a macro nor `dnl`
 /// in it.
-pub(crate) fn is_plain_line(alloc: Global, text: &[u8]) -> Result<bool, AllocError>
+///
+/// # Errors
+///
+/// Fails only if memory runs out.
+pub fn is_plain_line(alloc: Global, text: &[u8]) -> Result<bool, AllocError>
     ensures { IfOk result (λ b. IsTrue b → specs.IsPlainLine text.now) }
 {
     if has_newline(text) || has_hash(text) {
@@ -108,23 +115,8 @@ pub(crate) fn is_plain_line(alloc: Global, text: &[u8]) -> Result<bool, AllocErr
     is_plain(alloc, text)
 }
 
-/// Returns whether between two offsets, which are within two others, is a condition, apart from
-/// what m4 finds in it.
-fn is_condition(text: &[u8], start: usize, end: usize, from: usize, to: usize) -> bool
-    ensures { IsTrue result
-        → ifs.IsConditionAt text.now start end from to × (end ≤ length text.now) }
-{
-    start < from
-        && from <= to
-        && to <= end
-        && end <= text.len()
-        && are_blank(&text[start..from])
-        && is_list_end(text, to, end)
-        && !has_hash(&text[from..to])
-}
-
 /// Returns the offset after the blanks at an offset.
-pub(crate) fn after_blanks(text: &[u8], at: usize) -> usize {
+pub fn after_blanks(text: &[u8], at: usize) -> usize {
     for i in at..text.len() {
         if !is_blank_or_return(text[i]) {
             return i;
@@ -134,7 +126,7 @@ pub(crate) fn after_blanks(text: &[u8], at: usize) -> usize {
 }
 
 /// Returns the offset of the blanks before an offset, but none before `start`.
-pub(crate) fn before_blanks(text: &[u8], start: usize, at: usize) -> usize {
+pub fn before_blanks(text: &[u8], start: usize, at: usize) -> usize {
     for i in (start..at.min(text.len())).rev() {
         if !is_blank_or_return(text[i]) {
             return i.saturating_add(1);
@@ -145,35 +137,12 @@ pub(crate) fn before_blanks(text: &[u8], start: usize, at: usize) -> usize {
 
 /// Returns the offset after a condition that ends before `end`, but not before `start`: that of the
 /// blanks and the `;` before `end`.
-pub(crate) fn condition_end(text: &[u8], start: usize, end: usize) -> usize {
+pub fn condition_end(text: &[u8], start: usize, end: usize) -> usize {
     let to = before_blanks(text, start, end);
     if to > start && text.get(to.saturating_sub(1)) == Some(&b';') {
         before_blanks(text, start, to.saturating_sub(1))
     } else {
         to
-    }
-}
-
-/// Returns the condition between two offsets, if there is one.
-pub(crate) fn condition<'a>(
-    alloc: Global,
-    text: &'a [u8],
-    start: usize,
-    end: usize,
-) -> Result<Option<&'a [u8]>, AllocError>
-    ensures { IfOk result (λ o.
-        IfSome o (λ c. ifs.IsCondition text.now start end c.now × (end ≤ length text.now))) }
-{
-    let from = after_blanks(text, start);
-    let to = condition_end(text, from, end);
-    if !is_condition(text, start, end, from, to) {
-        return Ok(None);
-    }
-    let found = &text[from..to];
-    if is_plain(alloc, found)? {
-        Ok(Some(found))
-    } else {
-        Ok(None)
     }
 }
 
@@ -221,7 +190,7 @@ fn is_plain_from(text: &[u8], line: usize) -> bool
 }
 
 /// Returns whether the last line of a text has neither a `#` nor `dnl`.
-pub(crate) fn has_plain_end(text: &[u8]) -> bool
+pub fn has_plain_end(text: &[u8]) -> bool
     ensures { IsTrue result → specs.HasPlainEnd text.now }
 {
     let line = match text.iter().rposition(|byte| *byte == b'\n') {
@@ -257,7 +226,7 @@ fn is_line_start(text: &[u8], start: usize, newline: usize, end: usize) -> bool
 }
 
 /// Returns whether a body between two offsets ends in the newline of its last line.
-pub(crate) fn ends_in_line(text: &[u8], start: usize, end: usize) -> bool
+pub fn ends_in_line(text: &[u8], start: usize, end: usize) -> bool
     ensures { IsTrue result → specs.IsAtLineStart text.now start end }
 {
     let newline = before_spaces(text, start, end).saturating_sub(1);
@@ -266,7 +235,7 @@ pub(crate) fn ends_in_line(text: &[u8], start: usize, end: usize) -> bool
 
 /// Returns whether a `;` is after a body between two offsets, whose last line has neither a `#` nor
 /// `dnl`, before a third one.
-pub(crate) fn ends_in_semicolon(text: &[u8], from: usize, to: usize, end: usize) -> bool
+fn ends_in_semicolon(text: &[u8], from: usize, to: usize, end: usize) -> bool
     ensures { IsTrue result → specs.IsBeforeSemicolon text.now from to end }
 {
     from <= to
@@ -278,7 +247,7 @@ pub(crate) fn ends_in_semicolon(text: &[u8], from: usize, to: usize, end: usize)
 
 /// Returns the offset of the `;` and of the spaces around it that are before an offset, but not
 /// before `start`.
-pub(crate) fn semicolon_start(text: &[u8], start: usize, end: usize) -> usize {
+fn semicolon_start(text: &[u8], start: usize, end: usize) -> usize {
     let to = before_spaces(text, start, end).saturating_sub(1).max(start);
     before_spaces(text, start, to)
 }
@@ -298,7 +267,7 @@ fn is_last(text: &[u8], start: usize, from: usize, to: usize, end: usize) -> boo
 }
 
 /// Returns the body between two offsets that has no `;;` after it, if there is one.
-pub(crate) fn unclosed_body(text: &[u8], start: usize, end: usize) -> Option<&[u8]>
+pub fn unclosed_body(text: &[u8], start: usize, end: usize) -> Option<&[u8]>
     ensures { IfSome result (λ b. specs.IsBodyOf specs.EndsLast text.now start end b.now) }
 {
     let from = after_spaces(text, start);

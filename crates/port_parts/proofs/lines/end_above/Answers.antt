@@ -1,7 +1,7 @@
 use Rattle.std.proofs.Common.{refl, subst}
-use Rattle.port_compounds.specs.Places as specs
-use Rattle.port_compounds.proofs.Steps.{on_some}
-use Rattle.port_compounds.proofs.lines.end_above.Goals as goal
+use Rattle.port_parts.specs.Places as specs
+use Rattle.port_parts.proofs.Steps.{on_some}
+use Rattle.port_parts.proofs.lines.end_above.Goals as goal
 
 pub returns : goal.returns
 returns c =

@@ -2,14 +2,14 @@
 
 ghost use Rattle.std.specs.Prelude.{◌≡◌, ◌⊎◌, ◌-◌, ◌<◌, ◌≤◌, true, false, length, slice_index, codes, IsTrue};
 ghost use Rattle.std.specs.List.{list_all};
-ghost use Rattle.port_compounds.specs.Parts.{IsStatement};
-ghost use Rattle.port_compounds.specs.Places as specs;
+ghost use Rattle.port_parts.specs.Parts.{IsStatement};
+ghost use Rattle.port_parts.specs.Places as specs;
 
 use crate::lines::ends_comment;
 pub(crate) use text_cut::{is_blank_or_return, is_space_or_return};
 
 /// Returns whether a blank is at an offset.
-pub(crate) fn is_blank_at(text: &[u8], at: usize) -> bool
+pub fn is_blank_at(text: &[u8], at: usize) -> bool
     ensures { IsTrue result → specs.is_blank_or_return (slice_index text.now at) ≡ true }
 {
     at < text.len() && is_blank_or_return(text[at])
@@ -37,7 +37,7 @@ pub fn is_word(text: &[u8], start: usize, word: &[u8], end: usize) -> bool
 }
 
 /// Returns the offset after the spaces that are at an offset.
-pub(crate) fn after_spaces(text: &[u8], at: usize) -> usize {
+pub fn after_spaces(text: &[u8], at: usize) -> usize {
     for i in at..text.len() {
         if !is_space_or_return(text[i]) {
             return i;
@@ -47,7 +47,7 @@ pub(crate) fn after_spaces(text: &[u8], at: usize) -> usize {
 }
 
 /// Returns the offset of the spaces before an offset, but none before `start`.
-pub(crate) fn before_spaces(text: &[u8], start: usize, at: usize) -> usize {
+pub fn before_spaces(text: &[u8], start: usize, at: usize) -> usize {
     for i in (start..at.min(text.len())).rev() {
         if !is_space_or_return(text[i]) {
             return i.saturating_add(1);
@@ -142,7 +142,7 @@ fn is_comment(text: &[u8], at: usize) -> bool
 }
 
 /// Returns whether a statement ends at an offset, or after the spaces after it.
-pub(crate) fn ends_statement(text: &[u8], end: usize) -> bool
+pub fn ends_statement(text: &[u8], end: usize) -> bool
     ensures { IsTrue result → specs.EndsStatement text.now end }
 {
     let to = after_spaces(text, end);
@@ -155,7 +155,7 @@ pub(crate) fn ends_statement(text: &[u8], end: usize) -> bool
 
 /// Returns whether a statement of its own may be between two offsets, which ends in a word at a
 /// third one.
-pub(crate) fn is_statement(text: &[u8], start: usize, last: &[u8], at: usize, end: usize) -> bool
+pub fn is_statement(text: &[u8], start: usize, last: &[u8], at: usize, end: usize) -> bool
     ensures { IsTrue result → IsStatement text.now start last.now at end }
 {
     is_word(text, at, last, end) && begins_statement(text, start) && ends_statement(text, end)

@@ -2,10 +2,10 @@
 
 ghost use Rattle.std.specs.Prelude.{◌≡◌, ◌<◌, ◌≤◌, ◌-◌, true, false, length, slice_index, slice_range, IsTrue};
 ghost use Rattle.std.specs.List.{list_all, list_any};
-ghost use Rattle.port_compounds.specs.Words as specs;
+ghost use Rattle.port_parts.specs.Words as specs;
 
 /// Returns whether a byte may be in the name of a variable.
-pub(crate) fn is_of_name(byte: u8) -> bool
+pub fn is_of_name(byte: u8) -> bool
     ensures { result ≡ specs.is_of_name byte }
 {
     byte.is_ascii_alphanumeric() || byte == b'_'
@@ -27,7 +27,7 @@ fn begins_with_digit(name: &[u8]) -> bool
 }
 
 /// Returns whether a text is the name of a variable.
-pub(crate) fn is_variable(name: &[u8]) -> bool
+pub fn is_variable(name: &[u8]) -> bool
     ensures { IsTrue result → specs.IsVariable name.now }
 {
     0 < name.len() && are_of_name(name) && !begins_with_digit(name)
@@ -56,7 +56,7 @@ fn is_dollar(byte: u8) -> bool
 }
 
 /// Returns whether a byte may be in a word without a command and without a pattern of file names.
-pub(crate) fn is_value(byte: u8) -> bool
+pub fn is_value(byte: u8) -> bool
     ensures { result ≡ specs.is_value byte }
 {
     is_of_name(byte) || is_mark(byte) || is_dollar(byte)
@@ -69,7 +69,9 @@ fn is_quotable(byte: u8) -> bool
     is_value(byte) || byte == b' '
 }
 
-pub(crate) fn are_values(text: &[u8]) -> bool
+/// Returns whether a text has only bytes of a word without a command and without a pattern of file
+/// names.
+pub fn are_values(text: &[u8]) -> bool
     ensures { result ≡ list_all specs.is_value text.now }
 {
     text.iter().all(|byte| is_value(*byte))
@@ -98,14 +100,14 @@ fn is_in_quotes(word: &[u8]) -> bool
 }
 
 /// Returns whether a text is one word, whose value a shell finds without running a command.
-pub(crate) fn is_one_value(word: &[u8]) -> bool
+pub fn is_one_value(word: &[u8]) -> bool
     ensures { IsTrue result → specs.IsValue word.now }
 {
     are_values(word) || is_in_quotes(word)
 }
 
 /// Returns whether a text is one word whose value is written there.
-pub(crate) fn is_constant(word: &[u8]) -> bool
+pub fn is_constant(word: &[u8]) -> bool
     ensures { IsTrue result → specs.IsConstant word.now }
 {
     is_one_value(word) && !has_dollar(word)

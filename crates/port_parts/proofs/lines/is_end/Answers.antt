@@ -1,5 +1,5 @@
-use Rattle.port_compounds.specs.Places as specs
-use Rattle.port_compounds.proofs.lines.is_end.Goals as goal
+use Rattle.port_parts.specs.Places as specs
+use Rattle.port_parts.proofs.lines.is_end.Goals as goal
 
 pub returns-then-keeps_newline : goal.returns-then-keeps_newline
 returns-then-keeps_newline c = λ is. specs.EndsComment.kept (c.keeps_newline.ensures is)
