@@ -5,6 +5,7 @@ these texts into docs/errors.md.
     tools/word_table.py            writes crates/lint_table/src/keys.rt, crates/lint_table/specs/Differences.antt and the list
     tools/word_table.py --check    prints what is wrong with the words and with the calls that name them, and then exits with status 1
     tools/word_table.py --show     prints each key with its message and its help, as a reader sees them
+    tools/word_table.py --unseen   prints the keys whose message or help is in no text that a test of the gate compares
 
 A line of the file that begins with a letter is a key, with the names of its places: at most three words in capitals. Then come
 
@@ -51,6 +52,10 @@ HARD = re.compile(r"(?<!there )\b(?:is|are) no \w+|\b(?:is|are) not read\b|\bby 
 # The most characters of the first line of a help, and of the others.
 MOST_FIRST, MOST = 68, 70
 PLACE = re.compile(r"%(.)")
+# The texts that the gate compares with what the program says, and how long a part of the words is at most that says nothing in them.
+COMPARED = ("examples/lint/expected.txt", "examples/port/expected.txt", "examples/help/*", "crates/tests_*/data/*", "crates/tests_*/src/*.rt",
+            "crates/acrun/stdout", "tools/try_terminal.py")
+SHORT = 8
 # The crates with tables of macros, and the file that names the variables of AC_INIT.
 LINT = ("lint_errors", "lint_templates", "lint_warnings", "lint_words", "run_words")
 GIVEN = CRATES / "lint_templates/src/given.rt"
@@ -312,7 +317,25 @@ def differences():
             yield f"{file.relative_to(ROOT)} is not what tools/word_table.py writes"
 
 
+def longest(text):
+    """Returns the longest part of a text that has no place in it, if it is long enough to be told from others."""
+    parts = [it.strip() for line in text.splitlines() for it in re.split(r"%[^%]", line)]
+    return max((it.replace("%%", "%") for it in parts if len(it) > SHORT), key=len, default="")
+
+
+def unseen():
+    """Yields the keys of which the gate compares no text, with what is in none. A wrong key in place of one of these is seen by nothing."""
+    texts = "".join(file.read_text(errors="replace") for place in COMPARED for file in sorted(ROOT.glob(place)))
+    for entry in entries().values():
+        for text in (entry.message, help_of(entry)):
+            if longest(text) not in texts:
+                yield f"{entry.key}: {longest(text)}"
+
+
 def main(words):
+    if words == ["--unseen"]:
+        print("".join(f"{line}\n" for line in unseen()), end="")
+        return 0
     if words == ["--check"]:
         found = [*differences()]
         print("".join(f"{line}\n" for line in found), end="")
