@@ -104,9 +104,13 @@ unfoldable pub in_argument : ℕ → Bodies
 in_argument zero arg = []
 in_argument (suc room) arg = in_denoted (in_argument room) (inside arg)
 
--- The calls of a source, within whose own list others nest at most 31 deep.
+-- The calls of the items of a source, within whose own list others nest at most 31 deep.
+abbrev pub calls_among : List ItemValue → List MacroCall
+calls_among items = in_items (in_argument 31) items
+
+-- The calls of a source.
 unfoldable pub calls_in : List ℕ → List MacroCall
-calls_in text = in_items (in_argument 31) (items_of (outcome 0 text))
+calls_in text = calls_among (items_of (outcome 0 text))
 
 -- ---- the order of calls
 

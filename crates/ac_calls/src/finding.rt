@@ -2,6 +2,7 @@
 
 ghost use Rattle.std.specs.Prelude.{◌≡◌, ◌+◌, ◌≤◌, [], ◌∷◌, ◌++◌, ◌↔◌, if◌then◌else◌, Contains, map, length, IfOk, OnOk};
 ghost use Rattle.m4quote.specs.ItemValue.{span, view, views};
+ghost use Rattle.m4quote.specs.Gives.{Gives};
 ghost use Rattle.m4quote.specs.Scan.{outcome};
 ghost use Rattle.ac_macros.specs.Arguments as arguments;
 ghost use Rattle.ac_macros.specs.Table.{row_named};
@@ -19,13 +20,25 @@ use std::alloc::{AllocError, Global};
 /// The number of lists that may nest in the text's own list of statements.
 const MAX_LISTS: u8 = 31;
 
+/// Returns the items of a text at offset `at`, or the first error of its quotes.
+fn placed_at<'a>(alloc: Global, text: &'a [u8], at: usize) -> Result<Vec<Item<'a>>, QuoteFault>
+    requires { at + length text.now ≤ usize.MAX }
+    ensures exact { Gives (λ v. views v.items) result (outcome at text.now) }
+    ensures placed { IfOk result (λ v. specs.ArePlaced (views v.items)) }
+{
+    match read_items_at(alloc, text, at) {
+        Ok(items) => Ok(items),
+        Err(fault) => Err(fault),
+    }
+}
+
 /// Returns the items of a text at offset `at`, or none if its quotes have an error.
 fn items_at<'a>(alloc: Global, text: &'a [u8], at: usize) -> Result<Vec<Item<'a>>, AllocError>
     requires { at + length text.now ≤ usize.MAX }
     ensures value { IfOk result (λ v. views v.items ≡ specs.items_of (outcome at text.now)) }
     ensures placed { IfOk result (λ v. specs.ArePlaced (views v.items)) }
 {
-    match read_items_at(alloc, text, at) {
+    match placed_at(alloc, text, at) {
         Ok(items) => Ok(items),
         Err(QuoteFault::OutOfMemory) => Err(AllocError),
         Err(_) => Ok(Vec::new(alloc)),
@@ -199,15 +212,42 @@ fn find_in_items(
     Ok(())
 }
 
+/// Returns the items that a whole source spells, in the form that [`calls_in`] takes
+/// (`m4quote::read_items`).
+///
+/// # Errors
+///
+/// Returns the first error of the quotes.
+pub fn items_of<'a>(alloc: Global, text: &'a [u8]) -> Result<Vec<Item<'a>>, QuoteFault>
+    // The items are those of the source, or the error is its first one, unless memory runs out.
+    ensures exact { Gives (λ v. views v.items) result (outcome 0 text.now) }
+    ensures placed { IfOk result (λ v. specs.ArePlaced (views v.items)) }
+{
+    placed_at(alloc, text, 0)
+}
+
+/// Returns the calls of the items of a whole source, in order of their offsets.
+///
+/// # Errors
+///
+/// Fails only if memory runs out.
+pub fn calls_in(alloc: Global, items: &[Item<'_>]) -> Result<Vec<CallAt>, AllocError>
+    requires { specs.ArePlaced (views items.now) }
+    ensures { IfOk result (λ v.
+        map specs.macro_call_of v.items ≡ specs.calls_among (views items.now)) }
+{
+    let mut out = Vec::new(alloc);
+    find_in_items(alloc, MAX_LISTS, items, &mut out)?;
+    Ok(out)
+}
+
 /// Returns the calls of a whole source.
 #[tactic(auto, unfolding(crate::specs::Calls::calls_in))]
 fn find_all(alloc: Global, text: &[u8]) -> Result<Vec<CallAt>, AllocError>
     ensures { IfOk result (λ v. map specs.macro_call_of v.items ≡ specs.calls_in text.now) }
 {
     let items = items_at(alloc, text, 0)?;
-    let mut out = Vec::new(alloc);
-    find_in_items(alloc, MAX_LISTS, &items, &mut out)?;
-    Ok(out)
+    calls_in(alloc, &items)
 }
 
 /// Returns the calls of a whole source, in order of their offsets.

@@ -210,9 +210,14 @@ ended Before s = Err NoInit
 ended Open s = Err NoOutput
 ended Ended s = Ok s
 
--- The statements of a source: within its own list, lists nest at most 31 deep. (own)
+-- The statements of the items of a source: within its own list, lists nest at most 31 deep. (own)
+abbrev pub source_read : List ItemValue → Result Script ParseFault
+source_read items = do
+  s ← items_of Top (body_of 31) start no_line_start items
+  ended (after_all start s).stage s
+
+-- The statements of a source. (own)
 unfoldable pub source_of : List ℕ → Result Script ParseFault
 source_of text = do
   items ← quoted (outcome 0 text)
-  s ← items_of Top (body_of 31) start no_line_start items
-  ended (after_all start s).stage s
+  source_read items

@@ -27,4 +27,4 @@ pub mod source;
 pub use ac_args::ParseFault;
 pub use ac_tree::{Case, Declares, Effect, Help, HelpList, Question, Source, Stmt, Subject, When};
 pub use output_list::{Output, OutputList};
-pub use source::{is_resumable, parse};
+pub use source::{is_resumable, parse, parse_items};

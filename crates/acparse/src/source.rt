@@ -4,7 +4,8 @@ ghost use Rattle.std.specs.Prelude.{◌≡◌, ◌≢◌, ◌↔◌, true, IfOk,
 ghost use Rattle.ac_statement.specs.declared.fault.ParseFault.TheVariants.{OutOfMemory};
 ghost use Rattle.ac_statement.specs.Reading.{Gives};
 ghost use Rattle.ac_tree.specs.Lists.{after_all, lists_of, start};
-ghost use Rattle.acparse.specs.Profile.{ended, source_of};
+ghost use Rattle.m4quote.specs.ItemValue.{views};
+ghost use Rattle.acparse.specs.Profile.{ended, source_of, source_read};
 ghost use Rattle.ac_tree.specs.Script.{Script, script_of};
 ghost use Rattle.acparse.specs.Source.{IsSource, IsSourceFault};
 ghost use Rattle.ac_tree.specs.Commands.{HasCommands};
@@ -19,7 +20,7 @@ use ac_args::ParseFault;
 use ac_macros::list_kind::ListKind;
 use ac_statement::fault::quote_fault;
 use ac_tree::{Declarations, Source, Stage, Stmt};
-use m4quote::read_items;
+use m4quote::{Item, read_items};
 use std::alloc::Global;
 
 /// Checks that a source may end after these declarations.
@@ -33,45 +34,60 @@ fn check_end(known: &Declarations) -> Result<(), ParseFault>
     }
 }
 
-/// Reads the statements of a whole source. `known` becomes what they declare.
-#[tactic(auto, unfolding(crate::specs::Profile::source_of))]
-fn read_whole(alloc: Global, known: &mut Declarations, text: &[u8]) -> Result<Vec<Stmt>, ParseFault>
+/// Reads the statements of the items of a whole source. `known` becomes what they declare.
+fn read_whole(
+    alloc: Global,
+    known: &mut Declarations,
+    items: &[Item<'_>],
+) -> Result<Vec<Stmt>, ParseFault>
     requires { known.now ≡ start }
-    ensures value { Gives (λ v. script_of v.items) result (source_of text.now) }
+    ensures value { Gives (λ v. script_of v.items) result (source_read (views items.now)) }
     ensures after { IfOk result (λ v. known.new ≡ after_all start (script_of v.items)) }
 {
-    let items = match read_items(alloc, text) {
-        Ok(items) => items,
-        Err(fault) => return Err(quote_fault(fault)),
-    };
-    let statements = read_statements(alloc, 31, ListKind::Top, known, &items)?;
+    let statements = read_statements(alloc, 31, ListKind::Top, known, items)?;
     check_end(known)?;
     Ok(statements)
 }
 
-/// Reads the statements of a whole source, and decides whether it can be resumed. `known` becomes
-/// what they declare.
+/// Reads the statements of the items of a whole source, and decides whether it can be resumed.
+/// `known` becomes what they declare.
 fn read_decided(
     alloc: Global,
     known: &mut Declarations,
-    text: &[u8],
+    items: &[Item<'_>],
 ) -> Result<(Vec<Stmt>, bool), ParseFault>
     requires { known.now ≡ start }
-    ensures value { Gives (λ v. script_of v.0.items) result (source_of text.now) }
+    ensures value { Gives (λ v. script_of v.0.items) result (source_read (views items.now)) }
     ensures after { IfOk result (λ v. known.new ≡ after_all start (script_of v.0.items)) }
     ensures decided { IfOk result (λ v. v.1 ≡ decide.is_resumable (script_of v.0.items)) }
 {
-    let statements = read_whole(alloc, known, text)?;
+    let statements = read_whole(alloc, known, items)?;
     let decided = ac_resumable::is_resumable(alloc, statements.as_slice());
     Ok(decided.map(|resumes| (statements, resumes))?)
 }
 
+/// Reads the items of a whole source (`m4quote::read_items`), for whoever has them already.
+///
+/// # Errors
+///
+/// Those of [`parse`], but for those of the quotes.
+pub fn parse_items(alloc: Global, items: &[Item<'_>]) -> Result<Source, ParseFault>
+    // The statements of the items are returned, or their first error, unless memory runs out.
+    ensures { Gives script_of result (source_read (views items.now)) }
+{
+    let mut lists = Declarations::new(alloc);
+    let read = read_decided(alloc, &mut lists, items);
+    read.map(|(statements, resumes)| Source::new(statements, lists, resumes))
+}
+
+#[tactic(auto, unfolding(crate::specs::Profile::source_of))]
 fn read_source(alloc: Global, text: &[u8]) -> Result<Source, ParseFault>
     ensures { Gives script_of result (source_of text.now) }
 {
-    let mut lists = Declarations::new(alloc);
-    let read = read_decided(alloc, &mut lists, text);
-    read.map(|(statements, resumes)| Source::new(statements, lists, resumes))
+    match read_items(alloc, text) {
+        Ok(items) => parse_items(alloc, &items),
+        Err(fault) => Err(quote_fault(fault)),
+    }
 }
 
 /// Reads the text of a configure.ac.

@@ -53,6 +53,7 @@ fn page_for<D: Disk, R: Read>(
     form: FindingForm,
     word: &[u8],
     reads: bool,
+    is_last: bool,
     input: &mut R,
 ) -> Result<Option<(Vec<u8>, bool)>, AllocError>
     ensures input { reads ≡ false → input.new ≡ input.old }
@@ -61,7 +62,7 @@ fn page_for<D: Disk, R: Read>(
         specs.IsLinted (D.known disk.now) (reads && calls.is_input word.now) word.now r.1)) }
 {
     match read_named(alloc, disk, reads, input, word)? {
-        Some(linted) => Ok(Some(linted_page(alloc, disk, form, &linted)?)),
+        Some(linted) => Ok(Some(linted_page(alloc, disk, form, is_last, &linted)?)),
         None => Ok(None),
     }
 }
@@ -74,6 +75,7 @@ fn lint_name<D: Disk, R: Read, W: Write, E: Hears>(
     form: FindingForm,
     name: &[u8],
     reads: bool,
+    is_last: bool,
     input: &mut R,
     output: &mut W,
     errors: &mut E,
@@ -88,7 +90,7 @@ fn lint_name<D: Disk, R: Read, W: Write, E: Hears>(
     ensures said { (lines : List (List ℕ)) × IsSaidOf name.now result lines
         × AreSaid E.contents E.has_failed errors.old errors.new lines }
 {
-    match page_for(alloc, disk, form, name, reads, input) {
+    match page_for(alloc, disk, form, name, reads, is_last, input) {
         Ok(Some((page, has_error))) => {
             put_page(page.as_slice(), status_of(has_error), output, errors)
         }
@@ -134,11 +136,14 @@ fn lint_names<D: Disk, R: Read, W: Write, E: Hears>(
         × (result ≡ 2 → lines ≢ [])
         × AreSaid E.contents E.has_failed errors.old errors.new lines }
 {
+    let is_last = words.len() == 1;
     let mut status: u8 = 0;
     'words: for word in words {
         if is_name(word) {
             let name = word.as_slice();
-            let next = lint_name(alloc, disk, form, name, reads, input, output, errors);
+            let next = lint_name(
+                alloc, disk, form, name, reads, is_last, input, output, errors,
+            );
             status = worse(status, next);
         }
     }
@@ -165,7 +170,9 @@ fn lint_here<D: Disk, R: Read, W: Write, E: Hears>(
         × (result ≡ 2 → lines ≢ [])
         × AreSaid E.contents E.has_failed errors.old errors.new lines }
 {
-    lint_name(alloc, disk, form, SOURCE, false, input, output, errors)
+    lint_name(
+        alloc, disk, form, SOURCE, false, true, input, output, errors,
+    )
 }
 
 /// Lints each source that words name, or the one in the current directory, and returns the exit

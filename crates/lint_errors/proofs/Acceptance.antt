@@ -4,15 +4,20 @@ use Rattle.std.specs.Prelude.{IfOk, IsTrue, nat_lt}
 use Rattle.std.proofs.lemmas.Bool.{ltb-true, ltb-false}
 use Rattle.std.proofs.lemmas.List.{length-map}
 use Rattle.std.proofs.lemmas.List.Sorted.{length_permutation}
-use Rattle.acparse.specs.Profile.{source_of}
+use Rattle.acparse.specs.Profile.{source_of, source_read}
+use Rattle.ac_statement.specs.Reading.{◌>>=◌, quote_fault, quoted}
 use Rattle.ac_statement.specs.declared.fault.ParseFault.{ParseFault}
 use Rattle.lint_findings.specs.declared.finding.Finding.{Finding}
 use Rattle.plan.specs.Weight.{heaviest, weight}
-use Rattle.ac_calls.specs.Calls.{calls_in, macro_call_of}
-use Rattle.ac_tree.specs.Script.{Script}
+use Rattle.ac_calls.specs.Calls.{MacroCall, calls_among, calls_in, items_of, macro_call_of}
+use Rattle.ac_tree.specs.Script.{Script, script_of}
+use Rattle.ac_tree.specs.declared.tree.Stmt.{Stmt}
+use Rattle.m4quote.specs.ItemValue.{ItemValue}
+use Rattle.m4quote.specs.Scan.{outcome}
+use Rattle.m4quote.specs.declared.fault.QuoteFault.{QuoteFault}
 use Rattle.lint_errors.specs.declared.reading.Reading.{Reading}
 use Rattle.lint_errors.specs.Errors.{Shown, finding_view, error_at, errors_read, AreRefused, AreErrors, IsAccepted, IsFaultError, IsFaultPlace}
-use Rattle.lint_errors.specs.Readings.{IsRead, IsReading}
+use Rattle.lint_errors.specs.Readings.{AreStatements, IsRead, IsReading, IsSpelled, IsUnspelled}
 
 map_none : (list : List Finding) → map finding_view list ≡ [] → list ≡ []
 map_none [] h = refl
@@ -66,8 +71,40 @@ along P Q f (Err e) p = tt
 
 -- ---- one reading
 
-pub read_as : (text : List ℕ) (reading : Reading) → IsRead text reading.source → map macro_call_of reading.calls.items ≡ calls_in text → IsReading text reading
-read_as text reading source calls = record { source = source; calls = calls }
+ok_not_err : (items : List ItemValue) (fault : ParseFault) → quoted (Ok items) ≡ Err fault → ⊥
+ok_not_err items fault h = cc
+
+source_spelled : (text : List ℕ) (items : List ItemValue) (source : Result (List Stmt) ParseFault) → outcome 0 text ≡ Ok items → AreStatements items source → IsRead text source
+unfolding source_of
+source_spelled text items (Ok statements) is read = subst (λ o. (quoted o >>= source_read) ≡ Ok (script_of statements)) (sym is) read
+source_spelled text items (Err fault) is read = subst (λ o. (quoted o >>= source_read) ≡ Err fault) (sym is) read
+
+calls_spelled : (text : List ℕ) (items : List ItemValue) (calls : List MacroCall) → outcome 0 text ≡ Ok items → calls ≡ calls_among items → calls ≡ calls_in text
+unfolding calls_in
+calls_spelled text items calls is found = subst (λ o. calls ≡ calls_among (items_of o)) (sym is) found
+
+read_as : (text : List ℕ) (items : List ItemValue) (reading : Reading) → IsSpelled text items → AreStatements items reading.source → map macro_call_of reading.calls.items ≡ calls_among items → IsReading text reading
+read_as text items reading is source calls =
+    record { source = source_spelled text items reading.source is source; calls = calls_spelled text items (map macro_call_of reading.calls.items) is calls }
+
+pub read_all : {E : Type 0} (text : List ℕ) (items : List ItemValue) (r : Result Reading E) → IsSpelled text items → IfOk r (λ x. AreStatements items x.source) → IfOk r (λ x. map macro_call_of x.calls.items ≡ calls_among items) → IfOk r (IsReading text)
+read_all text items (Ok reading) is source calls = read_as text items reading is source calls
+read_all text items (Err e) is source calls = tt
+
+same_fault : (f : QuoteFault) (fault : ParseFault) → quoted {A = List ItemValue} (Err f) ≡ Err fault → quote_fault f ≡ fault
+same_fault f fault h = cc
+
+unspelled : (text : List ℕ) (o : Result (List ItemValue) QuoteFault) (fault : ParseFault) (reading : Reading) → outcome 0 text ≡ o → quoted o ≡ Err fault → reading.source ≡ Err fault → reading.calls.items ≡ [] → IsReading text reading
+unfolding source_of calls_in
+unspelled text (Ok items) fault reading is bad source calls = absurd (ok_not_err items fault bad)
+unspelled text (Err f) fault reading is bad source calls =
+    record {
+      source = subst (IsRead text) (sym source) (subst (λ o. (quoted o >>= source_read) ≡ Err fault) (sym is) (ap Err (same_fault f fault bad)));
+      calls = subst (λ cs. map macro_call_of cs ≡ calls_in text) (sym calls) (subst (λ o. [] ≡ calls_among (items_of o)) (sym is) refl);
+    }
+
+pub refused_as : (text : List ℕ) (fault : ParseFault) (reading : Reading) → IsUnspelled text fault → reading.source ≡ Err fault → reading.calls.items ≡ [] → IsReading text reading
+refused_as text fault reading bad source calls = unspelled text (outcome 0 text) fault reading refl bad source calls
 
 pub accepted_if_short : (text : List ℕ) (s : Script) (long : Bool) → source_of text ≡ Ok s → long ≡ nat_lt heaviest (weight s) → IsTrue (not long) ↔ IsAccepted text
 accepted_if_short text s true read is =

@@ -1,17 +1,20 @@
 //! What a source is read as.
 
-ghost use Rattle.std.specs.Prelude.{◌≡◌, ◌↔◌, IfOk, IsTrue, map, nat_lt};
-ghost use Rattle.ac_calls.specs.Calls.{calls_in, macro_call_of};
+ghost use Rattle.std.specs.Prelude.{◌≡◌, ◌↔◌, [], Err, IfErr, IfOk, IsTrue, map, nat_lt};
+ghost use Rattle.ac_calls.specs.Calls.{ArePlaced, calls_among, macro_call_of};
 ghost use Rattle.ac_tree.specs.Script.{script_of};
+ghost use Rattle.m4quote.specs.ItemValue.{views};
 ghost use Rattle.plan.specs.Weight.{heaviest, weight};
 ghost use Rattle.lint_errors.specs.Errors.{IsAccepted};
 ghost use Rattle.lint_errors.specs.Readings as specs;
 
-use ac_calls::{CallAt, calls_of};
+use ac_calls::{CallAt, calls_in, items_of};
 use ac_statement::ParseFault;
+use ac_statement::fault::quote_fault;
 use ac_tree::Source;
-use acparse::parse;
+use acparse::{parse, parse_items};
 use lint_macros::Index;
+use m4quote::{Item, QuoteFault};
 use plan::{PlanFault, compile};
 use std::alloc::{AllocError, Global};
 
@@ -26,15 +29,62 @@ pub struct Reading {
     pub index: Index,
 }
 
-/// Returns the statements of a source, or why it is refused.
-fn statements_of(alloc: Global, text: &[u8]) -> Result<Result<Source, ParseFault>, AllocError>
-    ensures { IfOk result (specs.IsRead text.now) }
+/// Returns the items that a source spells, or why it is refused.
+fn spelled(alloc: Global, text: &[u8]) -> Result<Result<Vec<Item<'_>>, ParseFault>, AllocError>
+    ensures spelled { IfOk result (λ r.
+        IfOk r (λ items. specs.IsSpelled text.now (views items.items))) }
+    ensures placed { IfOk result (λ r. IfOk r (λ items. ArePlaced (views items.items))) }
+    ensures fault { IfOk result (λ r. IfErr r (specs.IsUnspelled text.now)) }
 {
-    match parse(alloc, text) {
+    match items_of(alloc, text) {
+        Ok(items) => Ok(Ok(items)),
+        Err(QuoteFault::OutOfMemory) => Err(AllocError),
+        Err(fault) => Ok(Err(quote_fault(fault))),
+    }
+}
+
+/// Returns the statements of the items of a source, or why it is refused.
+fn statements_of(
+    alloc: Global,
+    items: &[Item<'_>],
+) -> Result<Result<Source, ParseFault>, AllocError>
+    ensures { IfOk result (specs.AreStatements (views items.now)) }
+{
+    match parse_items(alloc, items) {
         Ok(source) => Ok(Ok(source)),
         Err(ParseFault::OutOfMemory) => Err(AllocError),
         Err(fault) => Ok(Err(fault)),
     }
+}
+
+/// Returns what a source with these items is read as.
+fn read_items(alloc: Global, items: &[Item<'_>]) -> Result<Reading, AllocError>
+    requires { ArePlaced (views items.now) }
+    ensures source { IfOk result (λ r. specs.AreStatements (views items.now) r.source) }
+    ensures calls { IfOk result (λ r.
+        map macro_call_of r.calls.items ≡ calls_among (views items.now)) }
+{
+    let source = statements_of(alloc, items)?;
+    let calls = calls_in(alloc, items)?;
+    let index = Index::new(alloc)?;
+    Ok(Reading {
+        source,
+        calls,
+        index,
+    })
+}
+
+/// Returns what a source that spells no items is read as: it has this fault, and no calls.
+fn read_fault(alloc: Global, fault: ParseFault) -> Result<Reading, AllocError>
+    ensures source { IfOk result (λ r. r.source ≡ Err fault) }
+    ensures calls { IfOk result (λ r. r.calls.items ≡ []) }
+{
+    let index = Index::new(alloc)?;
+    Ok(Reading {
+        source: Err(fault),
+        calls: Vec::new(alloc),
+        index,
+    })
 }
 
 /// Returns what a source is read as.
@@ -42,18 +92,14 @@ fn statements_of(alloc: Global, text: &[u8]) -> Result<Result<Source, ParseFault
 /// # Errors
 ///
 /// Fails only if memory runs out.
-#[tactic(auto, using(crate::proofs::Acceptance::read_as))]
+#[tactic(auto, using(crate::proofs::Acceptance::refused_as))]
 pub fn read(alloc: Global, text: &[u8]) -> Result<Reading, AllocError>
     ensures { IfOk result (specs.IsReading text.now) }
 {
-    let source = statements_of(alloc, text)?;
-    let calls = calls_of(alloc, text)?;
-    let index = Index::new(alloc)?;
-    Ok(Reading {
-        source,
-        calls,
-        index,
-    })
+    match spelled(alloc, text)? {
+        Ok(items) => read_items(alloc, &items),
+        Err(fault) => read_fault(alloc, fault),
+    }
 }
 
 /// Returns whether a source weighs too much for a plan.

@@ -22,6 +22,7 @@ use lint_errors::{Reading, read};
 use lint_findings::{Finding, put_in_order};
 use lint_templates::Given;
 use std::alloc::{AllocError, Global};
+use std::mem::ManuallyDrop;
 
 /// What is found in a source and its templates, in order of place, and the templates.
 #[derive(Drop)]
@@ -87,6 +88,13 @@ fn given_by(alloc: Global, reading: &Reading) -> Result<Option<Given>, AllocErro
     }
 }
 
+/// Frees what was made of a source, unless it is left to the end of the process.
+fn free<T: Drop>(is_left: bool, made: T) {
+    if is_left {
+        let _left = ManuallyDrop::new(made);
+    }
+}
+
 /// Appends an error for each output that a call of a refused source names, if its template can't be
 /// read.
 fn add_lost<D: Disk>(
@@ -117,6 +125,7 @@ fn others_of<D: Disk, W: Warner>(
     alloc: Global,
     disk: &D,
     warner: &W,
+    is_last: bool,
     linted: &Linted,
     text: &[u8],
     reading: &Reading,
@@ -129,6 +138,7 @@ fn others_of<D: Disk, W: Warner>(
     add_lost(alloc, disk, linted, reading, &mut others)?;
     let given = given_by(alloc, reading)?;
     add_warnings(alloc, warner, text, reading, sheets, &given, &mut others)?;
+    free(is_last, given);
     Ok(others)
 }
 
@@ -180,10 +190,12 @@ fn reword(alloc: Global, text: &[u8], found: &mut Vec<Finding>) -> Result<(), Al
 
 /// Returns what is found in a source, in order of place: its errors, the templates that are not
 /// there, and the warnings. If the source is refused, the warnings are those about its calls alone.
+/// What was made of the last source is left to the end of the process.
 pub(crate) fn found_in<D: Disk, W: Warner>(
     alloc: Global,
     disk: &D,
     warner: &W,
+    is_last: bool,
     linted: &Linted,
 ) -> Result<SourceFindings, AllocError>
     ensures error { IfOk result (λ f.
@@ -197,10 +209,13 @@ pub(crate) fn found_in<D: Disk, W: Warner>(
     let mut findings = all_errors(alloc, text, &reading)?;
     let mut lost = Vec::new(alloc);
     let sheets = sheets_for(alloc, disk, linted, &reading, &mut lost)?;
-    let mut others = others_of(alloc, disk, warner, linted, text, &reading, &sheets)?;
+    let mut others = others_of(
+        alloc, disk, warner, is_last, linted, text, &reading, &sheets,
+    )?;
     let has_error = add_to(&mut findings, &mut lost)?;
     reword(alloc, text, &mut findings)?;
     join(&mut findings, &mut others)?;
+    free(is_last, reading);
     Ok(SourceFindings {
         findings,
         sheets,

@@ -8,7 +8,7 @@
 //!
 //! ```text
 //! let linted = read_named(alloc, files, false, input, b"configure.ac")?;   // None if it can't be read
-//! linted_page(alloc, files, form, &linted)?                                // the page, and whether there is an error
+//! linted_page(alloc, files, form, true, &linted)?                          // the page, and whether there is an error
 //! ```
 //!
 //! A call fails only if memory runs out. "own" marks a rule that no manual gives.

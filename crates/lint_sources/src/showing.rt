@@ -168,6 +168,7 @@ fn shown_page<D: Disk, S: Shower, W: Warner>(
     shower: &S,
     warner: &W,
     counts: bool,
+    is_last: bool,
     linted: &Linted,
 ) -> Result<(Vec<u8>, bool), AllocError>
     ensures error { IfOk result (λ r.
@@ -176,23 +177,25 @@ fn shown_page<D: Disk, S: Shower, W: Warner>(
         specs.IsPageOf (S.shows shower.now) (W.finds warner.now) (D.known disk.now) linted.now
         r.0.items) }
 {
-    let found = found_in(alloc, disk, warner, linted)?;
+    let found = found_in(alloc, disk, warner, is_last, linted)?;
     let findings = found.findings.as_slice();
     let page = page_of(alloc, shower, counts, linted, &found.sheets, findings)?;
     Ok((page, found.has_error))
 }
 
 /// Returns what is found in a source and its templates, as it is shown, and whether an error is
-/// among it.
+/// among it. If the source is the last one of the process, the memory of what was made of it is left
+/// to the end, when the system takes it back at once.
 pub fn linted_page<D: Disk>(
     alloc: Global,
     disk: &D,
     form: FindingForm,
+    is_last: bool,
     linted: &Linted,
 ) -> Result<(Vec<u8>, bool), AllocError>
     // The source has an error exactly if it is refused, or if a template can't be read.
     ensures { IfOk result (λ r.
         HasError (D.known disk.now) linted.now.directory linted.now.text r.1) }
 {
-    shown_page(alloc, disk, &form, &Linter, !form.is_json, linted)
+    shown_page(alloc, disk, &form, &Linter, !form.is_json, is_last, linted)
 }
