@@ -127,31 +127,26 @@ fn row_of(lists: &[SubstList], name: &[u8]) -> Option<usize> {
     lists.iter().position(|list| list.has(name))
 }
 
-/// What is found of a header: the calls that name one of its names, and these names.
+/// What is found of a header: the calls that name one of its names, and these names, each once.
 #[derive(Drop)]
-struct FoundNames {
+struct FoundNames<'a> {
     calls: Vec<Extent>,
-    names: Vec<u8>,
-    count: usize,
+    names: Vec<&'a [u8]>,
 }
 
 /// How many names are named at most.
 const MOST: usize = 12;
 
-impl FoundNames {
+impl<'a> FoundNames<'a> {
     /// Adds a name that a call has.
-    fn add(&mut self, call: Extent, name: &[u8]) -> Result<(), AllocError> {
+    fn add(&mut self, call: Extent, name: &'a [u8]) -> Result<(), AllocError> {
         if self.calls.last() != Some(&call) {
             self.calls.push(call)?;
         }
-        self.count = self.count.saturating_add(1);
-        if self.count > MOST {
-            return Ok(());
+        if self.names.len() < MOST && !self.names.iter().any(|other| *other == name) {
+            self.names.push(name)?;
         }
-        if self.count > 1 {
-            self.names.extend_from_slice(b", ")?;
-        }
-        self.names.extend_from_slice(name)
+        Ok(())
     }
 }
 
@@ -176,10 +171,10 @@ fn uses_defaults(call: NamedCall<'_>) -> bool {
 }
 
 /// Adds the names of a call that one of the headers has.
-fn add_call(
-    call: NamedCall<'_>,
+fn add_call<'a>(
+    call: NamedCall<'a>,
     lists: &[SubstList],
-    found: &mut [FoundNames],
+    found: &mut [FoundNames<'a>],
 ) -> Result<(), AllocError> {
     let place = Extent {
         start: call.at.start,
@@ -196,11 +191,11 @@ fn add_call(
 }
 
 /// Adds a name that a call has to what is found of a row.
-fn add_to(
-    found: &mut [FoundNames],
+fn add_to<'a>(
+    found: &mut [FoundNames<'a>],
     row: usize,
     call: Extent,
-    name: &[u8],
+    name: &'a [u8],
 ) -> Result<(), AllocError> {
     match found.get_mut(row) {
         Some(found) => found.add(call, name),
@@ -209,17 +204,16 @@ fn add_to(
 }
 
 /// Returns what is found of each header.
-fn found_in(
+fn found_in<'a>(
     alloc: Global,
-    calls: &[NamedCall<'_>],
+    calls: &[NamedCall<'a>],
     lists: &[SubstList],
-) -> Result<Vec<FoundNames>, AllocError> {
+) -> Result<Vec<FoundNames<'a>>, AllocError> {
     let mut found = Vec::new(alloc);
     for _ in &ROWS {
         found.push(FoundNames {
             calls: Vec::new(alloc),
             names: Vec::new(alloc),
-            count: 0,
         })?;
     }
     for call in calls {
@@ -230,19 +224,32 @@ fn found_in(
     Ok(found)
 }
 
+/// Returns names with `, ` between them.
+fn joined(alloc: Global, names: &[&[u8]]) -> Result<Vec<u8>, AllocError> {
+    let mut text = Vec::new(alloc);
+    for name in names {
+        if !text.is_empty() {
+            text.extend_from_slice(b", ")?;
+        }
+        text.extend_from_slice(*name)?;
+    }
+    Ok(text)
+}
+
 /// Warns of what is found of a header, at the first call that names one of its names.
 fn warn_of_header(
     alloc: Global,
     text: &[u8],
     header: &[u8],
-    found: &FoundNames,
+    found: &FoundNames<'_>,
     out: &mut Vec<Finding>,
 ) -> Result<(), AllocError> {
     let Some(first) = found.calls.first() else {
         return Ok(());
     };
+    let names = joined(alloc, found.names.as_slice())?;
+    let names = WordPart::AsItIs(names.as_slice());
     let mut page = Page::new(alloc);
-    let names = WordPart::AsItIs(found.names.as_slice());
     page.put(keys::FEWER_INCLUDES, &[WordPart::AsItIs(header), names]);
     put_lines(&mut page, text, found.calls.as_slice());
     page.put(keys::INCLUDES_OF, &[WordPart::AsItIs(header)]);
