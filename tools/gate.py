@@ -1,7 +1,8 @@
 #!/usr/bin/env python3
 """The gate, `make check`: `rt ci`, then what no proof sees of the repository (`repository.py`), what comes of memory that runs out
 at each allocation (`refuse_each.py`), and runs of the built program: over children that are it too (`examples/standin`), on a
-terminal (`try_terminal.py`), and of the commands whose words no clause has (`examples/help`, `examples/lint` and `examples/port`).
+terminal (`try_terminal.py`), with errors (`examples/errors` and the examples of docs/errors.md), and of the commands whose words no
+clause has (`examples/help`, `examples/lint` and `examples/port`).
 
 Its last line is 'N passed, M failed' over all of them, and the exit status is 1 if M is not 0.
 """
@@ -40,9 +41,10 @@ def tried(*command):
 
 
 def examples():
-    """Tries the program as the compiler of its own runs, on a terminal, and in commands that explain something."""
-    yield tried(sys.executable, "tools/try_terminal.py")
-    for name in ("standin", "help", "lint", "port"):
+    """Tries the program as the compiler of its own runs, on a terminal, with errors, and in commands that explain something."""
+    for name in ("terminal", "errors"):
+        yield tried(sys.executable, f"tools/try_{name}.py")
+    for name in ("standin", "help", "errors", "lint", "port"):
         yield tried("sh", f"examples/{name}/run.sh")
 
 
