@@ -5,7 +5,8 @@
 #
 # A program of `rt try` has a sanitizer, and is a hundred times slower. This one is made of the same module: a toolchain whose
 # clang keeps the module stands in for the real one. Nothing is proved, so the program is for trying things out alone. OPT is
-# -O0, or -O1 or -O3 if the variable says so: one more minute of a processor. TMPDIR names the directory for its files.
+# -O0, or -O1 or -O3 if the variable says so: one more minute of a processor. TMPDIR names the directory for its files. If MODULE
+# names a file, that becomes the module.
 set -u
 [ $# = 1 ] || { echo "usage: tools/native.sh OUT" >&2; exit 2; }
 out=$1
@@ -52,6 +53,7 @@ if [ ! -s "$work/keep/module.bc" ]; then
     echo "native.sh: no module was made" >&2
     exit 1
 fi
+[ -z "${MODULE-}" ] || cp "$work/keep/module.bc" "$MODULE" || exit 1
 "$real/toolchain/bin/clang" "${OPT:--O0}" -c -o "$work/module.o" "$work/keep/module.bc" || exit 1
 gcc -o "$work/program" "$work/module.o" "$real/c/libos_c.a" "$real/c/liblibc_c.a" -lm -lpthread || exit 1
 mv "$work/program" "$out"
