@@ -440,6 +440,7 @@ fails write|hand header config.h other|look acrun-1.tmp => not 1[]none
 // refused.
 fails read|hand header config.h new|fails |read config.h => all[config.status: creating config.h^J][new]
 fails memory|hand header config.h new => not 1[]
+fails memory|read config.h|fails place|read config.h => memorymemory
 // Any other failure of the system refuses the put too, and the file is as it was.
 fails look|hand file two new|fails |look two|look acrun-1.tmp => not 1[]nonenone
 fails stat|hand file two new|fails |look two|look acrun-1.tmp => not 1[]nonenone
