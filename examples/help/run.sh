@@ -21,6 +21,9 @@ expect() {
 }
 
 for words in help --help -h --version -V; do expect 0 "acrun $version" "$words"; done
+for words in --version -V; do
+    [ "$("$acrun" "$words")" = "acrun $version" ] || { wrong=1; echo "$words prints more than the version"; }
+done
 expect 0 'Usage: acrun [-jN] configure [ARG]..' help configure
 expect 0 'Usage: acrun status [NAME]..' help status
 expect 0 'Usage: acrun lint [--json] [FILE]..' help lint
