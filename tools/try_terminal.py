@@ -130,6 +130,8 @@ class Trial:
         self.look("words follow a fault on a terminal", err.startswith("acrun: usage\n") and err.count("\n") > 1, err)
         _, _, err, _ = run(self.program, ["nope"], ["stdout"])
         self.look("no words follow where errors are no terminal", err == "acrun: usage\n", err)
+        _, _, err, _ = run(self.program, ["nope"], (), ACRUN_WHY="1")
+        self.look("words follow elsewhere if ACRUN_WHY is set", err.startswith("acrun: usage\nacrun: `nope` is not"), err)
         pathlib.Path("configure.ac").write_text("AC_NOPE\n")
         _, out, _, _ = run(self.program, ["lint"], ["stdout"])
         self.look("lint has colours on a terminal", "\x1b[" in out and "\\x1b" not in out, out)
