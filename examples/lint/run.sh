@@ -30,6 +30,7 @@ done < "$here/sources.txt"
         "$acrun" lint "$name" || echo "status $?"
     done
     "$acrun" lint --json macros-unknown.ac columns.ac characters.ac - < macro-misspelt.ac || echo "status $?"
+    "$acrun" lint .//macro-misspelt.ac || echo "status $?"
     # Each of 300 words is read, and each of 60 errors within one call is found.
     "$acrun" lint $(yes without-findings.ac | head -n 299) messages-many.ac | grep -c '^messages-many.ac:' || true
     # Of 1,005 findings the first thousand are shown.
