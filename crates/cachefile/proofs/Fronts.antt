@@ -5,7 +5,7 @@ use Rattle.std.specs.Option.{MatchOption}
 use Rattle.std.proofs.lemmas.List.{drop_more}
 use Rattle.std.proofs.Math.ListN.{drop_of_length-le}
 use Rattle.std.proofs.lemmas.Bool.Decides.{eqb_tells}
-use Rattle.cachefile.specs.Line.{rest_after, before_brace, sets_nothing, is_space}
+use Rattle.cachefile.specs.Line.{rest_after, before_brace, sets_nothing, is_space, may_test, setting_of, assignment}
 
 pub same : (n : ℕ) → (n == n) ≡ true
 same n = elim (eqb_tells n n) [ inl h ↦ h.0 | inr h ↦ absurd (h.1 refl) ]
@@ -44,6 +44,12 @@ rest_after_is front text None lacks = elim (found (rest_after front text)) [
   | inl h ↦ absurd (lacks h.0 (front-rest_after front text h.0 h.1))
   | inr h ↦ sym h
 ]
+
+-- a line that doesn't begin with `t` is no line with a test
+pub untested : (line : List ℕ) → may_test line ≡ false → setting_of line ≡ assignment line
+unfolding may_test setting_of rest_after
+untested [] is = refl
+untested (b ∷ bs) is = rw is refl
 
 -- the brace at the end
 pub brace_back : (w : List ℕ) → before_brace (w ++ 125 ∷ []) ≡ Some w

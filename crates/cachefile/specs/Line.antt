@@ -71,6 +71,11 @@ unfoldable pub guarded_setting : List ℕ → List ℕ → Option Setting
 guarded_setting middle text =
     option_and_then (λ p. option_map (λ v. Defaults p.0 v) (option_and_then (value_in false) (option_and_then (rest_after_name p.0) (rest_after middle p.1)))) (front_word text)
 
+-- Whether the line begins with `t`, as each line with a test does. (own)
+unfoldable pub may_test : List ℕ → Bool
+may_test [] = false
+may_test (b ∷ bs) = b == 116
+
 -- The setting of a line that sets a name, or none if it has no such form. (own)
 unfoldable pub setting_of : List ℕ → Option Setting
 setting_of line =

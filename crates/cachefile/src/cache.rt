@@ -139,6 +139,7 @@ impl OldCache {
         ensures err { OnErr result (
             (k : ℕ) × (vars.new ≡ words.vars_after (take k self.now) vars.old)) }
     {
+        vars.reserve(self.entries.len())?;
         for entry in &self.entries {
             entry.pour(vars)?;
         }

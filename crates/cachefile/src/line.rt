@@ -155,11 +155,25 @@ fn guarded_setting(alloc: Global, middle: &[u8], text: &[u8]) -> Result<Option<E
     default_entry(alloc, false, name, word)
 }
 
+// Returns whether the line may be one with a test. Most lines of a cache are not.
+#[tactic(auto, unfolding(crate::specs::Line::may_test))]
+fn may_test(line: &[u8]) -> bool
+    ensures { result ≡ words.may_test line.now }
+{
+    match line {
+        [b't', ..] => true,
+        _ => false,
+    }
+}
+
 // Returns the entry of a line that sets a name.
-#[tactic(auto, unfolding(crate::specs::Line::setting_of))]
+#[tactic(auto, using(crate::proofs::Fronts::untested), unfolding(crate::specs::Line::setting_of))]
 fn setting(alloc: Global, line: &[u8]) -> Result<Option<Entry>, AllocError>
     ensures { IfOk result (λ e. e ≡ words.setting_of line.now) }
 {
+    if !may_test(line) {
+        return assignment(alloc, line);
+    }
     if let Some(text) = rest_after(b"test ${", line) {
         return guarded_setting(alloc, b"+y} || ", text);
     }

@@ -10,5 +10,21 @@ ghost use Rattle.cachefile.specs.Name as words;
 pub fn is_mark(name: &[u8]) -> bool
     ensures { result ≡ words.is_mark name.now }
 {
-    name.starts_with(b"ac_cv_env_")
+    // `starts_with` takes many times as long, and every name of a cache is asked.
+    match name {
+        [
+            b'a',
+            b'c',
+            b'_',
+            b'c',
+            b'v',
+            b'_',
+            b'e',
+            b'n',
+            b'v',
+            b'_',
+            ..
+        ] => true,
+        _ => false,
+    }
 }

@@ -90,14 +90,9 @@ fn push_if(value: &mut Vec<u8>, is_added: bool, byte: u8) -> Result<(), AllocErr
     Ok(())
 }
 
-/// Returns the value of the word, or `None` if the text isn't one. A braced word is inside
-/// `${V=W}`.
+// Returns the value of the word, or `None` if the text isn't one, byte by byte.
 #[tactic(auto, using(crate::proofs::Loops::read_more, crate::proofs::Loops::read_stop, crate::proofs::Loops::read_end))]
-pub(crate) fn value_in(
-    alloc: Global,
-    braced: bool,
-    word: &[u8],
-) -> Result<Option<Bytes>, AllocError>
+fn read_word(alloc: Global, braced: bool, word: &[u8]) -> Result<Option<Bytes>, AllocError>
     ensures { IfOk result (λ v. v ≡ words.value_in braced word.now) }
 {
     let mut value = Vec::new(alloc);
@@ -110,6 +105,24 @@ pub(crate) fn value_in(
         push_if(&mut value, is_added, *byte)?;
     }
     Ok(value_at_end(quoting, value))
+}
+
+/// Returns the value of the word, or `None` if the text isn't one. A braced word is inside
+/// `${V=W}`.
+#[tactic(auto, using(crate::proofs::Words::safe_reads))]
+pub(crate) fn value_in(
+    alloc: Global,
+    braced: bool,
+    word: &[u8],
+) -> Result<Option<Bytes>, AllocError>
+    ensures { IfOk result (λ v. v ≡ words.value_in braced word.now) }
+{
+    // Most words have no quotes.
+    if are_safe(word) {
+        let value = Bytes::from_slice(alloc, word)?;
+        return Ok(Some(value));
+    }
+    read_word(alloc, braced, word)
 }
 
 fn is_safe(byte: u8) -> bool

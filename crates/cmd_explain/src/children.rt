@@ -135,7 +135,7 @@ fn cache_words(alloc: Global, cache: &[u8]) -> Result<Vec<u8>, AllocError> {
     let mut page = Page::new(alloc);
     page.put(keys::WRONG_NO, &[WordPart::AsItIs(cache)]);
     let words = page.message()?;
-    Ok(words.into_vec())
+    words.into_vec(alloc)
 }
 
 /// Writes words as a line. If memory ran out, writes nothing.

@@ -1,2 +1,3 @@
 pub mod Saying
+mod Single
 pub mod Statuses

@@ -1,6 +1,6 @@
 -- What `acrun lint` finds in sources, as its exit status. All of this is own.
-use Rattle.std.specs.Prelude.{◌≡◌, ℕ, Bool, true, false, not, ◌&&◌, ◌||◌, List, [], ◌∷◌, ◌++◌, Option, bytes_eq, codes}
-use Rattle.std.specs.List.{filter}
+use Rattle.std.specs.Prelude.{◌≡◌, ℕ, Bool, true, false, not, ◌&&◌, ◌||◌, List, [], ◌∷◌, ◌++◌, Option, bytes_eq, codes, if◌then◌else◌}
+use Rattle.std.specs.List.{filter, list_any}
 use Rattle.file_disk.specs.Known.{Known}
 use Rattle.cmd_call.specs.Calls.{is_input, is_option}
 use Rattle.lint_sources.specs.Sources.{HasError, IsNamed}
@@ -27,6 +27,11 @@ or_here (name ∷ more) = name ∷ more
 -- The names of sources among words.
 abbrev pub named_by : List (List ℕ) → List (List ℕ)
 named_by words = or_here (filter is_name words)
+
+-- Whether words name at most one source.
+unfoldable pub names_one : List (List ℕ) → Bool
+names_one [] = true
+names_one (word ∷ more) = if is_name word then not (list_any is_name more) else names_one more
 
 -- ---- the status
 

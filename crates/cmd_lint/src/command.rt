@@ -8,7 +8,7 @@ ghost use Rattle.cmd_lint.specs.Colours as colours;
 ghost use Rattle.cmd_lint.specs.Refusals.{AreSaidOf, IsSaidOf};
 ghost use Rattle.cmd_lint.specs.Status as specs;
 
-use crate::words::{asks_json, has_name, has_unknown, is_name};
+use crate::words::{asks_json, has_name, has_unknown, is_name, names_one};
 use cmd_call::{Hears, tell_file, tell_memory, tell_usage};
 use deftable::Bytes;
 use file_disk::Disk;
@@ -136,7 +136,7 @@ fn lint_names<D: Disk, R: Read, W: Write, E: Hears>(
         × (result ≡ 2 → lines ≢ [])
         × AreSaid E.contents E.has_failed errors.old errors.new lines }
 {
-    let is_last = words.len() == 1;
+    let is_last = names_one(words);
     let mut status: u8 = 0;
     'words: for word in words {
         if is_name(word) {

@@ -51,3 +51,16 @@ pub(crate) fn has_name(words: &[Bytes]) -> bool
 {
     words.iter().any(is_name)
 }
+
+/// Returns whether the words name at most one source.
+#[tactic(auto, using(crate::proofs::Single::one_more, crate::proofs::Single::one_stop, crate::proofs::Single::one_end, std::proofs::lemmas::List::take_rest))]
+pub(crate) fn names_one(words: &[Bytes]) -> bool
+    ensures { result ≡ specs.names_one words.now }
+{
+    for i in 0..words.len() {
+        if is_name(&words[i]) {
+            return !has_name(&words[i + 1..]);
+        }
+    }
+    true
+}

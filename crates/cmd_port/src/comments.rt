@@ -50,7 +50,7 @@ fn not_first(alloc: Global) -> Result<Vec<u8>, AllocError> {
     let mut page = Page::new(alloc);
     page.put(keys::INIT_NOT_FIRST, &[]);
     let words = page.message()?;
-    Ok(words.into_vec())
+    words.into_vec(alloc)
 }
 
 /// Returns whether the help is of this source, or one line. Other help is an example.

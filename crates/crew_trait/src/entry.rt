@@ -18,6 +18,10 @@ pub enum Entry {
     Child { job: Job, reply: Reply },
 }
 
+/// The number of entries for which a log takes room at its first one, so that the entries of most
+/// runs are never moved.
+const FIRST_ROOM: usize = 1024;
+
 /// The pieces that a run printed and the children that it asked for, in order.
 pub struct Log {
     entries: Vec<Entry>,
@@ -61,6 +65,9 @@ impl Log {
         ensures ok { OnOk result (self.new ≡ self.old ++ entry ∷ []) }
         ensures err { OnErr result (self.new ≡ self.old) }
     {
+        if self.entries.is_empty() {
+            self.entries.reserve(FIRST_ROOM)?;
+        }
         self.entries.push(entry)?;
         Ok(())
     }

@@ -6,12 +6,23 @@ ghost use Rattle.deftable.specs.CacheName as words;
 
 use crate::shell_name::is_shell_name;
 
+/// Returns whether the text begins with `_cv_`.
+fn begins_cv(text: &[u8]) -> bool
+    ensures { result ≡ starts_with nat_eq text.now (codes "_cv_") }
+{
+    match text {
+        [b'_', b'c', b'v', b'_', ..] => true,
+        _ => false,
+    }
+}
+
+/// Returns whether the text contains `_cv_`.
 #[tactic(auto, using(crate::proofs::CacheNames::cv_more, crate::proofs::CacheNames::cv_stop, crate::proofs::CacheNames::cv_end))]
 fn has_cv(text: &[u8]) -> bool
     ensures { result ≡ words.has_cv text.now }
 {
     for i in 0..text.len() {
-        if text[i..].starts_with(b"_cv_") {
+        if begins_cv(&text[i..]) {
             return true;
         }
     }

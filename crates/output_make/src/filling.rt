@@ -147,9 +147,7 @@ fn header_text(
     let template = text_of(templates, header.template.as_slice());
     let made = fill_header(alloc, template, &recorded.defs)?;
     let note = header_note(alloc, header.name.as_slice(), header.template.as_slice())?;
-    let mut text = note.into_vec();
-    text.extend_from_slice(made.as_slice())?;
-    Ok(Bytes::from_vec(text))
+    Bytes::concat(alloc, &[note.as_slice(), made.as_slice()])
 }
 
 /// Makes a header of its template.

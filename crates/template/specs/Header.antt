@@ -3,7 +3,7 @@ use Rattle.std.specs.Prelude.{◌≡◌, ℕ, ◌==◌, ◌&&◌, ◌||◌, ◌<
 use Rattle.std.specs.List.{list_all, ends_with, prefix_len}
 use Rattle.bstr.specs.Text.{lines_of}
 pub use Rattle.text_cut.specs.Cuts.{is_space}
-use Rattle.deftable.specs.ShellName.{is_shell_name_of, continues_name}
+use Rattle.deftable.specs.ShellName.{is_shell_name_of, starts_name, continues_name}
 use Rattle.deftable.specs.Table.{value_of}
 use Rattle.template.specs.declared.header.Parts.{Parts}
 
@@ -28,6 +28,11 @@ keyword false = codes "define"
 abbrev pub ends_name : List ℕ → Bool
 ends_name [] = true
 ends_name (b ∷ bs) = is_space b || b == 40 || b == 10
+
+-- Whether the text begins with a byte that may begin a name. (own)
+abbrev pub begins_name : List ℕ → Bool
+begins_name [] = false
+begins_name (b ∷ bs) = starts_name b
 
 -- The line has this directive: spaces and tabs, `#`, spaces and tabs, the keyword, one or more spaces and tabs, the name, and then
 -- what may come after a name. (Autoconf's manual, "Header Templates"; what may come after a name is own)

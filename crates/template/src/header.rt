@@ -3,11 +3,12 @@
 ghost use Rattle.std.specs.Prelude.{◌≡◌, ℕ, List, ◌++◌, ◌≤◌, IfOk, OnOk, length, option_map, option_and_then, codes, flat_map, false};
 ghost use Rattle.std.specs.List.{prefix_len};
 ghost use Rattle.bstr.specs.Text.{lines_of};
+ghost use Rattle.deftable.specs.ShellName.{is_shell_name_of};
 ghost use Rattle.template.specs.Header as header;
 
 use bstr::ByteSlice;
-use deftable::shell_name::name_bytes_len;
-use deftable::{Bytes, Defs, is_shell_name};
+use deftable::shell_name::{is_name_start, name_bytes_len};
+use deftable::{Bytes, Defs};
 use std::alloc::{AllocError, Global};
 use text_cut::is_space;
 
@@ -49,15 +50,32 @@ fn ends_name(text: &[u8]) -> bool
     }
 }
 
+/// Returns whether the text begins with a byte that may begin a name.
+fn begins_name(text: &[u8]) -> bool
+    ensures { result ≡ header.begins_name text.now }
+{
+    match text {
+        [] => false,
+        [byte, ..] => is_name_start(*byte),
+    }
+}
+
+/// Returns whether the longest word at the front is a name.
+#[tactic(auto, using(crate::proofs::Headers::begun))]
+fn has_name(text: &[u8]) -> bool
+    ensures { result ≡ is_shell_name_of (header.word_of text.now) }
+{
+    begins_name(text)
+}
+
 /// Returns the name at the front, if there is one that may end there.
 #[tactic(auto, unfolding(crate::specs::Header::name_at))]
 fn name_at(text: &[u8]) -> Option<&[u8]>
     ensures { option_map (λ name. name.now) result ≡ header.name_at text.now }
 {
     let len = name_bytes_len(text);
-    let name = &text[..len];
-    if is_shell_name(name) && ends_name(&text[len..]) {
-        return Some(name);
+    if has_name(text) && ends_name(&text[len..]) {
+        return Some(&text[..len]);
     }
     None
 }

@@ -15,6 +15,10 @@ text a\0\xff,a\0\xff => 3 no [a\0\xff] same
 text a,a\0\xff => 1 no [a] before
 text a,\xff => 1 no [a] before
 text , => 0 yes [] same
+text abcdefghijklmnopqrstuvwxyz0123,abcdefghijklmnopqrstuvwxyz0123 => 30 no [abcdefghijklmnopqrstuvwxyz0123] same
+text abcdefghijklmnopqrstuvwxyz0123,abcdefghijklmnopqrstuvwxyz01234 => 30 no [abcdefghijklmnopqrstuvwxyz0123] before
+text abcdefghijklmnopqrstuvwxyz01234,abcdefghijklmnopqrstuvwxyz01234 => 31 no [abcdefghijklmnopqrstuvwxyz01234] same
+text abcdefghijklmnopqrstuvwxyz01234,b => 31 no [abcdefghijklmnopqrstuvwxyz01234] before
 
 name a => yes [a]
 name _ => yes [_]
@@ -47,7 +51,7 @@ fn put_order(page: &mut Page, first: &Bytes, second: &Bytes) {
 
 fn copied(alloc: Global, text: &Bytes) -> Result<Bytes, AllocError> {
     let clone = text.copy(alloc)?.clone()?;
-    Ok(Bytes::from_vec(clone.into_vec()))
+    Ok(Bytes::from_vec(clone.into_vec(alloc)?))
 }
 
 fn put_copy(page: &mut Page, first: &Bytes, second: &Bytes) {

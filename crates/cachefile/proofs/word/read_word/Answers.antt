@@ -1,6 +1,6 @@
 use Rattle.std.proofs.Common.{rules, sym, ◌∙◌}
 use Rattle.cachefile.proofs.Loops.{read_more, read_stop, read_end}
-use Rattle.cachefile.proofs.word.value_in.Goals as goal
+use Rattle.cachefile.proofs.word.read_word.Goals as goal
 
 pub returns-in_default : goal.returns-in_default
 returns-in_default c = sym (read_stop _ c.args.braced _ c.bytes.quoting c.args.word.now c.bytes.byte-index 0 (search rules) (sym c.in_default.ensures) c.bytes.invariant)
