@@ -134,6 +134,7 @@ fn port_refused(
 }
 
 /// Returns a source that acrun accepts, with the name and the version that are stated in AC_INIT.
+#[tactic(auto, using(crate::proofs::Steps::unchanged_kept, crate::proofs::Steps::retitled_kept))]
 fn port_accepted(
     alloc: Global,
     naming: Option<Package<'_>>,
