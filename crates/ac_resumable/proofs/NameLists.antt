@@ -1,43 +1,25 @@
 -- How the table of names changes.
 use Rattle.std.proofs.Common.{◌≡◌, ℕ, zero, suc, List, [], ◌∷◌, ◌++◌, Bool, true, false, ◌||◌, refl, sym, ap, ◌∙◌, length, take, get_or, min, ◌<◌, ◌+◌, append_assoc, subst, arith, Result, Ok, Err}
 use Rattle.std.specs.Prelude.{bytes_eq, if◌then◌else◌, OnOk}
-use Rattle.std.specs.Global.{Vec}
 use Rattle.std.specs.List.{list_any}
 use Rattle.std.proofs.lemmas.List.{append-nil, take_more}
 use Rattle.indexmap.specs.IndexSet.{insert_key}
 use Rattle.ac_tree.specs.Resumable.{first_alone}
 use Rattle.deftable.specs.NameList.{has_name, with_name}
 use Rattle.deftable.proofs.Names.{has_name-with_name, with_name-known, with_name-new}
-use Rattle.ac_resumable.specs.Tested.{texts_of, HasSameNames, Extends}
+use Rattle.ac_resumable.specs.Tested.{HasSameNames, Extends}
 
-pub any_has : (keys : List (Vec ℕ)) (k : List ℕ) → list_any (λ x. bytes_eq k x.items) keys ≡ has_name (texts_of keys) k
+pub any_has : (names : List (List ℕ)) (k : List ℕ) → list_any (λ x. bytes_eq k x) names ≡ has_name names k
 unfolding has_name
 any_has [] k = refl
-any_has (x ∷ keys) k = ap (λ b. bytes_eq k x.items || b) (any_has keys k)
+any_has (x ∷ names) k = ap (λ b. bytes_eq k x || b) (any_has names k)
 
-texts_append : (a b : List (Vec ℕ)) → texts_of (a ++ b) ≡ texts_of a ++ texts_of b
-texts_append [] b = refl
-texts_append (x ∷ a) b = ap (λ l. x.items ∷ l) (texts_append a b)
-
-pub texts_insert : (keys : List (Vec ℕ)) (v : Vec ℕ) → texts_of (insert_key (λ a b. bytes_eq a.items b.items) keys v) ≡ with_name (texts_of keys) v.items
-texts_insert keys v = by (has_name (texts_of keys) v.items) refl
+pub insert_is : (names : List (List ℕ)) (k : List ℕ) → insert_key (λ a b. bytes_eq a b) names k ≡ with_name names k
+insert_is names k = by (has_name names k) refl
   where
-    by : (b : Bool) → has_name (texts_of keys) v.items ≡ b → texts_of (insert_key (λ a b. bytes_eq a.items b.items) keys v) ≡ with_name (texts_of keys) v.items
-    by true e =
-        ap (λ c. texts_of (if c then keys else keys ++ v ∷ [])) (any_has keys v.items ∙ e) ∙ sym (with_name-known (texts_of keys) v.items e)
-    by false e =
-        ap (λ c. texts_of (if c then keys else keys ++ v ∷ [])) (any_has keys v.items ∙ e) ∙ texts_append keys (v ∷ []) ∙ sym (with_name-new (texts_of keys) v.items e)
-
-pub texts_take : (n : ℕ) (keys : List (Vec ℕ)) → texts_of (take n keys) ≡ take n (texts_of keys)
-texts_take zero keys = refl
-texts_take (suc n) [] = refl
-texts_take (suc n) (x ∷ keys) = ap (λ l. x.items ∷ l) (texts_take n keys)
-
-pub texts_length : (keys : List (Vec ℕ)) → length (texts_of keys) ≡ length keys
-texts_length [] = refl
-texts_length (x ∷ keys) = ap suc (texts_length keys)
-
-pub ruleset tables = (any_has, texts_insert, texts_take, texts_length)
+    by : (b : Bool) → has_name names k ≡ b → insert_key (λ a b. bytes_eq a b) names k ≡ with_name names k
+    by true e = ap (λ c. if c then names else names ++ k ∷ []) (any_has names k ∙ e) ∙ sym (with_name-known names k e)
+    by false e = ap (λ c. if c then names else names ++ k ∷ []) (any_has names k ∙ e) ∙ sym (with_name-new names k e)
 
 -- ---- what a list has
 

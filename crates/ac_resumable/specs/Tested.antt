@@ -1,14 +1,9 @@
 -- The names that were tested, as the code keeps them.
-use Rattle.std.specs.Prelude.{◌≡◌, ℕ, Bool, true, List, ◌++◌, map}
-use Rattle.std.specs.Global.{Vec}
+use Rattle.std.specs.Prelude.{◌≡◌, ℕ, Bool, true, List, ◌++◌}
 use Rattle.deftable.specs.NameList.{has_name}
 use Rattle.shellword.specs.declared.part.Part.{Part}
 use Rattle.shellword.specs.declared.part.Part.TheVariants.{Plain, Quoted, Variable}
 use Rattle.ac_tree.specs.Decide.{may_read}
-
--- The texts of vectors of bytes. (own)
-abbrev pub texts_of : List (Vec ℕ) → List (List ℕ)
-texts_of names = map (λ v. v.items) names
 
 -- The same names are in both lists. (own)
 abbrev pub HasSameNames : List (List ℕ) → List (List ℕ) → Type 0

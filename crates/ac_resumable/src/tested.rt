@@ -12,7 +12,7 @@ use std::marker::Model;
 /// The names that were tested, each once, in the order in which they were first added.
 pub(crate) struct Tested {
     alloc: Global,
-    names: IndexSet<Vec<u8>>,
+    names: IndexSet<Bytes>,
 }
 
 impl Drop for Tested {
@@ -26,14 +26,12 @@ impl Drop for Tested {
 
 impl Model for Tested {
     ghost use Rattle.std.specs.Prelude.{ℕ, List};
-    ghost use Rattle.ac_resumable.specs.Tested.{texts_of};
 
     ghost Value = { List (List ℕ) };
 
-    ghost view = { λ t. texts_of t.names.keys };
+    ghost view = { λ t. t.names.keys };
 }
 
-#[tactic(auto, using(crate::proofs::NameLists::tables))]
 impl Tested {
     /// Returns no names.
     pub(crate) fn new(alloc: Global) -> Tested
@@ -61,7 +59,7 @@ impl Tested {
     fn add(&mut self, name: &[u8]) -> Result<(), AllocError>
         ensures { OnOk result (self.new ≡ with_name self.old name.now) }
     {
-        let name = Vec::from_slice(self.alloc, name)?;
+        let name = Bytes::from_slice(self.alloc, name)?;
         self.names.insert(name)?;
         Ok(())
     }

@@ -1,5 +1,5 @@
 -- The setting of a line of a cache file, as a function of the line. `Form` has the forms of lines.
-use Rattle.std.specs.Prelude.{ℕ, ◌==◌, ◌||◌, Bool, true, false, List, [], ◌∷◌, take, drop, Option, Some, None, option_map, option_and_then, codes, if◌then◌else◌}
+use Rattle.std.specs.Prelude.{ℕ, ◌==◌, Bool, true, false, List, [], ◌∷◌, take, drop, Option, Some, None, option_map, option_and_then, codes, if◌then◌else◌}
 use Rattle.std.specs.List.{prefix_len}
 pub use Rattle.text_cut.specs.Cuts.{is_space}
 use Rattle.cachefile.specs.Name.{is_word_byte}

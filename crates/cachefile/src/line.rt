@@ -12,10 +12,21 @@ use deftable::Bytes;
 use std::alloc::{AllocError, Global};
 use text_cut::is_space;
 
+// 1 for each byte of a word, and 0 for the others.
+static WORD_BYTES: [u8; 256] = *b"\
+    00000000000000000000000000000000\
+    00000000000000001111111111000000\
+    01111111111111111111111111100001\
+    01111111111111111111111111100000\
+    00000000000000000000000000000000\
+    00000000000000000000000000000000\
+    00000000000000000000000000000000\
+    00000000000000000000000000000000";
+
 fn is_word_byte(byte: u8) -> bool
     ensures { result ≡ names.is_word_byte byte }
 {
-    byte.is_ascii_alphanumeric() || byte == b'_'
+    WORD_BYTES[byte as usize] == b'1'
 }
 
 // Returns the number of letters, digits and `_` at the front.
