@@ -2,9 +2,10 @@
 use Rattle.std.proofs.Common.{◌≡◌, ℕ, ◌+◌, Bool, true, false, List, [], ◌∷◌, Option, Some, None, ◌⊎◌, inl, inr, cond, length, drop, filter, refl, sym, ap, ◌∙◌, subst, arith, Ordering, Less, Equal, Greater}
 use Rattle.std.specs.Prelude.{fold, slice_get, bytes_eq}
 use Rattle.std.specs.List.{IsDistinct, AllByRecursion}
+use Rattle.std.specs.List.Sorted.{IsStrictlySortedBy}
 use Rattle.std.specs.BTreeMap.{insert_entry}
-use Rattle.std.specs.Ordering.{nat_cmp, match_ordering, is_eq}
-use Rattle.std.specs.Cmp.Lexicographic.{slice_cmp}
+use Rattle.std.specs.Ordering.{nat_cmp, match_ordering, ordering_reverse, is_eq}
+use Rattle.std.specs.Cmp.Lexicographic.{slice_cmp, nat_list_cmp_total}
 use Rattle.std.proofs.Math.Path.{fun_ext}
 use Rattle.std.proofs.lemmas.List.{drop_more}
 use Rattle.std.proofs.Math.ListN.{drop_of_length-le}
@@ -160,3 +161,45 @@ all_saved_entries vars = all_saved (filter is_saved vars) (filter_saved vars)
 
 pub saved_none : (vars : Entries) (n : ℕ) → n ≡ length vars → [] ≡ saved_entries (drop n vars)
 saved_none vars n is = ap (λ es. saved_entries es) (sym (drop_of_length-le vars (omega (arith, is))))
+
+-- ---- entries that are put in their place are in order
+
+-- each name is after this one
+abbrev AreAfter : List ℕ → Entries → Type 0
+AreAfter name es = AllByRecursion (λ n. order name n ≡ Less) (names_of es)
+
+after_too : (a b : List ℕ) (es : Entries) → order a b ≡ Less → AreAfter b es → AreAfter a es
+after_too a b [] less all = tt
+after_too a b (e ∷ es) less all = (nat_list_cmp_total.trans a b e.0 less all.0, after_too a b es less all.1)
+
+put_after_by : (o : Ordering) (name : List ℕ) (e : List ℕ × List ℕ) (es inserted : Entries) (k v : List ℕ) → order name k ≡ Less → AreAfter name (e ∷ es) → AreAfter name inserted
+    → AreAfter name (match_ordering o ((k, v) ∷ e ∷ es) ((e.0, v) ∷ es) (e ∷ inserted))
+put_after_by Less name e es inserted k v less all more = (less, all)
+put_after_by Equal name e es inserted k v less all more = all
+put_after_by Greater name e es inserted k v less all more = (all.0, more)
+
+put_after : (name : List ℕ) (es : Entries) (k v : List ℕ) → order name k ≡ Less → AreAfter name es → AreAfter name (insert_entry order es k v)
+put_after name [] k v less all = (less, tt)
+put_after name (e ∷ es) k v less all =
+    put_after_by (order k e.0) name e es (insert_entry order es k v) k v less all (put_after name es k v less all.1)
+
+put_in_order_by : (o : Ordering) (e : List ℕ × List ℕ) (es inserted : Entries) (k v : List ℕ) → order k e.0 ≡ o → AreInOrder (e ∷ es) → AreInOrder inserted
+    → (order e.0 k ≡ Less → AreAfter e.0 inserted) → AreInOrder (match_ordering o ((k, v) ∷ e ∷ es) ((e.0, v) ∷ es) (e ∷ inserted))
+unfolding IsStrictlySortedBy
+put_in_order_by Less e es inserted k v is sorted rest later = ((is, after_too k e.0 es is sorted.0), sorted)
+put_in_order_by Equal e es inserted k v is sorted rest later = sorted
+put_in_order_by Greater e es inserted k v is sorted rest later = (later (nat_list_cmp_total.antisymm e.0 k ∙ ap ordering_reverse is), rest)
+
+put_in_order : (es : Entries) (k v : List ℕ) → AreInOrder es → AreInOrder (insert_entry order es k v)
+unfolding IsStrictlySortedBy
+put_in_order [] k v sorted = (tt, tt)
+put_in_order (e ∷ es) k v sorted =
+    put_in_order_by (order k e.0) e es (insert_entry order es k v) k v refl sorted (put_in_order es k v sorted.1) (λ less. put_after e.0 es k v less sorted.0)
+
+all_in_order : (es : Entries) → AreInOrder (in_order es)
+unfolding IsStrictlySortedBy
+all_in_order [] = tt
+all_in_order (e ∷ es) = put_in_order (in_order es) e.0 e.1 (all_in_order es)
+
+pub saved_in_order : (vars es : Entries) → es ≡ saved_entries vars → AreInOrder es
+saved_in_order vars es is = subst AreInOrder (sym is) (all_in_order (filter is_saved vars))

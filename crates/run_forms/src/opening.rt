@@ -5,7 +5,7 @@ ghost use Rattle.meaning.specs.Forms.{form_name, value_in};
 ghost use Rattle.run_forms.specs.Courses.{Opens, bare_course, value_unless};
 
 use crate::course::FormCourse;
-use deftable::Bytes;
+use deftable::{Bytes, is_shell_name};
 use m4quote::sh_name;
 use run_state::Store;
 use shellword::HereText;
@@ -20,11 +20,15 @@ pub struct Opening {
     pub value: Option<Bytes>,
 }
 
-/// Returns the cached name of a test.
+/// Returns the cached name of a test. A text that is a name already isn't changed.
+#[tactic(auto, using(crate::proofs::Named::test_name_stays))]
 fn form_name(alloc: Global, form: &TestForm) -> Result<Bytes, AllocError>
     ensures { IfOk result (λ n. n ≡ form_name form.now) }
 {
     let text = form.key_after(alloc, b"ac_cv_")?;
+    if is_shell_name(text.as_slice()) {
+        return Ok(text);
+    }
     let name = sh_name(alloc, text.as_slice())?;
     Ok(Bytes::from_vec(name))
 }
