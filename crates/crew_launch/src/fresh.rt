@@ -8,7 +8,7 @@ ghost use Rattle.crew_launch.specs.Fresh.{DoesFront, Prepares, breaking, replaci
 use crate::products::free_products;
 use file_disk::{Disk, clear, create_filled};
 use std::alloc::Global;
-use std::io::{self, ErrorKind};
+use std::io;
 
 /// Writes a conftest, after what a compiler made of the one before is removed. So a program that is
 /// run is one that a compiler just made, and a compiler writes through no link.
@@ -35,9 +35,9 @@ pub(crate) fn write_conftest<D: Disk>(
     }
 }
 
-/// Writes a text to a new file of this name. If a regular file or a link has this name, it is
-/// removed first. So nothing is written through a link, and a pipe or a device is not opened. A new
-/// file is also faster: ext4 writes one that was truncated to the disk when it is closed.
+/// Writes a text to a new file of this name. A regular file or a link of this name is removed
+/// first. So nothing is written through a link, and a pipe or a device is not opened. A new file is
+/// also faster: ext4 writes one that was truncated to the disk when it is closed.
 ///
 /// # Errors
 ///
@@ -49,28 +49,6 @@ fn write_fresh<D: Disk>(disk: &mut D, name: &str, text: &[u8]) -> io::Result<()>
     ensures spoilt { OnErr result (
         DoesFront (D.known disk.old) (D.known disk.new) (spoiling name.now)) }
 {
-    match disk.create(name) {
-        Ok(file) => disk.fill(name, file, None, text),
-        Err(e) => write_over(disk, name, text, e),
-    }
-}
-
-/// Writes a text to a new file that the system refused to make. If it said that something has this
-/// name, a regular file or a link is removed, and the file is made again.
-///
-/// # Errors
-///
-/// Fails with that error if it said something else, or if the system refuses a step.
-#[tactic(auto, using(crate::proofs::Freeing::refused_none))]
-fn write_over<D: Disk>(disk: &mut D, name: &str, text: &[u8], refused: io::Error) -> io::Result<()>
-    ensures replaced { OnOk result (
-        DoesAll (D.known disk.old) (D.known disk.new) (replacing name.now text.now)) }
-    ensures spoilt { OnErr result (
-        DoesFront (D.known disk.old) (D.known disk.new) (spoiling name.now)) }
-{
-    if refused.kind() != ErrorKind::AlreadyExists {
-        return Err(refused);
-    }
     match clear(disk, name) {
         Ok(()) => create_filled(disk, name, text),
         Err(e) => Err(e),
