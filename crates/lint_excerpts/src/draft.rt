@@ -160,16 +160,29 @@ impl Draft {
         self.put(&[digit((number % 16) as u8)]);
     }
 
-    /// Writes `\uNNNN` for a character below U+10000.
+    /// Writes `\uNNNN`.
+    fn put_unit(&mut self, unit: u32)
+        ensures { self.new ≡ self.old }
+    {
+        self.put(b"\\u");
+        self.put_digit(unit / 4096);
+        self.put_digit(unit / 256);
+        self.put_digit(unit / 16);
+        self.put_digit(unit);
+    }
+
+    /// Writes a character by its number: `\uNNNN`, or two of these from U+10000 on (RFC 8259, 7).
     pub(crate) fn put_code(&mut self, c: char)
         ensures { self.new ≡ self.old }
     {
         let code = c as u32;
-        self.put(b"\\u");
-        self.put_digit(code / 4096);
-        self.put_digit(code / 256);
-        self.put_digit(code / 16);
-        self.put_digit(code);
+        if code < 0x10000 {
+            self.put_unit(code);
+        } else {
+            let above = code - 0x10000;
+            self.put_unit(0xd800 + above / 0x400);
+            self.put_unit(0xdc00 + above % 0x400);
+        }
     }
 
     pub(crate) fn put_number(&mut self, number: usize)

@@ -4,6 +4,7 @@ ghost use Rattle.std.specs.Prelude.{◌≡◌};
 
 use crate::draft::Draft;
 use bstr::ByteSlice;
+use text_controls::is_mark;
 use unicode_width::UnicodeWidthChar;
 
 /// The most bytes of a line that are shown.
@@ -111,16 +112,9 @@ impl<'a> Marked<'a> {
     }
 }
 
-/// Returns whether a character turns or hides the text around it.
-pub(crate) fn is_mark(c: char) -> bool {
-    ('\u{200b}'..='\u{200f}').contains(&c)
-        || ('\u{202a}'..='\u{202e}').contains(&c)
-        || ('\u{2066}'..='\u{2069}').contains(&c)
-}
-
 /// Returns the columns that a character of UTF-8 takes, or `None` if it is not shown as it is.
 fn columns_of(c: char, bytes: &[u8]) -> Option<usize> {
-    if is_mark(c) || c == '\u{fffd}' && bytes != b"\xef\xbf\xbd".as_slice() {
+    if is_mark(c as u32) || c == '\u{fffd}' && bytes != b"\xef\xbf\xbd".as_slice() {
         return None;
     }
     c.width()

@@ -9,13 +9,14 @@ ghost use Rattle.lint_excerpts.specs.Plain.{is_plain};
 
 use crate::draft::Draft;
 use crate::excerpt::word_of;
-use crate::marked::{before, from, is_mark};
+use crate::marked::{before, from};
 use bstr::ByteSlice;
 use deftable::Bytes;
 use json::Writer;
 use lint_findings::{Finding, Severity};
 use lint_text::{Position, position_of};
 use std::alloc::{AllocError, Global};
+use text_controls::is_mark;
 
 /// Writes a member whose value is a text. Bytes that aren't UTF-8 become U+FFFD.
 fn put_text(
@@ -155,7 +156,7 @@ fn are_shown(text: &[u8]) -> bool
 /// Returns whether a character is written by its number: one that turns or hides text, or a control
 /// character that JSON takes as it is.
 fn is_numbered(c: char) -> bool {
-    is_mark(c) || ('\u{7f}'..='\u{9f}').contains(&c)
+    is_mark(c as u32) || ('\u{7f}'..='\u{9f}').contains(&c)
 }
 
 /// Writes an object of JSON, with such characters by their numbers.

@@ -4,14 +4,13 @@ ghost use Rattle.std.specs.Prelude.{◌≡◌, ℕ, ◌<◌, ◌≤◌, false, l
 ghost use Rattle.text_controls.specs.Form as form;
 
 /// What is lacking of a character: its next byte is one from `low` to `high`, and then come `more`
-/// bytes from 0x80 to 0xbf. `front` is its last byte so far, if a character that turns or hides text
-/// may begin so, and otherwise 0: 0xe2, or after that 0x80 or 0x81.
+/// bytes from 0x80 to 0xbf. `number` has the bits of its number that its bytes so far have.
 #[derive(Clone, Copy)]
 pub(crate) struct Awaited {
     low: u8,
     high: u8,
     more: u8,
-    front: u8,
+    number: u32,
 }
 
 /// Returns that no character has begun.
@@ -22,7 +21,7 @@ pub(crate) fn nothing() -> Awaited
         low: 1,
         high: 0,
         more: 0,
-        front: 0,
+        number: 0,
     }
 }
 
@@ -43,18 +42,17 @@ fn after_first(byte: u8) -> Awaited
             low,
             high: 0xbf,
             more: 0,
-            front: 0,
+            number: byte as u32 % 32,
         };
     }
     if byte >= 0xe0 && byte <= 0xef {
         let low = either(byte == 0xe0, 0xa0, 0x80);
         let high = either(byte == 0xed, 0x9f, 0xbf);
-        let front = either(byte == 0xe2, 0xe2, 0);
         return Awaited {
             low,
             high,
             more: 1,
-            front,
+            number: byte as u32 % 16,
         };
     }
     if byte >= 0xf0 && byte <= 0xf4 {
@@ -64,7 +62,7 @@ fn after_first(byte: u8) -> Awaited
             low,
             high,
             more: 2,
-            front: 0,
+            number: byte as u32 % 8,
         };
     }
     nothing()
@@ -76,23 +74,32 @@ fn continues(awaited: Awaited, byte: u8) -> bool
     awaited.low <= byte && byte <= awaited.high
 }
 
-/// Returns the second byte of a character that may turn or hide text, or 0.
-fn front_after(awaited: Awaited, byte: u8) -> u8
-    ensures { result ≡ form.front_after awaited byte }
+/// Returns the bits of a character's number that its bytes so far have, one more byte included. So
+/// many bits are kept that the next six have room.
+fn number_after(awaited: Awaited, byte: u8) -> u32
+    ensures { result ≡ form.number_after awaited byte }
 {
-    either(
-        awaited.front == 0xe2 && (byte == 0x80 || byte == 0x81),
-        byte,
-        0,
-    )
+    awaited.number % 0x8000 * 64 + byte as u32 % 64
+}
+
+/// Returns whether the character of this number turns or hides text (own): U+061C, U+200B to U+200F,
+/// U+2028 to U+202E, U+2066 to U+2069, U+FEFF, or U+E0000 to U+E007F.
+pub fn is_mark(number: u32) -> bool
+    ensures { result ≡ form.is_mark number }
+{
+    number == 0x61c
+        || number >= 0x200b && number <= 0x200f
+        || number >= 0x2028 && number <= 0x202e
+        || number >= 0x2066 && number <= 0x2069
+        || number == 0xfeff
+        || number >= 0xe0000 && number <= 0xe007f
 }
 
 /// Returns whether the byte is the last one of a character that turns or hides text.
 fn ends_mark(awaited: Awaited, byte: u8) -> bool
     ensures { result ≡ form.ends_mark awaited byte }
 {
-    awaited.front == 0x80 && (byte >= 0x8b && byte <= 0x8f || byte >= 0xaa && byte <= 0xae)
-        || awaited.front == 0x81 && byte >= 0xa6 && byte <= 0xa9
+    continues(awaited, byte) && awaited.more == 0 && is_mark(number_after(awaited, byte))
 }
 
 /// Returns what is lacking after one more byte.
@@ -110,7 +117,7 @@ fn after(awaited: Awaited, byte: u8) -> Awaited
         low: 0x80,
         high: 0xbf,
         more: awaited.more - 1,
-        front: front_after(awaited, byte),
+        number: number_after(awaited, byte),
     }
 }
 

@@ -9,8 +9,8 @@
 //! A newline and a tab stay as they are, and so do the characters of UTF-8, also if a character's
 //! bytes are handed over by two calls. A control byte is one below 0x20, 0x7f, or one from 0x80 to
 //! 0x9f that continues no character of UTF-8. Of a character that turns or hides text, which is
-//! U+200B to U+200F, U+202A to U+202E or U+2066 to U+2069, the last byte is written as `\xNN`, so
-//! that a terminal doesn't get the character.
+//! U+061C, U+200B to U+200F, U+2028 to U+202E, U+2066 to U+2069, U+FEFF or U+E0000 to U+E007F, the last
+//! byte is written as `\xNN`, so that a terminal doesn't get the character.
 //!
 //! "own" marks a rule that no manual gives.
 //!
@@ -22,5 +22,6 @@ mod awaited;
 mod escaping;
 mod stream;
 
+pub use awaited::is_mark;
 pub use escaping::escape;
 pub use stream::Shown;
