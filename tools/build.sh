@@ -52,9 +52,13 @@ done
 cp HANDLES "$room/"
 git init -q "$room"
 
+# As many checks side by side as there are processors and memory.
+: "${RT_JOBS:=$(python3 tools/machine.py jobs)}"
+export RT_JOBS
+
 began=$(date +%s)
 count=$(echo "$crates" | wc -l)
-echo "Proving $count crates, each as soon as those that it uses are proved, and then building out/$program."
+echo "Proving $count crates, $RT_JOBS side by side, each as soon as those that it uses are proved, and then building out/$program."
 { (cd "$room" && rt ci) 2>&1 || echo "rt ci failed"; } | tee "$log" | awk -v count="$count" '
     /^rt: [a-z0-9_]+ proved$/ { proved++; print "proved " $2 "; " count - proved " of " count " crates are left"; fflush() }'
 if [ "$(tail -n 1 "$log")" = "rt ci failed" ]; then

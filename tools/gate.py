@@ -4,13 +4,20 @@ at each allocation (`refuse_each.py`), and runs of the built program: over child
 terminal (`try_terminal.py`), with errors (`examples/errors` and the examples of docs/errors.md), and of the commands whose words no
 clause has (`examples/help`, `examples/lint` and `examples/port`).
 
+Unless RT_JOBS is set, `rt ci` runs as many checks side by side as the machine has processors and memory for (`machine.py`). On a
+machine on which nothing is proved yet, the gate first takes the unit of docs/proving.md, and says at its end how many units of
+processor time it took.
+
 Its last line is 'N passed, M failed' over all of them, and the exit status is 1 if M is not 0.
 """
+import os
 import re
 import shutil
 import subprocess
 import sys
+import time
 
+import machine
 import refuse_each
 import repository
 
@@ -21,6 +28,8 @@ def prove():
     """Runs `rt ci`, passes on what it prints, and returns how many items passed and failed."""
     # `rt ci` refuses a repository inside this one, such as the room in which `make` proves.
     shutil.rmtree("out/rooms", ignore_errors=True)
+    os.environ.setdefault("RT_JOBS", str(machine.jobs()))
+    print(f"gate: {os.environ['RT_JOBS']} checks side by side on {machine.processors()} processors", flush=True)
     words = {"stdin": subprocess.DEVNULL, "stdout": subprocess.PIPE, "stderr": subprocess.STDOUT, "errors": "replace"}
     last = ""
     with subprocess.Popen(["rt", "ci"], **words) as gate:
@@ -49,9 +58,13 @@ def examples():
 
 
 def main():
+    unit = machine.unit() if machine.is_new() else None
+    began, before = time.time(), machine.used()
     passed, failed = prove()
     for more, wrong in (repository.check(), refuse_each.check(), *examples()):
         passed, failed = passed + more, failed + wrong
+    seconds, used = time.time() - began, machine.used() - before
+    print(f"gate: {seconds:.0f} seconds, {used:.0f} of the processors" + (f", {used / unit:.0f} units of {unit:.1f}" if unit else ""))
     print(f"{passed} passed, {failed} failed")
     return int(failed > 0)
 

@@ -48,7 +48,7 @@ clearing_each (name ∷ names) k = after (clearing_now name) (clearing_each name
 -- There is nothing, or a regular file or a link, which can be removed. (own)
 abbrev pub IsFreeable : Found → Type 0
 IsFreeable found.Nothing = ⊤
-IsFreeable (found.File mode owner) = ⊤
+IsFreeable (found.File mode) = ⊤
 IsFreeable found.Link = ⊤
 IsFreeable found.Directory = ⊥
 IsFreeable found.Special = ⊥

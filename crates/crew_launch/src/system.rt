@@ -55,8 +55,8 @@ impl<R: Files + Processes + Drop> Disk for System<R> {
         file_disk::Host::new(&self.rt).create(name)
     }
 
-    fn owner(&self, name: &str, file: &R::File) -> io::Result<u32> {
-        file_disk::Host::new(&self.rt).owner(name, file)
+    fn mode(&self, name: &str, file: &R::File) -> io::Result<u32> {
+        file_disk::Host::new(&self.rt).mode(name, file)
     }
 
     fn fill(

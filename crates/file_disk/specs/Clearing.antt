@@ -6,7 +6,7 @@ use Rattle.file_disk.specs.declared.found.Found.TheVariants as found
 
 -- What is removed under a name: a regular file or a link, and nothing else. (own)
 abbrev pub clearing : List ℕ → Found → List Deed
-clearing name (found.File mode owner) = Removed name ∷ []
+clearing name (found.File mode) = Removed name ∷ []
 clearing name found.Link = Removed name ∷ []
 clearing name found.Nothing = []
 clearing name found.Directory = []

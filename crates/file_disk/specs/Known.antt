@@ -41,17 +41,17 @@ text_under k name = k.files.texts k.deeds name
 abbrev pub kind_under : Known → List ℕ → Found
 kind_under k name = k.files.kinds k.deeds name
 
--- The user id of the owner of what was found, if it is a regular file. (own)
-abbrev pub owner_of : Found → Option ℕ
-owner_of (found.File mode owner) = Some owner
-owner_of found.Nothing = None
-owner_of found.Link = None
-owner_of found.Directory = None
-owner_of found.Special = None
+-- The permission bits of what was found, and those of its kind, if it is a regular file. (own)
+abbrev pub mode_of : Found → Option ℕ
+mode_of (found.File mode) = Some mode
+mode_of found.Nothing = None
+mode_of found.Link = None
+mode_of found.Directory = None
+mode_of found.Special = None
 
--- The user id of the owner of the regular file under a name now. (own)
-abbrev pub owner_under : Known → List ℕ → Option ℕ
-owner_under k name = owner_of (kind_under k name)
+-- The permission bits of the regular file under a name now, and those of its kind. (own)
+abbrev pub mode_under : Known → List ℕ → Option ℕ
+mode_under k name = mode_of (kind_under k name)
 
 -- The name that the link under a name has now. (own)
 abbrev pub target_under : Known → List ℕ → Option (List ℕ)

@@ -11,7 +11,7 @@ use Rattle.file_disk.specs.declared.found.Found.TheVariants as found
 -- It is a regular file. (own)
 abbrev pub IsRegular : Found → Type 0
 IsRegular found.Nothing = ⊥
-IsRegular (found.File mode owner) = ⊤
+IsRegular (found.File mode) = ⊤
 IsRegular found.Link = ⊥
 IsRegular found.Directory = ⊥
 IsRegular found.Special = ⊥
@@ -19,7 +19,7 @@ IsRegular found.Special = ⊥
 -- It is what the system says of a name: the kind of file, and the permission bits of a regular one. (own)
 abbrev pub IsSaid : Metadata → Found → Type 0
 IsSaid m found.Nothing = ⊥
-IsSaid m (found.File mode owner) = IsFile (file_type m) × (mode ≡ metadata_mode m)
+IsSaid m (found.File mode) = IsFile (file_type m) × (mode ≡ metadata_mode m)
 IsSaid m found.Link = IsSymlink (file_type m)
 IsSaid m found.Directory = IsDir (file_type m)
 IsSaid m found.Special = (¬ (IsFile (file_type m))) × (¬ (IsSymlink (file_type m))) × (¬ (IsDir (file_type m)))
@@ -27,7 +27,7 @@ IsSaid m found.Special = (¬ (IsFile (file_type m))) × (¬ (IsSymlink (file_typ
 -- The kind of the error of something that is no regular file. (own)
 abbrev pub error_of : Found → ErrorKind
 error_of found.Nothing = Unsupported
-error_of (found.File mode owner) = Unsupported
+error_of (found.File mode) = Unsupported
 error_of found.Link = Unsupported
 error_of found.Directory = IsADirectory
 error_of found.Special = Unsupported
@@ -35,7 +35,7 @@ error_of found.Special = Unsupported
 -- It may lead to a regular file: it is one, or a link. (own)
 abbrev pub MayBeRead : Found → Type 0
 MayBeRead found.Nothing = ⊥
-MayBeRead (found.File mode owner) = ⊤
+MayBeRead (found.File mode) = ⊤
 MayBeRead found.Link = ⊤
 MayBeRead found.Directory = ⊥
 MayBeRead found.Special = ⊥

@@ -2,7 +2,7 @@
 
 ghost use Rattle.std.specs.Prelude.{◌≡◌, ◌≢◌, [], ◌∷◌, None, Some, Option, IfOk, IfErr, IfNone, IfSome, OnOk, OnErr, option_map, string_bytes};
 ghost use Rattle.std.specs.IoError.{error_kind};
-ghost use Rattle.file_disk.specs.Known.{Known, MadeDirectories, Made, Filled, Failed, Renamed, Removed, Adds, text_under, kind_under, target_under, directory_under, owner_under, limited};
+ghost use Rattle.file_disk.specs.Known.{Known, MadeDirectories, Made, Filled, Failed, Renamed, Removed, Adds, text_under, kind_under, target_under, directory_under, mode_under, limited};
 ghost use Rattle.file_disk.specs.Regular.{IsOpened};
 ghost use Rattle.file_disk.specs.declared.found.Found.TheVariants as found;
 
@@ -87,14 +87,14 @@ pub trait Disk: Drop {
             (IfSome (known self.old) (λ k. kind_under k name.now ≡ found.Nothing)) }
         ensures refused { OnErr result (Adds (known self.old) (known self.new) []) };
 
-    /// Returns the user id of the owner of the new file of this name.
+    /// Returns the permission bits of the new file of this name and those of its kind.
     ///
     /// # Errors
     ///
     /// Fails if the system refuses to look.
-    fn owner(&self, name: &str, file: &Self::File) -> io::Result<u32>
-        ensures { IfOk result (λ owner. IfSome (known self.now)
-            (λ k. owner_under k name.now ≡ Some owner)) };
+    fn mode(&self, name: &str, file: &Self::File) -> io::Result<u32>
+        ensures { IfOk result (λ mode. IfSome (known self.now)
+            (λ k. mode_under k name.now ≡ Some mode)) };
 
     /// Writes a text to the new file of this name, and closes it. If `mode` has permission bits,
     /// the file has them before it has the text.

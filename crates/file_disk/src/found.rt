@@ -11,8 +11,8 @@ use std::io::{self, ErrorKind};
 pub enum Found {
     /// Nothing.
     Nothing,
-    /// A regular file: its permission bits and those of its kind, and the user id of its owner.
-    File { mode: u32, owner: u32 },
+    /// A regular file: its permission bits and those of its kind.
+    File { mode: u32 },
     /// A symbolic link.
     Link,
     /// A directory.

@@ -21,6 +21,9 @@ pub const LARGEST_TEXT: usize = 67_108_864;
 #[derive(Drop)]
 pub struct Host<'a, F: Files> {
     files: &'a F,
+    /// The device of the directory in which the program runs and its number there, if that was looked
+    /// at.
+    here: Option<(u64, u64)>,
 }
 
 impl<'a, F: Files> Host<'a, F> {
@@ -28,8 +31,28 @@ impl<'a, F: Files> Host<'a, F> {
     pub fn new(files: &'a F) -> Host<'a, F>
         ensures { result.files.now ≡ files.now }
     {
-        Host { files }
+        Host { files, here: None }
     }
+
+    /// Returns the disk of these files. It looks at the directory in which the program runs now, and
+    /// not again. The program never changes which one that is.
+    pub fn from_here(files: &'a F) -> Host<'a, F>
+        ensures { result.files.now ≡ files.now }
+    {
+        let here = identity(files, ".").ok();
+        Host { files, here }
+    }
+}
+
+/// Returns the device of a directory and its number there.
+fn identity<F: Files>(files: &F, name: &str) -> io::Result<(u64, u64)> {
+    let found = fs::metadata(files, name)?;
+    Ok((found.dev(), found.ino()))
+}
+
+/// Returns whether the name is one of the directory in which the program runs.
+fn is_here(name: &str) -> bool {
+    name == "." || name == "./"
 }
 
 /// Returns how many bytes a file has, as far as they are read, or 0 if the system doesn't say.
@@ -70,7 +93,6 @@ fn found_of(found: &Metadata) -> Found
     if found.is_file() {
         return Found::File {
             mode: found.permissions().mode(),
-            owner: found.uid(),
         };
     }
     if found.is_symlink() {
@@ -176,8 +198,10 @@ impl<'a, F: Files> Disk for Host<'a, F> {
     }
 
     fn directory(&self, name: &str) -> io::Result<(u64, u64)> {
-        let found = fs::metadata(self.files, name)?;
-        Ok((found.dev(), found.ino()))
+        match self.here {
+            Some(here) if is_here(name) => Ok(here),
+            _ => identity(self.files, name),
+        }
     }
 
     fn make_directories(&mut self, name: &str) -> io::Result<()> {
@@ -191,8 +215,8 @@ impl<'a, F: Files> Disk for Host<'a, F> {
             .open(self.files, name)
     }
 
-    fn owner(&self, _name: &str, file: &F::File) -> io::Result<u32> {
-        Ok(file.metadata()?.uid())
+    fn mode(&self, _name: &str, file: &F::File) -> io::Result<u32> {
+        Ok(file.metadata()?.permissions().mode())
     }
 
     fn fill(

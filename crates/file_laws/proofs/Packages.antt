@@ -1,6 +1,6 @@
 -- What a run of the package leaves on the disk, and what is made of it again, whatever the texts are.
 use Rattle.std.proofs.Common.{◌≡◌, ◌≢◌, ℕ, length, true, List, [], ◌∷◌, ◌++◌, Some, None, refl}
-use Rattle.std.specs.Prelude.{◌^◌, All, codes, bit_and, nat_le}
+use Rattle.std.specs.Prelude.{◌^◌, All, codes, nat_le}
 use Rattle.std.specs.Fmt.{digits}
 use Rattle.std.proofs.lemmas.List.Elements.{All-nil, All-cons}
 use Rattle.file_disk.specs.Clearing.{filling}
@@ -10,7 +10,8 @@ use Rattle.file_texts.specs.Done.{AreDone, none, taken, IsOther, cache_put, reco
 use Rattle.file_texts.specs.Lines.{creating_line, unchanged_line}
 use Rattle.file_texts.specs.Links.{itself}
 use Rattle.file_texts.specs.Places.{alone, place_under}
-use Rattle.file_texts.specs.Steps.{written, of_nothing, of_own, directories_for, writing, IsReplaced, replaced}
+use Rattle.file_texts.specs.declared.writing.Keeps.TheVariants.{Permissions}
+use Rattle.file_texts.specs.Steps.{written, of_nothing, of_file, mode_for, directories_for, writing, IsReplaced, replaced}
 use Rattle.file_texts.specs.declared.places.Guard.{Guard}
 use Rattle.file_texts.specs.declared.places.FilePlace.{FilePlace}
 use Rattle.output_put.specs.declared.artifact.Artifact.{Artifact}
@@ -201,7 +202,7 @@ module _ (c r m h l : List ℕ) where
   left = after disk all
 
   abbrev pub again_file : List Deed
-  again_file = directories_for (codes "src/Makefile") ++ writing (codes "src/Makefile") (Some (bit_and 0o100644 0o777)) m 1
+  again_file = directories_for (codes "src/Makefile") ++ writing (codes "src/Makefile") (Some (mode_for Permissions 0o100644 0o100644)) m 1
 
   again_file_done : AreDone (handed_on left).files again_guards (makefile ∷ []) 0 (creating_line (codes "src/Makefile")) again_one again_file
   unfolding digits
@@ -213,7 +214,7 @@ module _ (c r m h l : List ℕ) where
         named = refl;
         readable = refl;
         placed = made (alone (record { place = place 3 (codes "Makefile"); at = refl; free = refl; added = refl }));
-        put = file_put _ (written 1 (Some (bit_and 0o100644 0o777)) refl (of_own _ _ refl));
+        put = file_put _ (written 1 (Some (mode_for Permissions 0o100644 0o100644)) refl (of_file _ _ refl));
       })
 
   pub again_done : AreDone (handed_on left).files again_guards (makefile ∷ header ∷ []) 0 again_lines again_two again_file

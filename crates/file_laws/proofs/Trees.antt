@@ -149,7 +149,7 @@ no_text true o p is = absurd (link_nothing is)
 no_text false None p is = refl
 no_text false (Some text) p is = absurd (file_nothing is)
   where
-    file_nothing : found.File 0o100644 0 ≡ found.Nothing → ⊥
+    file_nothing : found.File 0o100644 ≡ found.Nothing → ⊥
     file_nothing e = cc
 
 nothing_by : (l e t : Bool) (o : Option (List ℕ)) → t ≡ false → (if (l && (e && t)) then found.Link else plain_kind (if t then o else None)) ≡ found.Nothing

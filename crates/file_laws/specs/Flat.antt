@@ -28,7 +28,7 @@ after_deeds start (deed ∷ deeds) own = after_deeds (after_deed deed start) dee
 -- What is under a name with this text: a regular file, or nothing. (own)
 abbrev pub kind_of : Option (List ℕ) → Found
 kind_of None = found.Nothing
-kind_of (Some text) = found.File 0o644 0
+kind_of (Some text) = found.File 0o644
 
 -- The disk, if these are the texts at first. (own)
 abbrev pub flat : Texts → Files

@@ -44,7 +44,7 @@ end_of link = name_from link.name link.target
 -- What is under a name with this text: a regular file of user 0, or nothing. (own)
 abbrev pub plain_kind : Option (List ℕ) → Found
 plain_kind None = found.Nothing
-plain_kind (Some text) = found.File 0o100644 0
+plain_kind (Some text) = found.File 0o100644
 
 -- The text that is read under a name, and what is there. (own)
 abbrev pub text_in : Link → State → List ℕ → Option (List ℕ)

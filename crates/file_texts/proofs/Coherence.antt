@@ -268,7 +268,7 @@ own_last f c d file text found.Nothing has plain = own_filled f c d file text ha
 own_last f c d file text found.Directory has plain = own_filled f c d file text has
 own_last f c d file text found.Special has plain = own_filled f c d file text has
 own_last f c d file text found.Link has plain = own_removed f c d file text has plain
-own_last f c d file text (found.File mode owner) has plain = own_removed f c d file text has plain
+own_last f c d file text (found.File mode) has plain = own_removed f c d file text has plain
 
 -- A name leads to where it led after one deed, if nothing that is a link is at a place that the deed changes.
 leads_on : (f : Files) → IsCoherent f → (d : List Deed) (e : Deed) (name end : List ℕ)
@@ -350,4 +350,4 @@ other_last f c d file text name end place has found.Directory plain leads at apa
 other_last f c d file text name end place has found.Special plain leads at apart read =
     let r = reads_filled f c d file text name end place has (record { plain = plain; leads = leads; at = at; apart = apart; read = read }) in (r.read, r.leads, r.at)
 other_last f c d file text name end place has found.Link plain leads at apart read = other_removed f c d file text name end place has plain leads at apart read
-other_last f c d file text name end place has (found.File mode owner) plain leads at apart read = other_removed f c d file text name end place has plain leads at apart read
+other_last f c d file text name end place has (found.File mode) plain leads at apart read = other_removed f c d file text name end place has plain leads at apart read

@@ -9,7 +9,7 @@ use Rattle.output_put.specs.declared.artifact.Kind.TheVariants.{Cache, Record, F
 use Rattle.file_texts.specs.Done.{can_be_read, IsOther, IsEnd, IsPut, cache_same, cache_put, record_put, file_put, header_same, header_put, HasPlaces, there, IsTakenSo, IsRefused, AreDone, taken, refused, IsAllDone, IsDoneApart}
 use Rattle.file_texts.specs.Done as made
 use Rattle.file_texts.specs.Held.{Held, AreUnguarded}
-use Rattle.file_texts.specs.Keeping.{IsKept, AreSame, IsLeft, IsStepped, IsUnstepped, before, after, Takes, keeps_of, made_for}
+use Rattle.file_texts.specs.Keeping.{IsKept, AreSame, IsLeft, MayReplace, IsStepped, IsUnstepped, before, after, Takes, keeps_of, made_for}
 use Rattle.file_texts.specs.Lines.{AreLines}
 use Rattle.file_texts.specs.Sayings.{saying_of, said}
 use Rattle.file_texts.specs.Places.{ArePlaced, is_name_guarded}
@@ -26,23 +26,23 @@ no_directories : (k : Known) (keeps : Keeps) (file text : List ℕ) (deeds : Lis
 no_directories k keeps file text deeds is = subst (λ l. IsWritten l keeps file text deeds) (sym (with_none k)) is
 
 pub put_is : (k : Known) (guards : List Guard) (places new_places : List FilePlace) (kind : Kind) (left : Bool) (name file text : List ℕ) (deeds : List Deed)
-    → IsLeft kind k name text left
+    → IsLeft kind k name text left × MayReplace kind left k name file
     → IsStepped k guards places new_places (saying_of kind left) left (keeps_of kind) name file text deeds
     → IsPut k name file text kind (said (saying_of kind left) name) deeds
 put_is k guards places new_places Cache true name file text deeds is s =
-    let P : List Deed → Type 0 = λ d. IsPut k name file text Cache [] d in subst P (sym (s.parts ∙ s.fills)) (cache_same is)
+    let P : List Deed → Type 0 = λ d. IsPut k name file text Cache [] d in subst P (sym (s.parts ∙ s.fills)) (cache_same is.0)
 put_is k guards places new_places Cache false name file text deeds is s =
-    let P : List Deed → Type 0 = λ d. IsPut k name file text Cache [] d in subst P (sym s.parts) (cache_put s.rest is (no_directories k _ file text s.rest s.fills))
-put_is k guards places new_places Record true name file text deeds is s = absurd (true≢false is)
+    let P : List Deed → Type 0 = λ d. IsPut k name file text Cache [] d in subst P (sym s.parts) (cache_put s.rest is.0 is.1 (no_directories k _ file text s.rest s.fills))
+put_is k guards places new_places Record true name file text deeds is s = absurd (true≢false is.0)
 put_is k guards places new_places Record false name file text deeds is s =
     let P : List Deed → Type 0 = λ d. IsPut k name file text Record [] d in subst P (sym s.parts) (record_put s.rest (no_directories k _ file text s.rest s.fills))
-put_is k guards places new_places File true name file text deeds is s = absurd (true≢false is)
+put_is k guards places new_places File true name file text deeds is s = absurd (true≢false is.0)
 put_is k guards places new_places File false name file text deeds is s =
     let P : List Deed → Type 0 = λ d. IsPut k name file text File (said (saying_of File false) name) d in subst P (sym s.parts) (file_put s.rest s.fills)
 put_is k guards places new_places Header true name file text deeds is s =
-    let P : List Deed → Type 0 = λ d. IsPut k name file text Header (said (saying_of Header true) name) d in subst P (sym (s.parts ∙ s.fills)) (header_same is)
+    let P : List Deed → Type 0 = λ d. IsPut k name file text Header (said (saying_of Header true) name) d in subst P (sym (s.parts ∙ s.fills)) (header_same is.0)
 put_is k guards places new_places Header false name file text deeds is s =
-    let P : List Deed → Type 0 = λ d. IsPut k name file text Header (said (saying_of Header false) name) d in subst P (sym s.parts) (header_put s.rest is s.fills)
+    let P : List Deed → Type 0 = λ d. IsPut k name file text Header (said (saying_of Header false) name) d in subst P (sym s.parts) (header_put s.rest is.0 s.fills)
 
 -- the places of what was put
 has_places : (k : Known) (guards : List Guard) (places new_places : List FilePlace) (kind : Kind) (left : Bool) (name file : List ℕ)
@@ -74,11 +74,12 @@ pub takes_is : {E : Type 0} (r : Result (Unit {0}) E) (a b : Option Known) (guar
     → artifact ≡ record { kind = kind; name = name; text = text } → saying ≡ saying_of kind left
     → is_name_guarded name guards ≡ false → can_be_read kind text ≡ true
     → IfSome a (λ k. IsLeft kind k name text left) → IfSome a (λ k. IsEnd k name kind file)
+    → IfSome a (λ k. MayReplace kind left k name file)
     → OnOk r (IsKept artifacts lines new_artifacts new_lines artifact (said saying name))
     → OnOk r (Does a b (λ k deeds. IsStepped k guards places new_places saying left (keeps_of kind) name file text deeds))
     → OnOk r (Takes a b guards places new_places artifacts lines new_artifacts new_lines (record { kind = kind; name = name; text = text }))
-takes_is (Err e) a b guards places new_places artifacts lines new_artifacts new_lines kind left name file text artifact saying is says named readable lefts ends kept does = tt
-takes_is (Ok u) a b guards places new_places artifacts lines new_artifacts new_lines kind left name file text artifact saying is says named readable lefts ends kept does =
+takes_is (Err e) a b guards places new_places artifacts lines new_artifacts new_lines kind left name file text artifact saying is says named readable lefts ends may kept does = tt
+takes_is (Ok u) a b guards places new_places artifacts lines new_artifacts new_lines kind left name file text artifact saying is says named readable lefts ends may kept does =
     let line = said (saying_of kind left) name in
     let one : Artifact = record { kind = kind; name = name; text = text } in
     let steps : Does a b (λ k deeds. IsStepped k guards places new_places (saying_of kind left) left (keeps_of kind) name file text deeds) =
@@ -87,7 +88,8 @@ takes_is (Ok u) a b guards places new_places artifacts lines new_artifacts new_l
       line = line;
       kept = subst (λ t. IsKept artifacts lines new_artifacts new_lines t line) is (subst (λ s. IsKept artifacts lines new_artifacts new_lines artifact (said s name)) says kept);
       said = is_said kind left name;
-      does = does_more a b (λ k. IsLeft kind k name text left × IsEnd k name kind file) _ (λ k deeds. IsTakenSo k guards places new_places one line deeds) (both (λ k. IsLeft kind k name text left) (λ k. IsEnd k name kind file) a lefts ends) steps
+      does = does_more a b (λ k. (IsLeft kind k name text left × MayReplace kind left k name file) × IsEnd k name kind file) _ (λ k deeds. IsTakenSo k guards places new_places one line deeds)
+          (both (λ k. IsLeft kind k name text left × MayReplace kind left k name file) (λ k. IsEnd k name kind file) a (both (λ k. IsLeft kind k name text left) (λ k. MayReplace kind left k name file) a lefts may) ends) steps
           (λ k d x s. record {
             file = file;
             ends = x.1;

@@ -66,7 +66,7 @@ own_by : (k : Known) (kind : Kind) (name file text line : List ℕ) (deeds : Lis
     → IsPut k name file text kind line deeds
     → text_under (with_deeds k deeds) name ≡ Some text
 own_by k Cache name file text line [] c end has (cache_same is) = none_read k name text is
-own_by k Cache name file text line deeds c end has (cache_put rest other w) =
+own_by k Cache name file text line deeds c end has (cache_put rest other may w) =
     linked_text k.files c k.deeds _ name file text rest end (end_is_plain k name file end) (none_has k file has) w
 own_by k Record name file text line deeds c end has (record_put rest w) =
     subst (λ n. text_under (with_deeds k rest) n ≡ Some text) end (own_text k.files c k.deeds _ file text rest (none_has k file has) w)
@@ -119,7 +119,7 @@ other_by : (k : Known) (kind : Kind) (own file written line : List ℕ) (deeds :
     → IsPut k own file written kind line deeds
     → ReadsAt k name place text → ReadsAt (with_deeds k deeds) name place text
 other_by k Cache own file written line [] name place text c apart (cache_same is) r = reads_none k name place text r
-other_by k Cache own file written line deeds name place text c apart (cache_put rest other w) r =
+other_by k Cache own file written line deeds name place text c apart (cache_put rest other may w) r =
     reads_written k _ file written rest name place text c (apart_none k file place apart) w r
 other_by k Record own file written line deeds name place text c apart (record_put rest w) r =
     reads_written k _ file written rest name place text c (apart_none k file place apart) w r

@@ -1,14 +1,13 @@
 -- By which steps a text is written.
-use Rattle.std.proofs.Common.{◌≡◌, ◌⊎◌, ℕ, List, [], ◌∷◌, ◌++◌, Option, Some, None, IfSome, Result, Ok, Err, OnOk, OnErr, inl, inr, refl, sym, ap, subst, ◌∙◌, append-nil, bit_and}
-use Rattle.file_disk.specs.Known.{Known, Deed, Made, Filled, Failed, Renamed, Removed, Adds, Does, kind_under, owner_under, with_deeds}
+use Rattle.std.proofs.Common.{◌≡◌, ◌⊎◌, ℕ, List, [], ◌∷◌, ◌++◌, Option, Some, None, IfSome, Result, Ok, Err, OnOk, OnErr, inl, inr, refl, sym, ap, subst, ◌∙◌, append-nil, bit_and, bit_or}
+use Rattle.file_disk.specs.Known.{Known, Deed, Made, Filled, Failed, Renamed, Removed, Adds, Does, kind_under, mode_under, with_deeds}
 use Rattle.file_disk.specs.Clearing.{DoesAll, clearing_now, filling}
 use Rattle.file_disk.specs.declared.found.Found.{Found}
 use Rattle.file_disk.specs.declared.found.Found.TheVariants as found
 use Rattle.file_disk.proofs.Deeds.{with_none, adds_then, does, does_none, does_then}
 use Rattle.file_texts.specs.Names.{temporary}
-use Rattle.file_texts.specs.Steps.{bits_of, writing, new_owner, IsMode, of_own, of_other, of_link, of_nothing, IsOld, old_file, old_link, no_old, IsModeFor, IsWritten, written, IsUnnamed, empty, cut, whole, IsDropped, removed, left, IsUndone, nothing, dropped, IsReplaced, replaced, IsBegun, unseen, cleared_only, torn}
+use Rattle.file_texts.specs.Steps.{executable, staying, of_readers, mode_for, writing, new_mode, IsMode, of_file, of_link, of_nothing, IsOld, old_file, old_link, no_old, IsModeFor, IsWritten, written, IsUnnamed, empty, cut, whole, IsDropped, removed, left, IsUndone, nothing, dropped, IsReplaced, replaced, IsBegun, unseen, cleared_only, torn}
 use Rattle.file_texts.specs.declared.writing.Keeps.{Keeps}
-use Rattle.file_texts.specs.declared.writing.Old.{Old}
 
 -- What holds of an answer that is right.
 pub ok_then : {X E A B : Type 0} (r : Result X E) → OnOk r A → (A → B) → OnOk r B
@@ -73,24 +72,24 @@ free_before (Some a) None name other none is free = absurd none
 free_before (Some a) (Some b) name other none is free =
     subst (λ o. kind_under a o ≡ found.Nothing) is (subst (λ k. kind_under k name ≡ found.Nothing) (none ∙ sym (with_none a)) free)
 
--- What is said of a new file's owner once it is made, said of the files before.
-mode_before : (a b : Option Known) (keeps : Keeps) (old : Option Old) (mode : Option ℕ) (t other : List ℕ)
+-- What is said of a new file's permission bits once it is made, said of the files before.
+mode_before : (a b : Option Known) (keeps : Keeps) (old : Option ℕ) (mode : Option ℕ) (t other : List ℕ)
     → other ≡ t → Adds a b (Made t ∷ [])
-    → IfSome b (λ k. IsModeFor keeps (owner_under k other) old mode)
-    → IfSome a (λ k. IsModeFor keeps (new_owner k t) old mode)
+    → IfSome b (λ k. IsModeFor keeps (mode_under k other) old mode)
+    → IfSome a (λ k. IsModeFor keeps (new_mode k t) old mode)
 mode_before None b keeps old mode t other is made for = tt
 mode_before (Some a) None keeps old mode t other is made for = absurd made
 mode_before (Some a) (Some b) keeps old mode t other is made for =
-    subst (λ o. IsModeFor keeps (new_owner a o) old mode) is
-    (subst (λ k. IsModeFor keeps (owner_under k other) old mode) (made ∙ ap (λ o. with_deeds a (Made o ∷ [])) (sym is)) for)
+    subst (λ o. IsModeFor keeps (new_mode a o) old mode) is
+    (subst (λ k. IsModeFor keeps (mode_under k other) old mode) (made ∙ ap (λ o. with_deeds a (Made o ∷ [])) (sym is)) for)
 
 -- A file that was made, filled and renamed.
-pub done : (a b c : Option Known) (keeps : Keeps) (old : Option Old) (name : List ℕ) (n : ℕ) (text other : List ℕ)
+pub done : (a b c : Option Known) (keeps : Keeps) (old : Option ℕ) (name : List ℕ) (n : ℕ) (text other : List ℕ)
     → other ≡ temporary name n
     → Adds a b (Made (temporary name n) ∷ [])
     → IfSome a (λ k. kind_under k (temporary name n) ≡ found.Nothing)
-    → (mode : Option ℕ) × IfSome b (λ k. IsModeFor keeps (owner_under k other) old mode) × Adds b c (Filled other mode text ∷ Renamed other name ∷ [])
-    → (m : ℕ) × (mode : Option ℕ) × IfSome a (λ k. kind_under k (temporary name m) ≡ found.Nothing) × IfSome a (λ k. IsModeFor keeps (new_owner k (temporary name m)) old mode) × Adds a c (writing name mode text m)
+    → (mode : Option ℕ) × IfSome b (λ k. IsModeFor keeps (mode_under k other) old mode) × Adds b c (Filled other mode text ∷ Renamed other name ∷ [])
+    → (m : ℕ) × (mode : Option ℕ) × IfSome a (λ k. kind_under k (temporary name m) ≡ found.Nothing) × IfSome a (λ k. IsModeFor keeps (new_mode k (temporary name m)) old mode) × Adds a c (writing name mode text m)
 done a b c keeps old name n text other is made free w =
     let t = temporary name n in
     let mode : Option ℕ = w.0 in
@@ -113,32 +112,28 @@ pub nothing_done : (a b : Option Known) (name : List ℕ) → Adds a b []
 nothing_done a b name none = does a b [] (λ _ deeds. IsUndone name deeds) none (λ k. nothing)
 
 -- A text was written, with permission bits for what was there.
-pub is_written : (a b : Option Known) (keeps : Keeps) (name text : List ℕ) (old : Option Old) (seen : Found) → IfSome a (λ k. seen ≡ kind_under k name) → IsOld seen old
-    → (n : ℕ) × (mode : Option ℕ) × IfSome a (λ k. kind_under k (temporary name n) ≡ found.Nothing) × IfSome a (λ k. IsModeFor keeps (new_owner k (temporary name n)) old mode) × Adds a b (writing name mode text n)
+pub is_written : (a b : Option Known) (keeps : Keeps) (name text : List ℕ) (old : Option ℕ) (seen : Found) → IfSome a (λ k. seen ≡ kind_under k name) → IsOld seen old
+    → (n : ℕ) × (mode : Option ℕ) × IfSome a (λ k. kind_under k (temporary name n) ≡ found.Nothing) × IfSome a (λ k. IsModeFor keeps (new_mode k (temporary name n)) old mode) × Adds a b (writing name mode text n)
     → Does a b (λ k deeds. IsWritten k keeps name text deeds)
 is_written None None keeps name text old seen is is_old w = tt
 is_written None (Some b) keeps name text old seen is is_old w = absurd w.4
 is_written (Some a) None keeps name text old seen is is_old w = absurd w.4
 is_written (Some a) (Some b) keeps name text old seen is is_old w =
-    (writing name w.1 text w.0, w.4, written w.0 w.1 w.2 (subst (λ f. IsMode keeps (new_owner a (temporary name w.0)) f w.1) is (w.3 seen is_old)))
+    (writing name w.1 text w.0, w.4, written w.0 w.1 w.2 (subst (λ f. IsMode keeps (new_mode a (temporary name w.0)) f w.1) is (w.3 seen is_old)))
 
 -- The permission bits of a new file in the place of an old one.
-pub own_mode : (keeps : Keeps) (mode owner bits : ℕ) → bits ≡ bits_of keeps → (user : ℕ) → user ≡ owner
-    → IsModeFor keeps (Some user) (Some (record { mode = mode; owner = owner })) (Some (bit_and mode bits))
-own_mode keeps mode owner bits is user same _ (old_file _ _) = rw is (of_own mode owner (ap Some same))
+pub mode_of_file : (keeps : Keeps) (old new bits : ℕ) → bits ≡ executable keeps
+    → IsModeFor keeps (Some new) (Some old) (Some (bit_or (staying old new) (bit_and (bit_and old bits) (of_readers (staying old new)))))
+mode_of_file keeps old new bits is _ (old_file _) = rw is (of_file old new refl)
 
-pub other_mode : (keeps : Keeps) (mode owner user : ℕ) → (user ≡ owner → ⊥)
-    → IsModeFor keeps (Some user) (Some (record { mode = mode; owner = owner })) None
-other_mode keeps mode owner user other _ (old_file _ _) = of_other mode owner (λ is. other (cc))
+pub no_mode : (keeps : Keeps) (made : Option ℕ) → IsModeFor keeps made None None
+no_mode keeps made _ old_link = of_link
+no_mode keeps made _ no_old = of_nothing
 
-pub no_mode : (keeps : Keeps) (user : Option ℕ) → IsModeFor keeps user None None
-no_mode keeps user _ old_link = of_link
-no_mode keeps user _ no_old = of_nothing
-
-pub none_kept : (known : Option Known) (keeps : Keeps) (old : Option Old) (other : List ℕ) → old ≡ None
-    → IfSome known (λ k. IsModeFor keeps (owner_under k other) old None)
+pub none_kept : (known : Option Known) (keeps : Keeps) (old : Option ℕ) (other : List ℕ) → old ≡ None
+    → IfSome known (λ k. IsModeFor keeps (mode_under k other) old None)
 none_kept None keeps old other is = tt
-none_kept (Some k) keeps old other is = rw is (no_mode keeps (owner_under k other))
+none_kept (Some k) keeps old other is = rw is (no_mode keeps (mode_under k other))
 
 -- A new file that is not in the place of another.
 pub made_anew : (a b c : Option Known) (name text : List ℕ) → DoesAll a b (clearing_now name)

@@ -1,6 +1,8 @@
 -- What a receiver did for what was handed over.
-use Rattle.std.specs.Prelude.{◌≡◌, ℕ, ◌+◌, ◌<◌, ◌^◌, nat_le, Bool, true, false, List, [], ◌∷◌, ◌++◌, length, Some}
-use Rattle.file_disk.specs.Known.{Known, Files, Deed, with_deeds, text_under}
+use Rattle.std.specs.Prelude.{◌≡◌, ◌⊎◌, ℕ, ◌+◌, ◌<◌, ◌^◌, nat_le, Bool, true, false, List, [], ◌∷◌, ◌++◌, length, Some}
+use Rattle.file_disk.specs.Known.{Known, Files, Deed, with_deeds, text_under, kind_under}
+use Rattle.file_disk.specs.Regular.{IsOpened}
+use Rattle.file_disk.specs.declared.found.Found.TheVariants as found
 use Rattle.output_put.specs.declared.artifact.Artifact.{Artifact}
 use Rattle.output_put.specs.declared.artifact.Kind.{Kind}
 use Rattle.output_put.specs.declared.artifact.Kind.TheVariants.{Cache, Record, File, Header}
@@ -25,13 +27,19 @@ IsEnd k name Record file = file ≡ name
 IsEnd k name File file = file ≡ name
 IsEnd k name Header file = file ≡ name
 
+-- A cache of this name may be written to this file: nothing is there, or what the name leads to can
+-- be read. So no answers are lost that nobody could read. (own)
+abbrev pub IsReplaceable : Known → List ℕ → List ℕ → Type 0
+IsReplaceable k name file = (kind_under k file ≡ found.Nothing) ⊎ IsOpened k name
+
 -- If this is known, an artifact of this kind, name and text was put to this file in this way: what
 -- is said of it, and the deeds. A cache or a header is left as it is exactly if the file under its
--- name has its text, and only then a header is said to be unchanged. Anything else is written. For
--- a file and a header its directories are made. (own)
+-- name has its text, and only then a header is said to be unchanged. Anything else is written, but
+-- no cache over a file that can't be read. For a file and a header its directories are made. (own)
 pub data IsPut (k : Known) (name file text : List ℕ) : Kind → List ℕ → List Deed → Type 0 where
   cache_same : text_under k name ≡ Some text → IsPut k name file text Cache [] []
-  cache_put : (deeds : List Deed) → IsOther k name text → IsWritten k Permissions file text deeds
+  cache_put : (deeds : List Deed) → IsOther k name text → IsReplaceable k name file
+      → IsWritten k Permissions file text deeds
       → IsPut k name file text Cache [] deeds
   record_put : (deeds : List Deed) → IsWritten k NoExecution file text deeds
       → IsPut k name file text Record [] deeds

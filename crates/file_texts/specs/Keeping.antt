@@ -1,10 +1,10 @@
 -- What a receiver keeps of a put, and the steps of one.
-use Rattle.std.specs.Prelude.{◌≡◌, ℕ, Bool, true, false, List, [], ◌∷◌, ◌++◌, Option, Some, None, bytes_eq}
+use Rattle.std.specs.Prelude.{◌≡◌, ℕ, Bool, true, false, List, [], ◌∷◌, ◌++◌, Option, Some, None, bytes_eq, ⊤}
 use Rattle.file_disk.specs.Known.{Known, Deed, Does, with_deeds, text_under}
 use Rattle.output_put.specs.declared.artifact.Artifact.{Artifact}
 use Rattle.output_put.specs.declared.artifact.Kind.{Kind}
 use Rattle.output_put.specs.declared.artifact.Kind.TheVariants.{Cache, Record, File, Header}
-use Rattle.file_texts.specs.Done.{IsOther, IsTakenSo}
+use Rattle.file_texts.specs.Done.{IsOther, IsReplaceable, IsTakenSo}
 use Rattle.file_texts.specs.Lines.{IsSaid}
 use Rattle.file_texts.specs.Places.{ArePlaced}
 use Rattle.file_texts.specs.Steps.{IsWritten, IsUndone, directories_for}
@@ -62,6 +62,15 @@ IsLeft Cache k name text left = HasText k name text left
 IsLeft Record k name text left = left ≡ false
 IsLeft File k name text left = left ≡ false
 IsLeft Header k name text left = HasText k name text left
+
+-- An artifact of this kind may take the place of what is at its file, if that isn't left as it is.
+-- (own)
+abbrev pub MayReplace : Kind → Bool → Known → List ℕ → List ℕ → Type 0
+MayReplace Cache true k name file = ⊤
+MayReplace Cache false k name file = IsReplaceable k name file
+MayReplace Record left k name file = ⊤
+MayReplace File left k name file = ⊤
+MayReplace Header left k name file = ⊤
 
 -- The deeds that make the directories of what is said to be made. (own)
 abbrev pub made_for : Saying → List ℕ → List Deed

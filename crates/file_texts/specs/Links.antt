@@ -9,7 +9,7 @@ use Rattle.file_texts.specs.Names.{front_of, is_absolute}
 abbrev pub is_link : Found → Bool
 is_link found.Link = true
 is_link found.Nothing = false
-is_link (found.File mode owner) = false
+is_link (found.File mode) = false
 is_link found.Directory = false
 is_link found.Special = false
 

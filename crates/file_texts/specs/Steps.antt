@@ -1,55 +1,68 @@
 -- By which steps a text is written to a file.
-use Rattle.std.specs.Prelude.{◌≡◌, ◌≢◌, ℕ, List, [], ◌∷◌, ◌++◌, Option, Some, None, bit_and}
+use Rattle.std.specs.Prelude.{◌≡◌, ◌≢◌, ℕ, List, [], ◌∷◌, ◌++◌, Option, Some, None, ◌/◌, bit_and, bit_or}
 use Rattle.file_disk.specs.Clearing.{clearing_now, filling}
-use Rattle.file_disk.specs.Known.{Known, Deed, MadeDirectories, Made, Filled, Failed, Renamed, Removed, kind_under, owner_under, with_deeds}
+use Rattle.file_disk.specs.Known.{Known, Deed, MadeDirectories, Made, Filled, Failed, Renamed, Removed, kind_under, mode_under, with_deeds}
 use Rattle.file_disk.specs.declared.found.Found.{Found}
 use Rattle.file_disk.specs.declared.found.Found.TheVariants as found
 use Rattle.file_texts.specs.Names.{directory_of, temporary}
 use Rattle.file_texts.specs.declared.writing.Keeps.{Keeps}
 use Rattle.file_texts.specs.declared.writing.Keeps.TheVariants.{Permissions, NoExecution}
-use Rattle.file_texts.specs.declared.writing.Old.{Old}
 
--- The permission bits that may be kept. (own)
-abbrev pub bits_of : Keeps → ℕ
-bits_of Permissions = 0o777
-bits_of NoExecution = 0o666
+-- The bits to execute a file that may be kept. (own)
+abbrev pub executable : Keeps → ℕ
+executable Permissions = 0o111
+executable NoExecution = 0
 
--- If this is under the name of a file that is to be written, and the new file has this owner, if it
--- is known, the new file gets these permission bits, or those that the system gives. The bits of a
--- file are kept only if the new file has the same owner. A directory, a pipe, a socket and a device
--- are not replaced. (own)
-pub data IsMode (keeps : Keeps) (user : Option ℕ) : Found → Option ℕ → Type 0 where
-  of_own : (mode owner : ℕ) → user ≡ Some owner
-      → IsMode keeps user (found.File mode owner) (Some (bit_and mode (bits_of keeps)))
-  of_other : (mode owner : ℕ) → user ≢ Some owner → IsMode keeps user (found.File mode owner) None
-  of_link : IsMode keeps user found.Link None
-  of_nothing : IsMode keeps user found.Nothing None
+-- Of the permission bits that the system gave to a new file, those that it has in the place of an
+-- old one: all that its owner has, and of the group and of others those that the old file had too.
+-- (own)
+abbrev pub staying : ℕ → ℕ → ℕ
+staying old new = bit_and new (bit_or 0o700 (bit_and old 0o77))
+
+-- The bits to execute a file, for whoever these bits let read it. (own)
+abbrev pub of_readers : ℕ → ℕ
+of_readers bits = bit_and bits 0o444 / 4
+
+-- The permission bits of a new file in the place of an old one, which had these bits, if the system
+-- gave it those: what stays of those, and the old file's bits to execute it, for whoever may read
+-- the new one. So the new file gives nobody a right to read or to write that the system didn't
+-- give. (own)
+abbrev pub mode_for : Keeps → ℕ → ℕ → ℕ
+mode_for keeps old new = bit_or (staying old new) (bit_and (bit_and old (executable keeps)) (of_readers (staying old new)))
+
+-- If this is under the name of a file that is to be written, and the system gave these bits to the
+-- new file, if they are known, the new file gets these permission bits, or keeps those that the
+-- system gave it. A directory, a pipe, a socket and a device are not replaced. (own)
+pub data IsMode (keeps : Keeps) (made : Option ℕ) : Found → Option ℕ → Type 0 where
+  of_file : (old new : ℕ) → made ≡ Some new
+      → IsMode keeps made (found.File old) (Some (mode_for keeps old new))
+  of_link : IsMode keeps made found.Link None
+  of_nothing : IsMode keeps made found.Nothing None
 
 -- The deeds that put a text under a name, by a new file of this number in the same directory. (own)
 abbrev pub writing : List ℕ → Option ℕ → List ℕ → ℕ → List Deed
 writing name mode text n = Made (temporary name n) ∷ Filled (temporary name n) mode text ∷ Renamed (temporary name n) name ∷ []
 
--- The user id of the owner of a new file of this name, once it is made. (own)
-abbrev pub new_owner : Known → List ℕ → Option ℕ
-new_owner k name = owner_under (with_deeds k (Made name ∷ [])) name
+-- The permission bits that the system gives to a new file of this name. (own)
+abbrev pub new_mode : Known → List ℕ → Option ℕ
+new_mode k name = mode_under (with_deeds k (Made name ∷ [])) name
 
 -- A new file in the directory of the name was made, where there was nothing, got its permission
 -- bits and the whole text, and was renamed. Nothing else was done. (own)
 pub data IsWritten (k : Known) (keeps : Keeps) (name text : List ℕ) : List Deed → Type 0 where
   written : (n : ℕ) (mode : Option ℕ) → kind_under k (temporary name n) ≡ found.Nothing
-      → IsMode keeps (new_owner k (temporary name n)) (kind_under k name) mode
+      → IsMode keeps (new_mode k (temporary name n)) (kind_under k name) mode
       → IsWritten k keeps name text (writing name mode text n)
 
--- What was found is a file with these bits and this owner, or no file, and may be replaced. (own)
-pub data IsOld : Found → Option Old → Type 0 where
-  old_file : (mode owner : ℕ)
-      → IsOld (found.File mode owner) (Some (record { mode = mode; owner = owner }))
+-- What was found is a file with these bits, or no file, and may be replaced. (own)
+pub data IsOld : Found → Option ℕ → Type 0 where
+  old_file : (mode : ℕ) → IsOld (found.File mode) (Some mode)
   old_link : IsOld found.Link None
   no_old : IsOld found.Nothing None
 
 -- In the place of any such thing the new file gets these permission bits. (own)
-abbrev pub IsModeFor : Keeps → Option ℕ → Option Old → Option ℕ → Type 0
-IsModeFor keeps user old mode = (seen : Found) → IsOld seen old → IsMode keeps user seen mode
+abbrev pub IsModeFor : Keeps → Option ℕ → Option ℕ → Option ℕ → Type 0
+IsModeFor keeps made old mode = (seen : Found) → IsOld seen old → IsMode keeps made seen mode
 
 -- A new file has no text yet, a part of its text, or the whole. (own)
 pub data IsUnnamed (name : List ℕ) : List Deed → Type 0 where

@@ -5,10 +5,10 @@ ghost use Rattle.crew_refusals.specs.Shown.{IsShown};
 ghost use Rattle.file_disk.specs.Known.{Adds, Does};
 ghost use Rattle.output_put.specs.Receipt.{with_artifact, with_refusal};
 ghost use Rattle.file_texts.specs.Done as done;
-ghost use Rattle.file_texts.specs.Done.{IsEnd, IsTakenSo, IsRefused, IsAllDone, IsDoneApart};
+ghost use Rattle.file_texts.specs.Done.{IsEnd, IsReplaceable, IsTakenSo, IsRefused, IsAllDone, IsDoneApart};
 ghost use Rattle.file_texts.specs.Held.{fresh, receipt_of, lasting_of, IsTaken, IsCounted, IsClosed, IsGuarded, IsUnused, GuardsMore, AreUnguarded};
 ghost use Rattle.file_texts.specs.Keeping as meant;
-ghost use Rattle.file_texts.specs.Keeping.{IsKept, AreSame, IsLeft, IsStepped, IsUnstepped, Takes, keeps_of, made_for};
+ghost use Rattle.file_texts.specs.Keeping.{IsKept, AreSame, IsLeft, MayReplace, IsStepped, IsUnstepped, Takes, keeps_of, made_for};
 ghost use Rattle.file_texts.specs.Lines.{AreLines};
 ghost use Rattle.file_texts.specs.Names.{IsFileName};
 ghost use Rattle.file_texts.specs.Places.{AreMore, ArePlaced, is_held, is_name_guarded};
@@ -23,7 +23,7 @@ use crate::reading::read_text;
 use crate::writing::{Keeps, write_new, write_text};
 use crew_refusals::Cause;
 use deftable::Bytes;
-use file_disk::{Disk, LARGEST_TEXT};
+use file_disk::{Disk, Found, LARGEST_TEXT};
 use output_put::{Artifact, Kind, Outputs, PutRefused};
 use std::alloc::{AllocError, Global};
 use std::io::{self, ErrorKind};
@@ -38,8 +38,9 @@ use std::marker::Model;
 ///
 /// A put is refused if memory runs out, no file can have the name, the system refuses to write, the
 /// file is that of an earlier put or one that [`FileOutputs::keep`] names, it is a record of more
-/// than 64 MiB, which couldn't be read again, or the receiver is closed. Then the file is as it was, as [`write_text`] says, but directories that were made for
-/// it stay. The receiver keeps why the last put was refused.
+/// than 64 MiB, which couldn't be read again, or a cache whose file is there and can't be read, or
+/// the receiver is closed. Then the file is as it was, as [`write_text`] says, but directories that
+/// were made for it stay. The receiver keeps why the last put was refused.
 pub struct FileOutputs<D: Disk> {
     alloc: Global,
     disk: D,
@@ -285,6 +286,45 @@ fn end_for<D: Disk>(alloc: Global, disk: &D, kind: Kind, name: &str) -> io::Resu
     }
 }
 
+/// Fails with the cause if something is under the name of the file of a cache that can't be read
+/// under the name of the cache.
+fn check_cache<D: Disk>(disk: &D, name: &str, file: &str) -> io::Result<()>
+    ensures { OnOk result (IfSome (D.known disk.now) (λ k. IsReplaceable k name.now file.now)) }
+{
+    match disk.look(file)? {
+        Found::Nothing => Ok(()),
+        _ => match disk.cause(name) {
+            None => Ok(()),
+            Some(e) => Err(e),
+        },
+    }
+}
+
+/// Fails if an artifact is a cache that is to be written over a file that can't be read: nobody
+/// knows what answers would be lost.
+fn check_replaced<D: Disk>(
+    disk: &D,
+    kind: Kind,
+    is_left: bool,
+    name: &str,
+    file: &str,
+) -> io::Result<()>
+    ensures { OnOk result
+        (IfSome (D.known disk.now) (λ k. MayReplace kind is_left k name.now file.now)) }
+{
+    match kind {
+        Kind::Cache => {
+            if is_left {
+                return Ok(());
+            }
+            check_cache(disk, name, file)
+        }
+        Kind::Record => Ok(()),
+        Kind::File => Ok(()),
+        Kind::Header => Ok(()),
+    }
+}
+
 /// Returns the name of the file that an artifact is written to.
 fn file_of<'a>(end: &'a Option<String>, name: &'a str) -> &'a str
     ensures { result.now ≡ meant.file_of (option_map string_bytes end.now) name.now }
@@ -426,6 +466,7 @@ fn take_free<'a, D: Disk>(
         return Err(no_memory());
     };
     let end = end_for(alloc, disk, kind, path)?;
+    check_replaced(disk, kind, unchanged, path, file_of(&end, path))?;
     let Ok(artifact) = Artifact::from_slices(alloc, kind, name, text) else {
         return Err(no_memory());
     };

@@ -1,11 +1,11 @@
 //! Writing whole texts.
 
 ghost use Rattle.std.specs.Prelude.{◌≡◌, ℕ, [], ◌∷◌, IfOk, IfSome, OnOk, OnErr, Option, Some, string_bytes};
-ghost use Rattle.file_disk.specs.Known.{Adds, Does, Made, Filled, Renamed, kind_under, owner_under};
+ghost use Rattle.file_disk.specs.Known.{Adds, Does, Made, Filled, Renamed, kind_under, mode_under};
 ghost use Rattle.file_disk.specs.declared.found.Found.TheVariants as found;
 ghost use Rattle.file_texts.specs.Names.{IsFileName, temporary};
 ghost use Rattle.file_texts.specs.Steps as meant;
-ghost use Rattle.file_texts.specs.Steps.{writing, new_owner, IsOld, IsModeFor, IsWritten, IsUnnamed, IsDropped, IsUndone, IsReplaced, IsBegun};
+ghost use Rattle.file_texts.specs.Steps.{writing, new_mode, IsOld, IsModeFor, IsWritten, IsUnnamed, IsDropped, IsUndone, IsReplaced, IsBegun};
 
 use crate::names::{file_name, no_name, temporary};
 use file_disk::{Disk, Found, clear, create_filled, not_regular};
@@ -44,73 +44,64 @@ fn make_beside<D: Disk>(alloc: Global, disk: &mut D, name: &str) -> io::Result<N
     ))
 }
 
-/// The permission bits that a file keeps.
+/// The permission bits of an old file that a new one may have though the system doesn't give them.
 #[derive(Clone, Copy)]
 pub enum Keeps {
-    /// All but those that would give its owner's rights to others.
+    /// Those to execute it.
     Permissions,
-    /// These, without those to execute it.
+    /// None.
     NoExecution,
 }
 
-/// Returns the bits that may be kept.
-fn bits_of(keeps: Keeps) -> u32
-    ensures { result ≡ meant.bits_of keeps }
+/// Returns the bits to execute a file that may be kept.
+fn executable(keeps: Keeps) -> u32
+    ensures { result ≡ meant.executable keeps }
 {
     match keeps {
-        Keeps::Permissions => 0o777,
-        Keeps::NoExecution => 0o666,
+        Keeps::Permissions => 0o111,
+        Keeps::NoExecution => 0,
     }
 }
 
-/// A regular file that is replaced: its permission bits, and the user id of its owner.
-#[derive(Clone, Copy)]
-pub(crate) struct Old {
-    mode: u32,
-    owner: u32,
-}
-
-/// Returns the file that is replaced, if there is one, or an error if what is under its name is not
-/// replaced.
-fn old_of(found: Found) -> io::Result<Option<Old>>
+/// Returns the permission bits of the regular file that is replaced, if there is one, or an error if
+/// what is under its name is not replaced.
+fn old_of(found: Found) -> io::Result<Option<u32>>
     ensures { IfOk result (IsOld found) }
 {
     match found {
-        Found::File { mode, owner } => Ok(Some(Old { mode, owner })),
+        Found::File { mode } => Ok(Some(mode)),
         Found::Link => Ok(None),
         Found::Nothing => Ok(None),
         _ => Err(not_regular(found)),
     }
 }
 
-/// Returns the permission bits that a new file of this owner keeps of an old one. If the old one
-/// has another owner, returns `None`: a stranger may have put it there to have the rights to write
-/// the new one.
-fn kept_of(old: Old, user: u32, keeps: Keeps) -> Option<u32>
-    ensures { IsModeFor keeps (Some user) (Some old) result }
+/// Returns the permission bits of a new file in the place of an old one, if the system gave it
+/// those. Whoever made the old file, and whatever group or list of access it has, it gives nobody a
+/// right to read or to write the new one that the system didn't give.
+fn mode_for(keeps: Keeps, old: u32, new: u32) -> u32
+    ensures { IsModeFor keeps (Some new) (Some old) (Some result) }
 {
-    if user == old.owner {
-        Some(old.mode & bits_of(keeps))
-    } else {
-        None
-    }
+    let executable = executable(keeps);
+    let staying = new & (0o700 | (old & 0o77));
+    staying | (old & executable & ((staying & 0o444) / 4))
 }
 
-/// Returns the permission bits that a new file gets.
+/// Returns the permission bits that a new file gets, if the system is to be asked for some.
 fn mode_of<D: Disk>(
     disk: &D,
     other: &str,
     file: &D::File,
-    old: Option<Old>,
+    old: Option<u32>,
     keeps: Keeps,
 ) -> io::Result<Option<u32>>
     ensures { IfOk result (λ mode. IfSome (D.known disk.now)
-        (λ k. IsModeFor keeps (owner_under k other.now) old mode)) }
+        (λ k. IsModeFor keeps (mode_under k other.now) old mode)) }
 {
     match old {
         Some(old) => {
-            let user = disk.owner(other, file)?;
-            Ok(kept_of(old, user, keeps))
+            let new = disk.mode(other, file)?;
+            Ok(Some(mode_for(keeps, old, new)))
         }
         None => Ok(None),
     }
@@ -121,13 +112,13 @@ fn fill_and_rename<D: Disk>(
     disk: &mut D,
     other: &str,
     file: D::File,
-    old: Option<Old>,
+    old: Option<u32>,
     keeps: Keeps,
     text: &[u8],
     name: &str,
 ) -> io::Result<()>
     ensures done { OnOk result ((mode : Option ℕ)
-        × IfSome (D.known disk.old) (λ k. IsModeFor keeps (owner_under k other.now) old mode)
+        × IfSome (D.known disk.old) (λ k. IsModeFor keeps (mode_under k other.now) old mode)
         × Adds (D.known disk.old) (D.known disk.new)
         (Filled other.now mode text.now ∷ Renamed other.now name.now ∷ [])) }
     ensures failed { OnErr result
@@ -143,13 +134,13 @@ fn finish<D: Disk>(
     disk: &mut D,
     other: &str,
     file: D::File,
-    old: Option<Old>,
+    old: Option<u32>,
     keeps: Keeps,
     text: &[u8],
     name: &str,
 ) -> io::Result<()>
     ensures done { OnOk result ((mode : Option ℕ)
-        × IfSome (D.known disk.old) (λ k. IsModeFor keeps (owner_under k other.now) old mode)
+        × IfSome (D.known disk.old) (λ k. IsModeFor keeps (mode_under k other.now) old mode)
         × Adds (D.known disk.old) (D.known disk.new)
         (Filled other.now mode text.now ∷ Renamed other.now name.now ∷ [])) }
     ensures failed { OnErr result
@@ -170,14 +161,14 @@ fn replace<D: Disk>(
     alloc: Global,
     disk: &mut D,
     name: &str,
-    old: Option<Old>,
+    old: Option<u32>,
     keeps: Keeps,
     text: &[u8],
 ) -> io::Result<()>
     ensures written { OnOk result ((n : ℕ) × (mode : Option ℕ)
         × IfSome (D.known disk.old) (λ k. kind_under k (temporary name.now n) ≡ found.Nothing)
         × IfSome (D.known disk.old)
-        (λ k. IsModeFor keeps (new_owner k (temporary name.now n)) old mode)
+        (λ k. IsModeFor keeps (new_mode k (temporary name.now n)) old mode)
         × Adds (D.known disk.old) (D.known disk.new) (writing name.now mode text.now n)) }
     ensures undone { OnErr result
         (Does (D.known disk.old) (D.known disk.new) (λ _ deeds. IsUndone name.now deeds)) }
@@ -195,10 +186,11 @@ fn replace<D: Disk>(
 ///
 /// The text is written to a new file in the same directory, under the first name `acrun-N.tmp` that
 /// is not there, and that file is renamed. So the name has what it had or the whole text, at each
-/// moment, unless the power fails. A regular file of the user who writes keeps its permissions, but
-/// for the set-user-ID, set-group-ID and sticky bits, and those to execute it if `keeps` says so.
-/// Otherwise the new file has the permissions that the system gives: if `name` names a file of
-/// another user, a symbolic link or nothing. A link is replaced, and what it names is not touched.
+/// moment, unless the power fails. If `name` names a symbolic link or nothing, the new file has the
+/// permissions that the system gives. If it names a regular file, the new file has those less what
+/// the group and others could not do with the old one, and it may be executed by whoever could
+/// execute the old one and can read it, unless `keeps` says otherwise. A link is replaced, and what it
+/// names is not touched.
 ///
 /// # Errors
 ///

@@ -588,7 +588,7 @@ pub fn command<C: Crew + Causes + Children>(
         alloc,
         is_asked: asks_why(env) || is_seen,
         env,
-        outputs: FileOutputs::new(alloc, Host::new(&rt)),
+        outputs: FileOutputs::new(alloc, Host::from_here(&rt)),
         input: rt.reader(),
         output: Counted::new(Shown::new(io::writer(&rt), is_shown), is_summed),
         errors: Heard::new(Shown::new(rt.stderr(), is_seen)),

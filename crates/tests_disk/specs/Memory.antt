@@ -20,17 +20,16 @@ deed_of (steps.Removed name) = Removed name
 -- A regular file: what a look at it finds, and its text. (own)
 pub record Plain : Type 0 where
   pub mode : ℕ
-  pub owner : ℕ
   pub text : List ℕ
 
--- A new file, which is that of user 0. (own)
+-- A new file, as a system makes it under the mask 022. (own)
 abbrev pub new_file : List ℕ → Plain
-new_file text = record { mode = 0o100644; owner = 0; text = text }
+new_file text = record { mode = 0o100644; text = text }
 
 -- The file of this name in the directory, if it is one of these. (own)
 abbrev pub file_among : List Placed → List ℕ → Option Plain
 file_among [] own = None
-file_among (f ∷ files) own = if bytes_eq own (last_of f.name) then Some (record { mode = f.mode; owner = f.owner; text = f.text }) else file_among files own
+file_among (f ∷ files) own = if bytes_eq own (last_of f.name) then Some (record { mode = f.mode; text = f.text }) else file_among files own
 
 -- The name under which a deed finds what it leaves under this one, or nothing if it makes it or takes it
 -- away. (own)
@@ -67,7 +66,7 @@ file_after files (deed ∷ earlier) own = file_by (option_map new_file (text_by 
 -- What is found, if this is there. (own)
 abbrev pub kind_of : Option Plain → Found
 kind_of None = found.Nothing
-kind_of (Some file) = found.File file.mode file.owner
+kind_of (Some file) = found.File file.mode
 
 -- The names of a disk of one directory without links, on which each name is that of its last part, if
 -- these files are in it at first. (own)

@@ -2,13 +2,11 @@
 
 use deftable::Bytes;
 
-/// A regular file on a disk in memory: its name, its permission bits, the user id of its owner, and its
-/// text.
+/// A regular file on a disk in memory: its name, its permission bits, and its text.
 #[derive(Drop)]
 pub struct Placed {
     pub name: Bytes,
     pub mode: u32,
-    pub owner: u32,
     pub text: Bytes,
 }
 

@@ -149,10 +149,7 @@ fn kind_among(files: &[Placed], own: &[u8]) -> Found
 {
     for file in files {
         if own == last_of(file.name.as_slice()) {
-            return Found::File {
-                mode: file.mode,
-                owner: file.owner,
-            };
+            return Found::File { mode: file.mode };
         }
     }
     Found::Nothing
@@ -177,10 +174,7 @@ fn new_kind(text: Option<&[u8]>) -> Found
     ensures { result ≡ meant.kind_of (option_map meant.new_file (option_copied text.entry)) }
 {
     match text {
-        Some(_) => Found::File {
-            mode: 0o100644,
-            owner: 0,
-        },
+        Some(_) => Found::File { mode: 0o100644 },
         None => Found::Nothing,
     }
 }
@@ -290,9 +284,9 @@ impl<'a, R: Abort> Disk for MemoryDisk<'a, R> {
         Ok(())
     }
 
-    fn owner(&self, name: &str, _file: &()) -> io::Result<u32> {
+    fn mode(&self, name: &str, _file: &()) -> io::Result<u32> {
         match self.found(name.as_bytes()) {
-            Found::File { owner, .. } => Ok(owner),
+            Found::File { mode } => Ok(mode),
             _ => Err(io::Error::from(ErrorKind::NotFound)),
         }
     }

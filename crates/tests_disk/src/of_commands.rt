@@ -38,12 +38,11 @@ const NAMES: &[u8] =
 /// The names of the outputs.
 const OUTPUTS: &[u8] = b"src/Makefile config.h";
 
-/// Appends a file of user 0.
+/// Appends a file.
 fn add_file<R: Abort>(rt: &R, page: &mut Page, files: &mut Vec<Placed>, name: &[u8], text: &[u8]) {
     let placed = Placed {
         name: copied(rt, page.alloc(), name),
         mode: 0o100644,
-        owner: 0,
         text: copied(rt, page.alloc(), text),
     };
     if files.push(placed).is_err() {

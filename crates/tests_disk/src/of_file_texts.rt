@@ -112,7 +112,7 @@ fn add_artifact(page: &mut Page, artifacts: &mut Artifacts, words: &[u8]) {
 /// Puts whether the artifacts were taken, or which was refused, and the lines. A put to the file
 /// that is kept is refused. If it can't be kept, nothing is put.
 fn put_put(page: &mut Page, disk: &Disk<'_>, kept: &[u8], artifacts: &[Artifact]) {
-    let mut outputs = FileOutputs::new(page.alloc(), Host::new(disk));
+    let mut outputs = FileOutputs::new(page.alloc(), Host::from_here(disk));
     if outputs.keep(kept).is_err() {
         page.put(b"unkept");
         return;

@@ -97,14 +97,22 @@ fn put_after<R: Abort>(
     put_receiver(page, &outputs);
 }
 
-/// Returns a file, a program: its name, a blank, and its text. If the word is `strange`, it is that
-/// of user 1.
+/// Returns the permission bits of three octal digits, or those of a program that anybody may run.
+fn mode_of(word: &[u8]) -> u32 {
+    match word {
+        [first @ b'0'..=b'7', second @ b'0'..=b'7', third @ b'0'..=b'7'] => {
+            u32::from(first - b'0') * 64 + u32::from(second - b'0') * 8 + u32::from(third - b'0')
+        }
+        _ => 0o755,
+    }
+}
+
+/// Returns a file: its name, a blank, and its text. The word may have its permission bits.
 fn file_of<R: Abort>(rt: &R, page: &mut Page, file: &[u8], word: &[u8]) -> Vec<Placed> {
     let (name, text) = cut(file, b" ");
     let placed = Placed {
         name: copied(rt, page.alloc(), name),
-        mode: 0o100755,
-        owner: u32::from(word == b"strange".as_slice()),
+        mode: 0o100000 + mode_of(word),
         text: copied(rt, page.alloc(), text),
     };
     let mut files = Vec::new(page.alloc());
@@ -115,8 +123,9 @@ fn file_of<R: Abort>(rt: &R, page: &mut Page, file: &[u8], word: &[u8]) -> Vec<P
 }
 
 /// A row has four parts, with bars between them: the name of the one file that is there at first, a
-/// blank and its text; `full`, if no file can be filled, `strange`, if the file is another user's, or
-/// `closed`, if the receiver is closed first; the artifacts, with semicolons between them; and the last file.
+/// blank and its text; `full`, if no file can be filled, `closed`, if the receiver is closed first, or
+/// the permission bits of the file, if they are not 755; the artifacts, with semicolons between them; and
+/// the last file. A new file has the permission bits 644 at first.
 #[derive(Drop)]
 struct Deeds<'a, R: Abort> {
     rt: &'a R,
@@ -139,15 +148,22 @@ impl<R: Abort> RowCall for Deeds<'_, R> {
 }
 
 const STEPS: &[u8] = b"\
-// a new file, with its directory, and one in the place of another, which keeps its permissions
+// a new file, with its directory, and one in the place of another, which can still be executed
 a x||file d/b y| => yes[config.status: creating d/b^J]directories d;made d/acrun-1.tmp;filled d/acrun-1.tmp[y];renamed d/acrun-1.tmp to d/b;
 a x||file a x| => yes[config.status: creating a^J]made acrun-1.tmp;filled acrun-1.tmp 493[x];renamed acrun-1.tmp to a;
 a x||record a y| => yes[]made acrun-1.tmp;filled acrun-1.tmp 420[y];renamed acrun-1.tmp to a;
-// Of a file of another user no permissions are kept, whatever is put in its place.
-a x|strange|file a y| => yes[config.status: creating a^J]made acrun-1.tmp;filled acrun-1.tmp[y];renamed acrun-1.tmp to a;
-a x|strange|record a y| => yes[]made acrun-1.tmp;filled acrun-1.tmp[y];renamed acrun-1.tmp to a;
-a x|strange|header a y| => yes[config.status: creating a^J]made acrun-1.tmp;filled acrun-1.tmp[y];renamed acrun-1.tmp to a;
-a x|strange|cache a y| => yes[]made acrun-1.tmp;filled acrun-1.tmp[y];renamed acrun-1.tmp to a;
+// An old file gives no right to read or to write, whatever is put in its place: 664 becomes 644, and 777 becomes 755.
+a x|664|file a y| => yes[config.status: creating a^J]made acrun-1.tmp;filled acrun-1.tmp 420[y];renamed acrun-1.tmp to a;
+a x|666|cache a y| => yes[]made acrun-1.tmp;filled acrun-1.tmp 420[y];renamed acrun-1.tmp to a;
+a x|777|header a y| => yes[config.status: creating a^J]made acrun-1.tmp;filled acrun-1.tmp 493[y];renamed acrun-1.tmp to a;
+a x|777|record a y| => yes[]made acrun-1.tmp;filled acrun-1.tmp 420[y];renamed acrun-1.tmp to a;
+// What the group and others had not, they don't get: 640 and 600 stay, and who may not read may not execute.
+a x|640|file a y| => yes[config.status: creating a^J]made acrun-1.tmp;filled acrun-1.tmp 416[y];renamed acrun-1.tmp to a;
+a x|600|file a y| => yes[config.status: creating a^J]made acrun-1.tmp;filled acrun-1.tmp 384[y];renamed acrun-1.tmp to a;
+a x|751|file a y| => yes[config.status: creating a^J]made acrun-1.tmp;filled acrun-1.tmp 488[y];renamed acrun-1.tmp to a;
+// The owner keeps what the system gives.
+a x|000|file a y| => yes[config.status: creating a^J]made acrun-1.tmp;filled acrun-1.tmp 384[y];renamed acrun-1.tmp to a;
+a x|444|record a y| => yes[]made acrun-1.tmp;filled acrun-1.tmp 420[y];renamed acrun-1.tmp to a;
 // A header or a cache that has its text already is left as it is.
 a x||header a x| => yes[config.status: a is unchanged^J]
 a x||header a y| => yes[config.status: creating a^J]made acrun-1.tmp;filled acrun-1.tmp 493[y];renamed acrun-1.tmp to a;

@@ -1,9 +1,9 @@
-use Rattle.std.proofs.Common.{ℕ, List, OnOk, OnErr, ap, sym, subst, ◌∙◌, string_bytes, ◌≡◌, false}
+use Rattle.std.proofs.Common.{ℕ, List, OnOk, OnErr, ap, sym, subst, ◌∙◌, string_bytes, ◌≡◌, false, IfSome}
 use Rattle.std.specs.Prelude.{option_map}
 use Rattle.file_disk.specs.Known.{Does}
 use Rattle.output_put.specs.declared.artifact.Artifact.{Artifact}
 use Rattle.file_texts.specs.Done.{IsRefused}
-use Rattle.file_texts.specs.Keeping.{Takes, file_of}
+use Rattle.file_texts.specs.Keeping.{MayReplace, Takes, file_of}
 use Rattle.file_texts.specs.Places.{is_name_guarded}
 use Rattle.file_texts.proofs.Puts.{takes_is, refuses_is, refused_before}
 use Rattle.file_texts.proofs.Writings.{on_err}
@@ -14,6 +14,9 @@ returns-in_default-clause-undone g c = refused_before _ c.args.kind c.args.name.
 
 pub returns-in_err-end-clause-undone : goal.returns-in_err-end-clause-undone
 returns-in_err-end-clause-undone g c = on_err _ (refused_before _ c.args.kind c.args.name.now)
+
+pub returns-in_err-check_replaced-clause-undone : goal.returns-in_err-check_replaced-clause-undone
+returns-in_err-check_replaced-clause-undone g c = on_err _ (refused_before _ c.args.kind c.args.name.now)
 
 pub returns-in_default-from_slices-clause-undone : goal.returns-in_default-from_slices-clause-undone
 returns-in_default-from_slices-clause-undone g c = refused_before _ c.args.kind c.args.name.now
@@ -29,6 +32,7 @@ returns-clause-taken g c =
     (takes_is c.keep_written.result known _ _ _ _ _ _ _ _ c.args.kind c.in-Ok.unchanged path file c.args.text.now c.in-Ok-from_slices.artifact c.saying_of-saying.result
     (c.in-Ok-from_slices.ensures ∙ ap named (sym c.requires.path)) c.saying_of-saying.ensures
     (subst (λ n. is_name_guarded n c.args.guards.now ≡ false) (sym c.requires.path) c.requires.unguarded) c.requires.readable c.in-Ok.ensures c.in_ok-end.ensures
+    (subst (λ f. IfSome known (λ k. MayReplace c.args.kind c.in-Ok.unchanged k path f)) c.file_of.ensures c.in_ok-check_replaced.ensures)
     c.keep_written.ensures.ok c.keep_written.ensures.stepped)
 
 pub returns-clause-undone : goal.returns-clause-undone

@@ -2,7 +2,7 @@ use Rattle.file_texts.specs.Steps.{old_file, old_link, no_old}
 use Rattle.file_texts.proofs.writing.old_of.Goals as goal
 
 pub returns-in-File : goal.returns-in-File
-returns-in-File c = rw c.in-File.is (old_file _ _)
+returns-in-File c = rw c.in-File.is (old_file _)
 
 pub returns-in-Link : goal.returns-in-Link
 returns-in-Link c = rw c.in-Link.is old_link
