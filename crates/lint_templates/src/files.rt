@@ -99,6 +99,9 @@ fn open_end(text: &[u8]) -> Option<(usize, usize)> {
 
 /// Returns the offset of the first line that begins a rule for `distclean`.
 fn distclean_at(text: &[u8]) -> Option<usize> {
+    if !text.contains_str(b"distclean") {
+        return None;
+    }
     let mut at = 0usize;
     for line in text.split(|byte| *byte == b'\n') {
         if line.starts_with(b"distclean:") || line.starts_with(b"distclean ") {
@@ -191,6 +194,9 @@ fn sources_in_line(line: &[u8]) -> Option<usize> {
 
 /// Returns where a pattern takes conftests for sources.
 fn sources_in(text: &[u8]) -> Option<(usize, usize)> {
+    if !text.contains_str(b"*.c") {
+        return None;
+    }
     let mut at = 0usize;
     for line in text.split(|byte| *byte == b'\n') {
         if let Some(start) = sources_in_line(line) {

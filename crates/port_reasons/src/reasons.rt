@@ -2,7 +2,7 @@
 
 use ac_calls::calls_of;
 use deftable::Bytes;
-use lint_errors::{errors_of, read};
+use lint_errors::{errors_of, is_accepted, read};
 use lint_text::{after_blanks, before, first_name, from, is_word_byte, part};
 use port_compounds::{case_parts, guard_parts, if_parts};
 use port_joints::joined_texts;
@@ -67,6 +67,9 @@ pub struct Staying {
 fn refusal(alloc: Global, name: &[u8], parts: &[&[u8]]) -> Result<Option<Reason>, AllocError> {
     let call = call_text(alloc, name, parts)?;
     let source = source_with(alloc, call.as_slice())?;
+    if is_accepted(alloc, source.as_slice())? {
+        return Ok(None);
+    }
     let reading = read(alloc, source.as_slice())?;
     let errors = errors_of(alloc, source.as_slice(), &reading)?;
     match errors.first() {
