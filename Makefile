@@ -4,6 +4,7 @@
 # make ports    configures, builds and tests packages of Debian, which it fetches, some by debhelper, and one by rpmbuild; it says what it skips
 # make compile  tries sample conftests with a real compiler, the one that CC names
 # make check    the gate: every proof, every test, every must-fail edit, each allocation refused, and the checks of tools/repository.py
+# make proofs   proves all crates and tests without the must-fail edits, so that make check after it has only the rest to do
 # make edits    tries the wrong bodies of every crate, or of those that NAMES names: make edits NAMES="crew plan"
 # make edits-test  tries the script that does it
 # make plants   tries the wrong bodies that tests alone refuse, of every crate, or of those that NAMES names
@@ -24,7 +25,7 @@ rpmmacrodir = $(prefix)/lib/rpm/macros.d
 # The program that is installed.
 program = out/acrun
 
-.PHONY: all try demo ports compile check edits edits-test plants install install-files uninstall dist deb
+.PHONY: all try demo ports compile check proofs edits edits-test plants install install-files uninstall dist deb
 
 # tools/build.sh looks at what has changed, and builds nothing anew if nothing has.
 all:
@@ -67,6 +68,9 @@ compile:
 
 check:
 	@python3 tools/gate.py
+
+proofs:
+	@python3 tools/gate.py --proofs
 
 edits:
 	@python3 tools/edits_together.py $(NAMES)

@@ -4,6 +4,11 @@ at each allocation (`refuse_each.py`), and runs of the built program: over child
 terminal (`try_terminal.py`), with errors (`examples/errors` and the examples of docs/errors.md), and of the commands whose words no
 clause has (`examples/help`, `examples/lint` and `examples/port`).
 
+  gate.py            the gate
+  gate.py --proofs   proves all crates and their tests, without the must-fail edits, in a room. What it proves is kept on this
+                     machine, and the gate then has only the rest to do: the two together take as long as the gate alone, for
+                     machines on which that is too long for one run
+
 Unless RT_JOBS is set, `rt ci` runs as many checks side by side as the machine has processors and memory for (`machine.py`). On a
 machine on which nothing is proved yet, the gate first takes the unit of docs/proving.md, and says at its end how many units of
 processor time it took.
@@ -11,6 +16,7 @@ processor time it took.
 Its last line is 'N passed, M failed' over all of them, and the exit status is 1 if M is not 0.
 """
 import os
+import pathlib
 import re
 import shutil
 import subprocess
@@ -24,15 +30,13 @@ import repository
 COUNTS = re.compile(r"(\d+) passed, (\d+) failed\s*\Z")
 
 
-def prove():
-    """Runs `rt ci`, passes on what it prints, and returns how many items passed and failed."""
-    # `rt ci` refuses a repository inside this one, such as the room in which `make` proves.
-    shutil.rmtree("out/rooms", ignore_errors=True)
+def prove(top="."):
+    """Runs `rt ci` in a repository, passes on what it prints, and returns how many items passed and failed."""
     os.environ.setdefault("RT_JOBS", str(machine.jobs()))
     print(f"gate: {os.environ['RT_JOBS']} checks side by side on {machine.processors()} processors", flush=True)
     words = {"stdin": subprocess.DEVNULL, "stdout": subprocess.PIPE, "stderr": subprocess.STDOUT, "errors": "replace"}
     last = ""
-    with subprocess.Popen(["rt", "ci"], **words) as gate:
+    with subprocess.Popen(["rt", "ci"], cwd=top, **words) as gate:
         for line in gate.stdout:
             print(line, end="", flush=True)
             last = line
@@ -41,6 +45,16 @@ def prove():
         return 0, 1
     passed, failed = map(int, counts.groups())
     return passed, max(failed, int(gate.returncode != 0))
+
+
+def prove_in_room():
+    """Proves all crates and their tests in a repository of copies without must-fail edits."""
+    room = pathlib.Path("out/rooms/all")
+    shutil.copytree("crates", room / "crates", ignore=shutil.ignore_patterns("out", "must-fail", "wrong-bodies", "tested-bodies"))
+    for name in ("crates.txt", "HANDLES"):
+        shutil.copy(name, room)
+    subprocess.run(["git", "init", "-q", room], check=True)
+    return prove(room)
 
 
 def tried(*command):
@@ -58,6 +72,14 @@ def examples():
 
 
 def main():
+    if sys.argv[1:] not in ([], ["--proofs"]):
+        sys.exit(__doc__)
+    # `rt ci` refuses a repository inside this one, such as the room in which `make` proves.
+    shutil.rmtree("out/rooms", ignore_errors=True)
+    if sys.argv[1:]:
+        passed, failed = prove_in_room()
+        print(f"{passed} passed, {failed} failed")
+        return int(failed > 0)
     unit = machine.unit() if machine.is_new() else None
     began, before = time.time(), machine.used()
     passed, failed = prove()

@@ -1,11 +1,14 @@
 #!/usr/bin/env python3
 """Runs the gate at the top of the repository and says where its time goes: for each crate the processor seconds that its proof,
 the proofs of its tests and its must-fail edits took, and the longest single check; and the longest chain of crates, each of
-which waits for the one before. The whole output goes to out/gate.log, with the time in seconds before each line. The exit status
+which waits for the one before. It also says for how many seconds how many checks were at work, how much memory they took together,
+and what else the processors did, so that idle places and other work are seen. The whole output goes to out/gate.log, with the time in seconds before each line. The exit status
 is that of the gate.
 
   gate_times.py            runs `make check`
   gate_times.py WORD..     runs this command instead, such as `make`
+
+Before that it takes the unit in which docs/proving.md has its times (`machine.py unit`).
 """
 import collections
 import os
@@ -14,9 +17,12 @@ import sys
 import threading
 import time
 
+import machine
 import repository
 
 TICK = os.sysconf("SC_CLK_TCK")
+PAGE = os.sysconf("SC_PAGE_SIZE")
+EVERY = 0.5
 
 
 def running(root):
@@ -48,6 +54,26 @@ def running(root):
     return found
 
 
+def memory_of(processes):
+    """The resident memory of processes, in bytes."""
+    found = 0
+    for process in processes:
+        try:
+            with open(f"/proc/{process}/statm") as file:
+                found += int(file.read().split()[1]) * PAGE
+        except OSError:
+            pass
+    return found
+
+
+def processor_times():
+    """The seconds that all processors worked, were idle, and were taken by the host."""
+    with open("/proc/stat") as file:
+        times = [int(it) / TICK for it in file.readline().split()[1:9]]
+    user, nice, system, idle, waiting, interrupts, soft, stolen = times
+    return user + nice + system + interrupts + soft, idle + waiting, stolen
+
+
 def longest_chain(total):
     """Returns the chain of crates whose proofs take the longest one after the other, and its seconds."""
     rows, chains = repository.rows(), {}
@@ -63,7 +89,8 @@ def longest_chain(total):
 
 def main():
     os.makedirs("out", exist_ok=True)
-    began = time.time()
+    unit = machine.unit()
+    began, used_before, times_before = time.time(), machine.used(), processor_times()
     words = sys.argv[1:] or ["make", "check"]
     gate = subprocess.Popen(words, stdout=subprocess.PIPE, stderr=subprocess.STDOUT, errors="replace")
 
@@ -74,11 +101,15 @@ def main():
 
     copying = threading.Thread(target=copy)
     copying.start()
-    seen = {}
+    seen, lanes, most = {}, collections.Counter(), 0
     while gate.poll() is None:
-        for process, crate, kind, used in running(gate.pid):
+        found = running(gate.pid)
+        for process, crate, kind, used in found:
             seen[process] = crate, kind, max(used, seen.get(process, ("", "", 0.0))[2])
-        time.sleep(0.5)
+        # A check of several jobs is several processes.
+        lanes[len({(crate, kind) for _, crate, kind, _ in found})] += EVERY
+        most = max(most, memory_of(process for process, *_ in found))
+        time.sleep(EVERY)
     copying.join()
     total, longest = collections.Counter(), collections.Counter()
     for crate, kind, used in seen.values():
@@ -91,7 +122,11 @@ def main():
         print(f"{'all':<14}{kind:<8}{sum(used for (_, it), used in total.items() if it == kind):>8.0f}")
     seconds, crates = longest_chain(total)
     print(f"longest chain: {seconds:.0f} seconds: {', '.join(crates)}")
-    print(f"{time.time() - began:.0f} seconds in all on {len(os.sched_getaffinity(0))} processors")
+    print("checks at once, and for how many seconds: " + ", ".join(f"{count}: {lanes[count]:.0f}" for count in sorted(lanes)))
+    print(f"the most memory that they took together: {most / 1e9:.1f} GB")
+    used, (worked, idle, stolen) = machine.used() - used_before, (now - before for now, before in zip(processor_times(), times_before))
+    print(f"processors: {worked:.0f} seconds of work, {worked - used:.0f} of them of other programs, {idle:.0f} idle, {stolen:.0f} taken by the host")
+    print(f"{time.time() - began:.0f} seconds in all on {machine.processors()} processors, {used:.0f} of the processors: {used / unit:.0f} units of {unit:.1f}")
     with open("out/gate.log") as log:
         print("last line:", log.read().rstrip().rpartition("\n")[2])
     return gate.returncode

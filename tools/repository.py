@@ -22,7 +22,7 @@ import word_table
 
 CRATES = pathlib.Path("crates")
 # The budget of must-fail edits, which `rt ci` tries one by one.
-MOST_EDITS, MOST_CRATES = 90, 15
+MOST_EDITS, MOST_CRATES = 40, 15
 # The most lines of docs/promises.md.
 MOST_PROMISES = 160
 # What comments name in the form of code, and is none: variables of a source, and files of a run.
