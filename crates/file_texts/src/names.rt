@@ -46,9 +46,15 @@ pub(crate) fn file_name(name: &[u8]) -> Option<&str>
     }
 }
 
-/// Returns the error of a name that no file can have.
-pub(crate) fn no_name() -> io::Error {
-    io::Error::new(ErrorKind::InvalidFilename, "no file can have this name")
+/// Returns the error of a name that isn't the name of a file here: one with a NUL, or one that is not
+/// UTF-8, which a file can have, but the program can't ask for.
+pub(crate) fn no_name(name: &[u8]) -> io::Error {
+    let cause = if has_nul(name) {
+        "no file can have this name"
+    } else {
+        "the name is not UTF-8"
+    };
+    io::Error::new(ErrorKind::InvalidFilename, cause)
 }
 
 /// Returns the directory of a file: what is before the last slash of its name. If the name has no

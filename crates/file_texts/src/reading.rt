@@ -71,7 +71,7 @@ pub fn unread_cause<D: Disk>(disk: &D, name: &[u8]) -> Option<io::Error>
     ensures opened { IfNone result (IfSome (D.known disk.now) (λ k. IsOpened k name.now)) }
 {
     let Some(name) = file_name(name) else {
-        return Some(no_name());
+        return Some(no_name(name));
     };
     disk.cause(name)
 }

@@ -419,7 +419,7 @@ fn take<'a, D: Disk>(
         return Err(io::Error::other("is handed over after the last file"));
     }
     let Some(path) = file_name(name) else {
-        return Err(no_name());
+        return Err(no_name(name));
     };
     let Ok(held) = is_held(alloc, disk, guards, places, path) else {
         return Err(no_memory());

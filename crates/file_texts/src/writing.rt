@@ -212,7 +212,7 @@ pub fn write_text<D: Disk>(
         (Does (D.known disk.old) (D.known disk.new) (λ _ deeds. IsUndone name.now deeds)) }
 {
     let Some(path) = file_name(name) else {
-        return Err(no_name());
+        return Err(no_name(name));
     };
     let found = disk.look(path)?;
     let old = old_of(found)?;
@@ -240,6 +240,6 @@ pub(crate) fn write_new<D: Disk>(disk: &mut D, name: &[u8], text: &[u8]) -> io::
             clear(disk, path)?;
             create_filled(disk, path, text)
         }
-        None => Err(no_name()),
+        None => Err(no_name(name)),
     }
 }
