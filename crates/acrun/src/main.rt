@@ -10,6 +10,7 @@
 
 use crew::ReadyCrew;
 use crew_progress::Watched;
+use patient_writer::Patient;
 use runner::{
     FilterFault, Heard, LOG, ProcessTexts, command, environment, showing_of, tell, words,
 };
@@ -23,9 +24,10 @@ fn run(rt: HostRuntime) -> Result<u8, AllocError> {
     let words = words(rt.alloc(), &given)?;
     let env = environment(rt.alloc(), &given)?;
     let errors = rt.stderr();
-    let showing = showing_of(words.as_slice(), env.as_slice(), errors.is_terminal());
+    let is_terminal = errors.is_terminal();
+    let showing = showing_of(words.as_slice(), env.as_slice(), is_terminal);
     let children = ReadyCrew::removing(rt, rt.alloc(), LOG)?;
-    let mut crew = Watched::new(children, Heard::new(errors), showing);
+    let mut crew = Watched::new(children, Heard::new(Patient::new(errors, &rt)), showing);
     Ok(command(rt, rt.alloc(), words.as_slice(), env.as_slice(), &mut crew))
 }
 

@@ -46,6 +46,7 @@ use crew_trait::Crew;
 use deftable::Bytes;
 use file_disk::{Disk, Host};
 use file_texts::FileOutputs;
+use patient_writer::Patient;
 use std::alloc::{AllocError, Global};
 use std::io::{self, Input, IsTerminal, Read, Write};
 use std::rt::Files;
@@ -590,8 +591,11 @@ pub fn command<C: Crew + Causes + Children>(
         env,
         outputs: FileOutputs::new(alloc, Host::from_here(&rt)),
         input: rt.reader(),
-        output: Counted::new(Shown::new(io::writer(&rt), is_shown), is_summed),
-        errors: Heard::new(Shown::new(rt.stderr(), is_seen)),
+        output: Counted::new(
+            Shown::new(Patient::new(io::writer(&rt), &rt), is_shown),
+            is_summed,
+        ),
+        errors: Heard::new(Shown::new(Patient::new(rt.stderr(), &rt), is_seen)),
     };
     let status = run(&mut terminal, &rt, words, crew, is_terminal);
     let tally = terminal.output.tally();
