@@ -4,7 +4,8 @@
     bench/limits.py [PROGRAM]
 
 The seconds are those of the program and of its children, the least of three runs. Each row says how the run has to end; the exit
-status is 1 if one ends otherwise or takes a second or more.
+status is 1 if one ends otherwise, or takes a second or more and isn't known to. A template's words from `lint` may take twice as long
+as its run.
 """
 import os
 import pathlib
@@ -41,12 +42,21 @@ def configure_row(text, files=None, words=()):
     return {"words": ["configure", *words], "given": b"", "files": {"configure.ac": text, **(files or {})}}
 
 
+def tool_row(command, text, files=None):
+    return {"words": [command], "given": b"", "files": {"configure.ac": text, **(files or {})}}
+
+
 HEADERS = b"AC_CHECK_HEADERS([" + numbered(b" v%03d.h", 256) + b"])\n"
 KNOWN_HEADERS = numbered(b"ac_cv_header_v%03d_h=yes\n", 256)
 NAMES = numbered(b"a_cv_%06x=1\n", LARGEST_CACHE // 14)
 ALL_LISTS = (b"AC_CONFIG_FILES([" + numbered(b" f%04d", 1024) + b"])\nAC_CONFIG_HEADERS([" + numbered(b" h%04d", 1024) + b"])\n"
              + b"".join(b"AC_ARG_VAR([v%04d],[h])\nAC_ARG_ENABLE([f%04d])\nAC_ARG_WITH([p%04d])\n" % (i, i, i) for i in range(1024)))
 ENDLESS = b"CC=sh CFLAGS='yes>&2'\n"
+
+TEMPLATE = "template of 67,108,864 bytes"
+FILLED = {"f.in": b"@PACKAGE_NAME@ 32 bytes of text.\n"[:32] * (1 << 21)}
+# These are known to take longer than a second: port reads what is in an `if` once for each level.
+SLOW = {"port of 30 ifs in each other, around 100,000 bytes": 15}
 
 ROWS = [
     ("source of 1,048,576 blanks", lambda: filter_row(b" " * (LARGEST_SOURCE - 1) + b"\n"), (2, b"acrun: parse 8\n")),
@@ -76,8 +86,14 @@ ROWS = [
     ("a child that never stops writing", lambda: configure_row(INIT + ENDLESS + b"AC_CHECK_HEADER([a.h])\n" + END), DONE),
     ("16 such children at once", lambda: configure_row(
         INIT + ENDLESS + b"AC_CHECK_HEADERS([" + numbered(b" a%d.h", 16) + b"])\n" + END, words=["-j16"]), DONE),
-    ("template of 67,108,864 bytes", lambda: configure_row(
-        INIT + b"AC_CONFIG_FILES([f])\n" + END, {"f.in": b"@PACKAGE_NAME@ 32 bytes of text.\n"[:32] * (1 << 21)}), DONE),
+    (TEMPLATE, lambda: configure_row(INIT + b"AC_CONFIG_FILES([f])\n" + END, FILLED), DONE),
+    ("lint of it", lambda: tool_row("lint", INIT + b"AC_CONFIG_FILES([f])\n" + END, FILLED), DONE),
+    ("lint of 1,000 ifs of a shell", lambda: tool_row("lint", INIT + numbered(
+        b'if test "x$A%04d" = xyes; then\n  B=1\nelse\n  B=2\nfi\n', 1000) + END), (1, b"")),
+    ("port of 30 ifs in each other, around 100,000 bytes", lambda: tool_row("port", INIT + numbered(
+        b'if test "x$A%02d" = xyes; then\n', 30) + numbered(b"a%05d=1\n", 11_000) + b"fi\n" * 30 + END), DONE),
+    ("port of a megabyte of calls", lambda: tool_row("port", INIT + numbered(
+        b"AC_CHECK_HEADER([a%05d.h], [AC_DEFINE([A%05d], [1])])\n".replace(b"[A%05d]", b"[A]"), 19_000) + END), DONE),
 ]
 
 
@@ -111,7 +127,7 @@ def tried(program, row):
 
 def main():
     program = os.path.realpath(sys.argv[1] if len(sys.argv) > 1 else "out/acrun")
-    wrong = 0
+    wrong, taken = 0, {}
     os.open(os.devnull, os.O_RDONLY)  # 3, which stays that of the runner
     for title, made, wanted in ROWS:
         row = made()
@@ -119,10 +135,13 @@ def main():
         seconds, megabytes = min(it[2] for it in found), max(it[3] for it in found)
         size = (len(row["given"]) + sum(map(len, row["files"].values()))) / 1_000_000
         ends = all(it[:2] == wanted for it in found)
-        wrong |= not ends or seconds >= 1
+        wrong |= not ends or seconds >= SLOW.get(title, 1)
+        taken[title] = seconds
         told = "" if ends else f"  ends with {found[0][:2]}"
         print(f"{title:<56} {size:7.2f} MB {seconds:6.3f} s {megabytes:6.0f} MB{told}", flush=True)
-    return wrong
+    ratio = taken["lint of it"] / taken[TEMPLATE]
+    print(f"lint of a template takes {ratio:.1f} times as long as its run")
+    return wrong or int(ratio > 2)
 
 
 sys.exit(main())

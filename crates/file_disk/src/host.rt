@@ -55,14 +55,14 @@ fn is_here(name: &str) -> bool {
     name == "." || name == "./"
 }
 
-/// Returns how many bytes a file has, as far as they are read, or 0 if the system doesn't say.
-fn size_of<T: OpenFile>(file: &T) -> usize
-    ensures { result ≤ 2 ^ 26 }
+/// Returns how many bytes a file has, as far as they are read, or `None` if the system doesn't say.
+fn size_of<T: OpenFile>(file: &T) -> Option<usize>
+    ensures { IfSome result (λ size. size ≤ 2 ^ 26) }
 {
     match file.metadata() {
-        Ok(found) if found.len() <= LARGEST_TEXT as u64 => found.len() as usize,
-        Ok(_) => LARGEST_TEXT,
-        Err(_) => 0,
+        Ok(found) if found.len() <= LARGEST_TEXT as u64 => Some(found.len() as usize),
+        Ok(_) => Some(LARGEST_TEXT),
+        Err(_) => None,
     }
 }
 
@@ -102,6 +102,20 @@ fn found_of(found: &Metadata) -> Found
         return Found::Directory;
     }
     Found::Special
+}
+
+/// Returns the text of a file that was opened, or its first 64 MiB and one byte more. A file without
+/// a byte isn't read: a read of a file such as `/proc/kmsg`, which the system calls regular and empty,
+/// may wait.
+fn read_opened<T: OpenFile + Read>(
+    alloc: Global,
+    file: &mut T,
+) -> Result<Option<Bytes>, AllocError> {
+    match size_of(file) {
+        Some(0) => Ok(Some(Bytes::new(alloc))),
+        Some(size) => read_front(alloc, file, size),
+        None => read_front(alloc, file, 0),
+    }
 }
 
 /// Looks at what names lead to, and opens it. Of the real files nothing is known.
@@ -169,10 +183,7 @@ impl<'a, F: Files> Disk for Host<'a, F> {
 
     fn read(&self, alloc: Global, name: &str) -> Result<Option<Bytes>, AllocError> {
         match open_regular(self, name) {
-            Ok(mut file) => {
-                let size = size_of(&file);
-                read_front(alloc, &mut file, size)
-            }
+            Ok(mut file) => read_opened(alloc, &mut file),
             Err(e) if e.kind() == ErrorKind::OutOfMemory => Err(AllocError),
             Err(_) => Ok(None),
         }
