@@ -91,6 +91,14 @@ new 'a preprocessor that fails'; ac AC_PROG_CC 'AC_PREPROC_IFELSE([AC_LANG_PROGR
 new 'a compiler without room'; ac AC_PROG_CC 'AC_CHECK_FUNCS([getline])'; row configure -C CC=./full
 new 'a compiler that a signal ends'; ac AC_PROG_CC 'AC_CHECK_FUNCS([getline])'
 printf '#!/bin/sh\nkill -9 $$\n' > killed; chmod +x killed; row configure CC=./killed
+new 'a compiler that may not read'; ac AC_PROG_CC 'AC_CHECK_FUNCS([getline])'
+printf '#!/bin/sh\necho "cc1: fatal error: $3: Permission denied" >&2\nexit 1\n' > barred; chmod +x barred; row configure CC=./barred
+new 'a compiler whose arguments are too long'; ac AC_PROG_CC 'AC_CHECK_FUNCS([getline])'
+printf '#!/bin/sh\necho "cc: error: cc1: Argument list too long" >&2\nexit 1\n' > long; chmod +x long; row configure CC=./long
+new 'a search in which a signal ends sh'; ac 'AC_CHECK_PROG([T],[ls],[found],[none])'
+printf '#!/bin/sh\nkill -9 $$\n' > sh; chmod +x sh; row configure -C
+new 'a search in which sh fails'; ac 'AC_CHECK_PROG([T],[ls],[found],[none])'
+printf '#!/bin/sh\nexit 127\n' > sh; chmod +x sh; row configure
 new 'an answer that is no'; ac AC_PROG_CC 'AC_CHECK_FUNCS([getline])' 'AC_CHECK_HEADERS([stdio.h])'; row configure CC=./nolink
 
 # Outputs

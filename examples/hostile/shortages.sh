@@ -38,7 +38,7 @@ room='this run may have taken a wrong "no" of `checking for puts`, in which a pr
 ended='this run may have taken a wrong "no" of `checking for puts`, in which a signal ended a compiler: run it again'
 rm -f config.cache
 for words in 'cc: Cannot allocate memory' 'cc1: out of memory allocating 65536 bytes' 'a.o: No space left on device' 'cc: Too many open files' \
-    'ld: final link failed: File too large' 'vfork: Resource temporarily unavailable' 'a.o: Disk quota exceeded'; do
+    'cc: error: cc1: Argument list too long' 'ld: final link failed: File too large' 'vfork: Resource temporarily unavailable' 'a.o: Disk quota exceeded'; do
     compiler "echo '$words' >&2; exit 1"
     row "$words" "status 0 acrun: $room" CC=./compiler
 done
@@ -46,6 +46,8 @@ compiler 'kill -9 $$'
 row 'a signal ends the compiler' "status 0 acrun: $ended" CC=./compiler
 compiler 'echo "cc: fatal error: Killed signal terminated program cc1" >&2; exit 1'
 row 'a signal ends a part of the compiler' "status 0 acrun: $ended" CC=./compiler
+compiler 'echo "cc1: fatal error: conftest1.c: Permission denied" >&2; exit 1'
+row 'the compiler may not read' 'status 0 acrun: this run may have taken a wrong "no" of `checking for puts`, in which a compiler may not open a file: run it again' CC=./compiler
 # With a cache its name is said. It isn't said of a child that succeeded, nor of what a program that failed has, nor if nobody asks.
 row 'with a cache' 'status 0 acrun: config.cache may hold a wrong "no" of `checking for puts`, in which a signal ended a compiler: remove it, and run again' -C CC=./compiler
 rm -f config.cache

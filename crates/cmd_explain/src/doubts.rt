@@ -2,9 +2,10 @@
 
 ghost use Rattle.std.specs.Prelude.{◌≡◌, false};
 
-use crate::checks::open_check;
+use crate::checks::{conftest_in, open_check};
+use crate::failures::is_search;
 use crate::lines::put_words;
-use crate::shortages::{names_shortage, names_signal};
+use crate::shortages::{names_refusal, names_shortage, names_signal};
 use crew_trait::{Entry, Reply};
 use lint_table::{Page, WordPart, keys};
 use output_put::{Artifact, Kind};
@@ -14,28 +15,74 @@ use std::io::Write;
 /// The exit status of a child that a signal ended.
 const BY_SIGNAL: u32 = 256;
 
+/// The exit status of a test that is false.
+const FALSE: u32 = 1;
+
 /// The most bytes of a cache that can be read.
 const LARGEST_CACHE: usize = 4_194_304;
 
-/// Returns what may be wrong with an answer that isn't "yes". A compiler has a conftest, and the
-/// program that it made has none.
-fn doubt_of(is_compiler: bool, status: u32, diagnostics: &[u8]) -> Option<&'static [u8]> {
+/// What a child is.
+#[derive(Clone, Copy)]
+enum Kind {
+    /// A compiler, which has a conftest.
+    Compiler,
+    /// `sh`, which looks for a program.
+    Search,
+    /// A program that a compiler made.
+    Program,
+}
+
+/// Returns what the child of an entry of a log is.
+fn kind_of(entry: &Entry) -> Kind {
+    if conftest_in(entry).is_some() {
+        Kind::Compiler
+    } else if is_search(entry) {
+        Kind::Search
+    } else {
+        Kind::Program
+    }
+}
+
+/// Returns what may be wrong with the "no" of a compiler.
+fn compiler_doubt(status: u32, diagnostics: &[u8]) -> Option<&'static [u8]> {
+    if status == BY_SIGNAL || names_signal(diagnostics) {
+        return Some(b"in which a signal ended a compiler".as_slice());
+    }
+    if names_refusal(diagnostics) {
+        return Some(b"in which a compiler may not open a file".as_slice());
+    }
+    None
+}
+
+/// Returns what may be wrong with the "no" of `sh`. Its test is true or false, and any other status
+/// is a failure of `sh` itself.
+fn search_doubt(status: u32) -> Option<&'static [u8]> {
+    match status {
+        FALSE => None,
+        BY_SIGNAL => Some(b"in which a signal ended sh".as_slice()),
+        _ => Some(b"in which sh failed".as_slice()),
+    }
+}
+
+/// Returns what may be wrong with an answer that isn't "yes".
+fn doubt_of(kind: Kind, status: u32, diagnostics: &[u8]) -> Option<&'static [u8]> {
     if names_shortage(diagnostics) {
         return Some(b"in which a program found no room".as_slice());
     }
-    if is_compiler && (status == BY_SIGNAL || names_signal(diagnostics)) {
-        return Some(b"in which a signal ended a compiler".as_slice());
+    match kind {
+        Kind::Compiler => compiler_doubt(status, diagnostics),
+        Kind::Search => search_doubt(status),
+        Kind::Program => None,
     }
-    None
 }
 
 /// Returns what may be wrong with an entry of a log, if it is a child that failed.
 fn doubt_in(entry: &Entry) -> Option<&'static [u8]> {
     match entry {
         Entry::Child {
-            job,
             reply: Reply::Answer { status, text },
-        } if *status != 0 => doubt_of(job.file.is_some(), *status, text.as_slice()),
+            ..
+        } if *status != 0 => doubt_of(kind_of(entry), *status, text.as_slice()),
         _ => None,
     }
 }
@@ -75,8 +122,9 @@ fn put_doubt<E: Write>(
 }
 
 /// Says of the completed run with this log, if it is asked, that a child failed because there was
-/// no room for a process, a file, what it opened or its memory, or that a compiler failed because a
-/// signal ended it, if there is such a child: then the "no" of its check may be wrong. The first is
+/// no room for a process, its arguments, a file, what it opened or its memory; that a compiler
+/// failed because a signal ended it or because it may not open a file; or that `sh` failed, which
+/// looks for a program. If there is such a child, the "no" of its check may be wrong. The first is
 /// named. If the run has a cache, its name is `cache`, and otherwise that is empty (own).
 pub fn explain_doubts<E: Write>(
     alloc: Global,

@@ -335,7 +335,7 @@ fn failure_words(
 }
 
 /// Returns whether an entry of a log is a command that looks for a program.
-fn is_search(entry: &Entry) -> bool {
+pub(crate) fn is_search(entry: &Entry) -> bool {
     match words_in(entry) {
         Some([_, _, test, ..]) => test.as_slice() == SEARCH,
         _ => false,

@@ -1,4 +1,4 @@
-//! What programs say that found no room, or that a signal ended.
+//! What programs say that found no room, that may not open a file, or that a signal ended.
 
 ghost use Rattle.std.specs.Prelude.{◌≡◌, map};
 ghost use Rattle.std.specs.List.{list_any};
@@ -6,10 +6,11 @@ ghost use Rattle.cmd_explain.specs.Shortages as specs;
 
 use bstr::ByteSlice;
 
-/// What a program says that finds no room for a process, for a file, for what it opens or for its
-/// memory.
-const SHORTAGES: [&[u8]; 9] = [
+/// What a program says that finds no room for a process, for its arguments, for a file, for what it
+/// opens or for its memory.
+const SHORTAGES: [&[u8]; 10] = [
     b"Resource temporarily unavailable",
+    b"Argument list too long",
     b"No space left on device",
     b"Disk quota exceeded",
     b"File too large",
@@ -27,6 +28,9 @@ const SIGNALS: [&[u8]; 3] = [
     b"unable to execute command: ",
 ];
 
+/// What a program says that may not open a file.
+const REFUSAL: &[u8] = b"Permission denied";
+
 /// Returns what a program says that finds no room.
 #[tactic(auto, unfolding(crate::specs::Shortages::shortages))]
 fn shortages() -> &'static [&'static [u8]]
@@ -41,6 +45,14 @@ fn signals() -> &'static [&'static [u8]]
     ensures { map (λ word. word.now) result.now ≡ specs.signals }
 {
     &SIGNALS
+}
+
+/// Returns what a program says that may not open a file.
+#[tactic(auto, unfolding(crate::specs::Shortages::refusal))]
+fn refusal() -> &'static [u8]
+    ensures { result.now ≡ specs.refusal }
+{
+    REFUSAL
 }
 
 /// Returns whether the words are a part of the text.
@@ -70,4 +82,11 @@ pub(crate) fn names_signal(diagnostics: &[u8]) -> bool
     ensures { result ≡ specs.has_one specs.signals diagnostics.now }
 {
     has_one(signals(), diagnostics)
+}
+
+/// Returns whether the diagnostics say that a file may not be opened.
+pub(crate) fn names_refusal(diagnostics: &[u8]) -> bool
+    ensures { result ≡ specs.is_part specs.refusal diagnostics.now }
+{
+    is_part(refusal(), diagnostics)
 }
