@@ -23,7 +23,7 @@ const LARGEST_CACHE: usize = 4_194_304;
 
 /// What a child is.
 #[derive(Clone, Copy)]
-enum Kind {
+enum ChildKind {
     /// A compiler, which has a conftest.
     Compiler,
     /// `sh`, which looks for a program.
@@ -33,13 +33,13 @@ enum Kind {
 }
 
 /// Returns what the child of an entry of a log is.
-fn kind_of(entry: &Entry) -> Kind {
+fn kind_of(entry: &Entry) -> ChildKind {
     if conftest_in(entry).is_some() {
-        Kind::Compiler
+        ChildKind::Compiler
     } else if is_search(entry) {
-        Kind::Search
+        ChildKind::Search
     } else {
-        Kind::Program
+        ChildKind::Program
     }
 }
 
@@ -65,14 +65,14 @@ fn search_doubt(status: u32) -> Option<&'static [u8]> {
 }
 
 /// Returns what may be wrong with an answer that isn't "yes".
-fn doubt_of(kind: Kind, status: u32, diagnostics: &[u8]) -> Option<&'static [u8]> {
+fn doubt_of(kind: ChildKind, status: u32, diagnostics: &[u8]) -> Option<&'static [u8]> {
     if names_shortage(diagnostics) {
         return Some(b"in which a program found no room".as_slice());
     }
     match kind {
-        Kind::Compiler => compiler_doubt(status, diagnostics),
-        Kind::Search => search_doubt(status),
-        Kind::Program => None,
+        ChildKind::Compiler => compiler_doubt(status, diagnostics),
+        ChildKind::Search => search_doubt(status),
+        ChildKind::Program => None,
     }
 }
 
