@@ -63,6 +63,9 @@ stranger() {
 stranger 022 777 755 644 750
 stranger 077 777 700 600 700
 stranger 022 666 644 644 750
+# A shared tree of mode 0664 becomes 0644 under the mask 022, and stays 0664 under the mask 002.
+stranger 022 664 644 644 750
+stranger 002 664 664 664 750
 # The owner of the new file can read and write it, whatever the old one was.
 stranger 022 000 600 600 750
 
