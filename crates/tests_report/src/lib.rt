@@ -32,6 +32,8 @@ mod of_lint_text;
 #[cfg(test)]
 mod of_lint_warnings;
 #[cfg(test)]
+mod of_patient_writer;
+#[cfg(test)]
 mod of_port_calls;
 #[cfg(test)]
 mod of_port_messages;
