@@ -357,8 +357,9 @@ def command_lists():
     yield "crates/cmd_help/src/texts.rt", {*re.findall(r'\(b"(\w+)", [A-Z]+\)', texts)}
     yield "crates/run_words/src/running.rt", literals(running.partition("const COMMANDS")[2].partition(";\n")[0].partition("=")[2])
     yield "share/acrun.1", {*re.findall(r"(?m)^\.TP\n\.BR? ([a-z]+)", page)}
-    yield "the commands of acrun.bash", {*re.findall(r"\b(?<!-)[a-z]+", re.search(r"words='(configure [^']*)'", bash)[1])}
-    yield "the help of acrun.bash", {*re.search(r"help\) .* -W '([^']*)'", bash)[1].split()}
+    first, later = re.search(r"words=\((\w+)\)", bash)[1], re.search(r"words\+=\(([a-z ]*) --", bash)[1]
+    yield "the commands of acrun.bash", {first, *later.split()}
+    yield "the help of acrun.bash", {*re.search(r'help\) _acrun_offer "\$word" (.*) ;;', bash)[1].split()}
     first, later = re.search(r"options=\((\w+)\)", zsh)[1], re.search(r"options\+=\(([a-z ]*) --", zsh)[1]
     yield "the commands of _acrun", {first, *later.split()}
     yield "the help of _acrun", {*re.search(r"help\) compadd (.*) ;;", zsh)[1].split()}

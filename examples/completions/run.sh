@@ -1,10 +1,11 @@
 #!/bin/sh
-# Asks each shell that is there for the completions of words, and looks at what it offers.
+# Asks each shell that is there for the completions of words, and looks at what it offers. terminal.py then tries names of strangers.
 #   run.sh PROGRAM
 set -u
+here=$(realpath "$(dirname "$0")")
 acrun=$(realpath "$1") || exit 2
-share=$(realpath "$(dirname "$0")/../../share/completions")
-tally=$(realpath "$(dirname "$0")/../tally")
+share=$(realpath "$here/../../share/completions")
+tally=$(realpath "$here/../tally")
 folder=$(mktemp -d) || exit 2
 trap 'rm -rf "$folder"' EXIT
 mkdir "$folder/bin"
@@ -19,7 +20,7 @@ wrong=0 rows=0
 of_bash() {
     bash -c '
         . "$0/acrun.bash"
-        compopt() { :; }
+        compopt() { [[ $* != *default* ]] || compgen -f -- "${COMP_WORDS[COMP_CWORD]#=}"; }
         COMP_LINE=$*
         COMP_WORDS=("$@")
         COMP_CWORD=$((${#COMP_WORDS[@]} - 1))
@@ -95,4 +96,5 @@ row sys/stat.h -- acrun why sys
 row why -- acrun help w
 
 [ "$wrong" = 0 ] && echo "completions: $rows rows as they should be"
+python3 "$here/terminal.py" "$acrun" || wrong=1
 exit $wrong

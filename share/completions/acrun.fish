@@ -26,7 +26,15 @@ function __acrun_package
         string match -q -- '--srcdir=*' $word; and set srcdir (string replace -- --srcdir= '' $word)
     end
     test -f $srcdir/configure.ac; or return
-    acrun configure --srcdir=$srcdir --help 2>/dev/null | sed -n -e 's/^ *\(--[A-Za-z0-9][-A-Za-z0-9_.+]*=\{0,1\}\).*/\1/p' -e 's/^  \([A-Za-z_][A-Za-z0-9_]*\)  .*/\1=/p'
+    acrun configure --srcdir=$srcdir --help 2>/dev/null | LC_ALL=C sed -n -e 's/^ *\(--[A-Za-z0-9][-A-Za-z0-9_.+]*=\{0,1\}\).*/\1/p' -e 's/^  \([A-Za-z_][A-Za-z0-9_]*\)  .*/\1=/p'
+end
+
+# The outputs that config.status names, and what config.log has checks for. A name that a shell would read as anything else is left out.
+function __acrun_outputs
+    test -f config.status; and LC_ALL=C sed -n 's!^\(file\|header\) \([A-Za-z0-9_.+/][A-Za-z0-9_.+/-]*\) .*!\2!p' config.status
+end
+function __acrun_checks
+    test -f config.log; and LC_ALL=C sed -n 's!.*checking for \([A-Za-z0-9_.+/][A-Za-z0-9_.+/-]*\)\.\.\..*!\1!p' config.log
 end
 
 complete -c acrun -f
@@ -53,11 +61,11 @@ complete -c acrun -n '__acrun_uses configure' -s h -l help -d 'The options of th
 complete -c acrun -n '__acrun_uses configure' -s V -l version -d 'The version of the package'
 complete -c acrun -n '__acrun_uses configure' -a 'CC= CFLAGS= CPPFLAGS= LDFLAGS= LIBS= (__acrun_package)'
 complete -c acrun -n '__acrun_uses status' -l recheck -d 'Run configure.ac again'
-complete -c acrun -n '__acrun_uses status' -a "(test -f config.status; and sed -n 's/^\(file\|header\) \([^ ]*\).*/\2/p' config.status)"
+complete -c acrun -n '__acrun_uses status' -a '(__acrun_outputs)'
 complete -c acrun -n '__acrun_uses lint' -l json -d 'Print one object a line'
 complete -c acrun -n '__acrun_uses lint' -F
 complete -c acrun -n '__acrun_uses port' -l idioms -d 'Write idioms too that differ'
 complete -c acrun -n '__acrun_uses port' -l package -x -d 'NAME,VERSION for AC_INIT'
 complete -c acrun -n '__acrun_uses port' -F
-complete -c acrun -n '__acrun_uses why' -F -a "(test -f config.log; and sed -n 's/.*checking for \([^ ]*\)\.\.\..*/\1/p' config.log)"
+complete -c acrun -n '__acrun_uses why' -F -a '(__acrun_checks)'
 complete -c acrun -n '__acrun_uses help' -a 'configure status lint port why standin help'
