@@ -1,8 +1,9 @@
 #!/bin/sh
-# Gives words to share/configure, and looks at the words with which it starts acrun.
+# Gives words to share/configure, and looks at the words with which it starts acrun. signals.py then sends it signals.
 #   run.sh [SHELL]     the shell that runs it; by default each of sh, dash and bash that is there
 set -u
-script=$(dirname "$0")/../../share/configure
+here=$(realpath "$(dirname "$0")") || exit 2
+script=$here/../../share/configure
 folder=$(mktemp -d) || exit 2
 trap 'rm -rf "$folder"' EXIT
 mkdir "$folder/source" "$folder/source/build"
@@ -243,4 +244,9 @@ for shell in ${1-sh dash bash}; do
 done
 if command -v shellcheck > /dev/null; then shellcheck ./configure || wrong=1; fi
 [ "$wrong" = 0 ] && echo "wrapper: $rows rows as they should be"
+# sh is one of these, if both are there.
+for shell in ${1-dash bash}; do
+    command -v "$shell" > /dev/null || shell=sh
+    python3 "$here/signals.py" "$shell" ./configure || wrong=1
+done
 exit $wrong
