@@ -305,7 +305,7 @@ record cached << 'END'
 acrun-record 2
 srcdir .
 arg --cache-file
-arg ../kept.cache
+arg ../cached/kept.cache
 end
 END
 record cached1 << 'END'
@@ -313,7 +313,7 @@ acrun-record 1
 srcdir .
 end
 END
-printf 'ac_cv_func_puts=no\n' > kept.cache
+printf 'ac_cv_func_puts=no\n' > cached/kept.cache
 printf 'ac_cv_func_puts=yes\nac_cv_broken=\047\nx\n' > cached1/config.cache
 mkdir none && printf 'config_files=""\n' > none/config.status
 # No config.status: the outputs are those of the log, or of the other directory.
@@ -347,6 +347,58 @@ printf '/* open\n#define A 1\n' > hard1/open.h
 printf '/* open */ #define A 1\n' > hard2/open.h
 mkdir hard1/directory hard2/directory
 mkfifo hard1/pipe hard2/pipe
+# Characters that drive a terminal, or turn or hide text, beside their neighbours, and bytes that are no character. The quotes are of C.
+marks='\302\200 \302\233 \302\237 \330\234 \342\200\213 \342\200\217 \342\200\250 \342\200\256 \342\201\246 \342\201\251 \357\273\277 \363\240\200\200 \363\240\201\277'
+plain='\302\240 \330\233 \342\200\212 \342\200\220 \342\200\257 \342\201\245 \342\201\252 \357\273\276 \363\240\202\200 \360\237\230\200 \303\233'
+broken='\233 \237[31m \344x \300\233 \340\200\233 \355\240\200 \364\220\200\200 \342\200 \342\200\342\200\256'
+mkdir marks1 marks2
+for each in marks1 marks2; do
+    for name in marks plain broken; do
+        eval "text=\$$name"
+        [ "$each" = marks1 ] || text="another $text"
+        # shellcheck disable=SC2059
+        printf "#define %s \"$text\"\n" "$name" >> $each/a.h
+        # shellcheck disable=SC2059
+        printf "$name = $text\nline $text\n" >> $each/lines
+        # shellcheck disable=SC2059
+        printf "my_cv_$name='$text'\n" >> $each/config.cache
+    done
+    printf '#define HAVE_X__31M_H %s\n' "$each" >> $each/a.h
+    printf 'acrun-record 2\nsrcdir .\narg -C\nheader a.h t\nfile lines t\n' > $each/config.status
+    printf 'checking for x\033[31m.h... \nyes\n' > $each/config.log
+done
+turned=$(printf 'a\342\200\256b\302\233c\233d\033')
+echo 1 > "marks1/$turned"
+echo 2 > "marks2/$turned"
+printf 'file %s t\nfile only%s t\nend\n' "$turned" "$turned" >> marks1/config.status
+printf 'file %s t\nend\n' "$turned" >> marks2/config.status
+cp -R marks1 "marks$turned"
+# Names that lead out of both directories, and some that only look so.
+mkdir out1 out2 outside out1/sub out2/sub
+echo 'key = secret' > outside/file
+echo 'key = other' > secret
+for each in out1 out2; do
+    printf 'config_files=" ../secret ../out1/Makefile sub/../Makefile leads stays other within/file /etc/passwd"\n' > $each/config.status
+    echo "a = $each" > $each/Makefile
+    mkdir $each/within
+    for name in leads stays other within/file; do echo "key = $each" > "$each/$name"; done
+done
+rm -r out1/leads out1/stays out1/other out1/within
+ln -s ../outside/file out1/leads
+ln -s Makefile out1/stays
+ln -s ../out2/Makefile out1/other
+ln -s ../outside out1/within
+printf '## Cache variables. ##\n\nmy_cv_secret=1\n' > secret.log
+ln -s ../secret.log out1/config.log
+printf 'my_cv_secret=2\n' > out1/config.cache
+printf 'my_cv_secret=3\n' > out2/config.cache
+mkdir out3 out4 source
+printf 'acrun-record 2\nsrcdir ../source\narg --cache-file=/etc/passwd\nheader config.h c\nend\n' > out3/config.status
+ln -s ../out3/config.status out4/config.status
+echo '#define LIMIT 3' > out3/config.h
+echo '#define LIMIT 4' > out4/config.h
+printf '\nAC_DEFINE([LIMIT], [3])\n' > source/configure.ac
+mkdir out5 && ln -s ../secret out5/config.status
 cat > known << 'END'
 # These are known:
 Makefile: variable INSTALL: *
@@ -358,7 +410,7 @@ config.h: comments: 3 lines gone, 1 new  (known: a compiler reads no comment)
 END
 
 run() {
-    { printf '$ acrun-compare'; printf ' [%s]' "$@"; echo; } | tr '\033' '?'
+    { printf '$ acrun-compare'; printf ' [%s]' "$@"; echo; } | LC_ALL=C tr '\033\200-\377' '[?*]'
     $shell "$script" "$@" 2> ../errors
     status=$?
     sed 's/^/2> /' ../errors
@@ -400,6 +452,18 @@ lines'
     run hard1 hard2
     run -q hard1 hard2 a.h missing
     run hard1 hard2 "missing\\t	$(printf '\033')"
+    run marks1 marks2
+    run marks2 "marks$turned" a.h
+    run marks1 marks2 "$turned"
+    run marks1 marks2 "missing$turned"
+    run out1 out2
+    run -q out1 out2
+    run out1 out2 leads ../secret within/file
+    run out3 out4
+    run -s source out3 out4
+    run -s ./source/ out4 out3
+    run out5 out5/../none
+    run empty out5
     run
     run old
     run -z old new
