@@ -1,12 +1,15 @@
 #!/usr/bin/env python3
 """Prints what a run of many checks costs beside the compiler calls alone, and beside Autoconf's configure.
 
-    bench/checks.py [--checks N] [--rounds R] [--windows 1,4] [--program PATH] [--compiler CC] [--autoconf PROGRAM]
+    bench/checks.py [--checks N] [--rounds R] [--windows 1,4] [--alone A] [--program PATH] [--compiler CC] [--autoconf PROGRAM]
 
 It writes a configure.ac with N checks, and records the compiler calls of a run, with their conftests. Then it runs in turn, R times:
 those calls, by a small C program (bench/calls.c) that does nothing else; acrun; and the configure that Autoconf makes of the same
 file, if there is an Autoconf. So each ratio is one of times that were taken side by side. The same is done with a compiler that
 does nothing: what is left is the own cost. Last, it runs acrun with all answers in a cache, and `acrun status`.
+
+With --alone, it only compares acrun with each window with the calls A at a time, in an order that is shuffled anew in each round. As
+--alone 4 --windows 4,6,8,16 that says which window keeps four processors busy.
 
 Each figure is the median of the rounds. The compiler is a path or a name without flags. It needs Linux, for processor times.
 """
@@ -14,6 +17,7 @@ import argparse
 import filecmp
 import os
 import pathlib
+import random
 import shlex
 import shutil
 import statistics
@@ -41,6 +45,7 @@ def arguments():
     parser.add_argument("--checks", type=int, default=300)
     parser.add_argument("--rounds", type=int, default=5)
     parser.add_argument("--windows", default="1,4")
+    parser.add_argument("--alone", type=int)
     parser.add_argument("--program", type=pathlib.Path, default=BUILT)
     parser.add_argument("--compiler", default=os.environ.get("CC", "gcc"))
     parser.add_argument("--autoconf", default="autoconf")
@@ -153,6 +158,21 @@ def compare_calls(room, given, package, driver, listed, count, succeeded, config
         print(f"  and {middle(busy):.3f} of its processor time")
 
 
+def compare_windows(room, given, package, driver, listed, count, succeeded):
+    """Runs the calls A at a time, and acrun with each window, in shuffled turns."""
+    bare, ours = [], {window: [] for window in given.windows}
+    for _ in range(given.rounds):
+        turns = [None, *given.windows]
+        random.shuffle(turns)
+        for window in turns:
+            if window is None:
+                bare.append(run_calls(room, driver, given.alone, listed, succeeded))
+            else:
+                ours[window].append(run_acrun(room, given, package, window, given.compiler))
+    for window, runs in ours.items():
+        print_pair(f"{count} calls of {given.compiler}, alone {given.alone} at once, acrun {window}", count, bare, runs)
+
+
 def compare_nothing(room, given, package, driver, listed, count):
     """Does the same with a compiler that does nothing."""
     source = room / "nothing.c"
@@ -196,9 +216,12 @@ def main():
         write_package(package, given.checks)
         driver = compiled(given.compiler, HERE / "calls.c", room / "calls_program")
         listed, count, succeeded = recorded_calls(room, given.program, package, given.compiler)
-        configure = made_configure(room, package, given.autoconf)
         load = " ".join(shlex.split(pathlib.Path("/proc/loadavg").read_text())[:3])
         print(f"{given.checks} checks, {given.rounds} rounds, {os.cpu_count()} processors, load {load}")
+        if given.alone:
+            compare_windows(room, given, package, driver, listed, count, succeeded)
+            return
+        configure = made_configure(room, package, given.autoconf)
         show_warm(room, given, package, given.checks)
         compare_nothing(room, given, package, driver, listed, count)
         compare_calls(room, given, package, driver, listed, count, succeeded, configure)
