@@ -124,7 +124,7 @@ ln -s nowhere build/conftest.o
     makes acrun-1.tmp sub/new/acrun-1.tmp config.log
     echo 'unlink("conftest.o")'
     echo 'unlink("config.log")'
-    echo 'fchmod([0-9], 0751)'
+    echo 'fchmod([0-9], 0750)'
     echo 'fchmod([0-9], 0640)'
     echo 'fchmod([0-9], 0644)'
     echo 'mkdir("sub/new", 0777)'
@@ -148,7 +148,7 @@ traced build third configure --srcdir=../source -C
     opens config.status config.h
     templates
     makes acrun-1.tmp sub/new/acrun-1.tmp
-    echo 'fchmod([0-9], 0751)'
+    echo 'fchmod([0-9], 0750)'
     echo 'fchmod([0-9], 0644)'
     echo 'mkdir("sub/new", 0777)'
     echo 'rename("acrun-1.tmp", "Makefile")'

@@ -49,7 +49,7 @@ row 'a signal ends a part of the compiler' "status 0 acrun: $ended" CC=./compile
 compiler 'echo "cc1: fatal error: conftest1.c: Permission denied" >&2; exit 1'
 row 'the compiler may not read' 'status 0 acrun: this run may have taken a wrong "no" of `checking for puts`, in which a compiler may not open a file: run it again' CC=./compiler
 # With a cache its name is said. It isn't said of a child that succeeded, nor of what a program that failed has, nor if nobody asks.
-row 'with a cache' 'status 0 acrun: config.cache may hold a wrong "no" of `checking for puts`, in which a signal ended a compiler: remove it, and run again' -C CC=./compiler
+row 'with a cache' 'status 0 acrun: config.cache may hold a wrong "no" of `checking for puts`, in which a compiler may not open a file: remove it, and run again' -C CC=./compiler
 rm -f config.cache
 asked='' row 'nobody asks' 'status 0 ' CC=./compiler
 compiler "echo 'cc: No space left on device' >&2; exec $cc \"\$@\""
