@@ -1,117 +1,93 @@
 //! cfglog: what is printed, and the text of a log.
 
+use crate::of_deftable::text_of;
 use cfglog::{log_text, messages_text};
 use conftest::{Job, Words};
 use crew_trait::{Entry, Log, Reply};
 use deftable::{Bytes, Note, Notes, Stream};
-use std::alloc::{AllocError, Global};
-use std::test::Fail;
-use test_rows::{Page, ReplyWord, RowCall, cut, reply_word, try_rows};
+use std::alloc::AllocError;
+use test_rows::{Page, ReplyWord, RowCall, cut, reply_word};
 
-/// `log` and entries with `;` between them: the text of their log. `o TEXT` and `e TEXT` are pieces
-/// for standard output and for standard error. A child is a reply, as `test_rows` reads it, a
-/// blank, the words, and after bars the diagnostics and the program.
-const LOGS: &[u8] = b"
-log o checking for sys/stat.h... ;0 cc -c conftest1.c||int x^J;o yes^J => checking for sys/stat.h... ^J$ cc -c conftest1.c^Jstatus 0^Jyes^J
-log 1 cc -c conftest.c|a.h: none|int x^J  y => $ cc -c conftest.c^Ja.h: none^Jstatus 1^Jfailed program was:^J| int x^J|   y^J
-log 1 cc -c conftest.c|a.h: none^J^J|^Jint x^J^J^J => $ cc -c conftest.c^Ja.h: none^J^Jstatus 1^Jfailed program was:^J| ^J| int x^J| ^J| ^J
-log 1 ./conftest => $ ./conftest^Jstatus 1^J
-log S cc -c conftest1.c|x|int x;E cc -c conftest2.c|x|int y => $ cc -c conftest1.c^Jstart refused^J$ cc -c conftest2.c^Jwait refused^J
-log 0 sh -c a b;0 sh -c test|'$1' => $ sh -c a b^Jstatus 0^J$ sh -c test^J'$1'^Jstatus 0^J
-log 0 cc  -O$x it's => $ cc '' '-O$x' 'it'\\''s'^Jstatus 0^J
-log e configure: error: no^J => configure: error: no^J
-log o a;e b^J;o c => a^Jb^Jc^J
-log o  => 
-";
-
-/// `out`, `err` and `quiet` and the pieces: what is printed to standard output, to standard error,
-/// and to each of them if the run is quiet.
-const MESSAGES: &[u8] = b"
-out o checking... ;o yes^J;e configure: WARNING: w^J;o a^J => checking... yes^Ja^J
-err o checking... ;o yes^J;e configure: WARNING: w^J;o a^J => configure: WARNING: w^J
-quiet o checking... ;o yes^J;e configure: WARNING: w^J;o a^J => |configure: WARNING: w^J
-out e a => 
-err o a => 
-quiet e a;e b => |ab
-out e configure: WARNING: w^J => 
-err e configure: WARNING: w^J => configure: WARNING: w^J
-quiet e configure: WARNING: w^J => |configure: WARNING: w^J
-";
-
-fn note_of(alloc: Global, kind: &[u8], text: &[u8]) -> Result<Note, AllocError> {
-    let text = Bytes::from_slice(alloc, text)?;
+fn note_of(page: &mut Page, kind: &[u8], text: &[u8]) -> Note {
     let stream = if kind == b"e".as_slice() {
         Stream::Err
     } else {
         Stream::Out
     };
-    Ok(Note { stream, text })
+    let text = text_of(page, text);
+    Note { stream, text }
 }
 
-fn words_of(alloc: Global, text: &[u8]) -> Result<Words, AllocError> {
-    let mut words = Words::new(alloc);
+fn words_of(page: &mut Page, text: &[u8]) -> Words {
+    let mut words = Words::new(page.alloc());
     for word in text.split(|byte| *byte == b' ') {
-        words.push(word)?;
+        page.given(words.push(word));
     }
-    Ok(words)
+    words
 }
 
-fn file_of(alloc: Global, program: &[u8]) -> Result<Option<(Bytes, Bytes)>, AllocError> {
+fn file_of(page: &mut Page, program: &[u8]) -> Option<(Bytes, Bytes)> {
     if program.is_empty() {
-        return Ok(None);
+        return None;
     }
-    let name = Bytes::from_slice(alloc, b"conftest.c")?;
-    let text = Bytes::from_slice(alloc, program)?;
-    Ok(Some((name, text)))
+    let name = text_of(page, b"conftest.c");
+    let text = text_of(page, program);
+    Some((name, text))
 }
 
-fn reply_of(alloc: Global, word: &[u8], diagnostics: &[u8]) -> Result<Reply, AllocError> {
+/// Returns the reply of a word. If it is none, the page is cut.
+fn reply_of(page: &mut Page, word: &[u8], diagnostics: &[u8]) -> Reply {
     match reply_word(word) {
-        Some(ReplyWord::StartRefused) => Ok(Reply::StartRefused),
-        Some(ReplyWord::EndRefused) => Ok(Reply::EndRefused),
-        Some(ReplyWord::Answer { status, .. }) => {
-            let text = Bytes::from_slice(alloc, diagnostics)?;
-            Ok(Reply::Answer { status, text })
+        Some(ReplyWord::Answer { status, .. }) => Reply::Answer {
+            status,
+            text: text_of(page, diagnostics),
+        },
+        Some(ReplyWord::StartRefused) => Reply::StartRefused,
+        Some(ReplyWord::EndRefused) => Reply::EndRefused,
+        None => {
+            page.cut();
+            Reply::EndRefused
         }
-        None => Err(AllocError),
     }
 }
 
-fn child_of(alloc: Global, reply: &[u8], text: &[u8]) -> Result<Entry, AllocError> {
+fn child_of(page: &mut Page, reply: &[u8], text: &[u8]) -> Entry {
     let (words, after) = cut(text, b"|");
     let (diagnostics, program) = cut(after, b"|");
-    let file = file_of(alloc, program)?;
-    let reply = reply_of(alloc, reply, diagnostics)?;
-    let words = words_of(alloc, words)?;
-    Ok(Entry::Child {
+    let file = file_of(page, program);
+    let reply = reply_of(page, reply, diagnostics);
+    let words = words_of(page, words);
+    Entry::Child {
         job: Job { words, file },
         reply,
-    })
+    }
 }
 
-fn entry_of(alloc: Global, text: &[u8]) -> Result<Entry, AllocError> {
+fn entry_of(page: &mut Page, text: &[u8]) -> Entry {
     let (kind, rest) = cut(text, b" ");
     match kind {
-        [b'o'] | [b'e'] => Ok(Entry::Said(note_of(alloc, kind, rest)?)),
-        _ => child_of(alloc, kind, rest),
+        [b'o'] | [b'e'] => Entry::Said(note_of(page, kind, rest)),
+        _ => child_of(page, kind, rest),
     }
 }
 
-fn log_of(alloc: Global, text: &[u8]) -> Result<Log, AllocError> {
-    let mut log = Log::new(alloc);
+fn log_of(page: &mut Page, text: &[u8]) -> Log {
+    let mut log = Log::new(page.alloc());
     for entry in text.split(|byte| *byte == b';') {
-        log.push(entry_of(alloc, entry)?)?;
+        let entry = entry_of(page, entry);
+        page.given(log.push(entry));
     }
-    Ok(log)
+    log
 }
 
-fn notes_of(alloc: Global, text: &[u8]) -> Result<Notes, AllocError> {
-    let mut notes = Notes::new(alloc);
+fn notes_of(page: &mut Page, text: &[u8]) -> Notes {
+    let mut notes = Notes::new(page.alloc());
     for piece in text.split(|byte| *byte == b';') {
         let (kind, rest) = cut(piece, b" ");
-        notes.push(note_of(alloc, kind, rest)?)?;
+        let note = note_of(page, kind, rest);
+        page.given(notes.push(note));
     }
-    Ok(notes)
+    notes
 }
 
 fn put_made(page: &mut Page, made: Result<Vec<u8>, AllocError>) {
@@ -121,11 +97,9 @@ fn put_made(page: &mut Page, made: Result<Vec<u8>, AllocError>) {
 }
 
 fn put_log(page: &mut Page, text: &[u8]) {
-    let log = log_of(page.alloc(), text);
-    if let Some(log) = page.given(log) {
-        let made = log_text(page.alloc(), log.as_slice());
-        put_made(page, made);
-    }
+    let log = log_of(page, text);
+    let made = log_text(page.alloc(), log.as_slice());
+    put_made(page, made);
 }
 
 fn put_stream(page: &mut Page, notes: &[Note], stream: Stream, quiet: bool) {
@@ -154,24 +128,12 @@ impl RowCall for Logs {
     }
 }
 
-struct Messages;
+pub struct Messages;
 
 impl RowCall for Messages {
     fn put(&self, page: &mut Page, given: &[u8]) {
         let (call, text) = cut(given, b" ");
-        let notes = notes_of(page.alloc(), text);
-        if let Some(notes) = page.given(notes) {
-            put_messages(page, call, notes.as_slice());
-        }
+        let notes = notes_of(page, text);
+        put_messages(page, call, notes.as_slice());
     }
-}
-
-#[test]
-fn texts_of_logs(rt: HostRuntime) -> Result<(), Fail> {
-    try_rows(rt.alloc(), &Logs, LOGS)
-}
-
-#[test]
-fn texts_of_messages(rt: HostRuntime) -> Result<(), Fail> {
-    try_rows(rt.alloc(), &Messages, MESSAGES)
 }

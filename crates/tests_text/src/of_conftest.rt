@@ -6,39 +6,7 @@ use conftest::{
 };
 use conftest_source::{default_includes, function_source, header_source, program_source};
 use std::alloc::AllocError;
-use std::test::Fail;
-use test_rows::{Page, RowCall, cut, try_rows};
-
-/// `words` and variables: the commands that compile, link and preprocess, or the number of what is
-/// wrong. `twelfth` and variables: those of job 12. `other`, a value of LIBS and variables: the
-/// command that links with that value. `run` and one digit: the command of that job. `path` and a
-/// file: the command that looks for it. `list` and two words.
-const COMMANDS: &[u8] = b"
-words CC=cc;CFLAGS=-O;LIBS=-lm => cc|-c|-O|conftest.c|^Jcc|-o|conftest|-O|conftest.c|-lm|^Jcc|-E|conftest.c|
-words CC=cc;CPP=cpp => cc|-c|conftest.c|^Jcc|-o|conftest|conftest.c|^Jcpp|conftest.c|
-// A value is parted at blanks, and quotes in it are not read.
-words CC= ccache\tcc^J;CPP= \t;CFLAGS=-O -g;CPPFLAGS='-D A';LDFLAGS=-L. -s;LIBS=-la -lb => ccache|cc|-c|-O|-g|'-D|A'|conftest.c|^Jccache|cc|-o|conftest|-O|-g|'-D|A'|-L.|-s|conftest.c|-la|-lb|^Jccache|cc|-E|'-D|A'|conftest.c|
-// Without a compiler there is no such job, but CPP preprocesses alone.
-words CFLAGS=-O => 1^J1^J1
-words CC= ^J => 1^J1^J1
-words CC= ^J;CPP=cpp => 1^J1^Jcpp|conftest.c|
-
-twelfth CC=cc => cc|-c|conftest12.c|^Jcc|-o|conftest12|conftest12.c|^Jcc|-E|conftest12.c|
-twelfth CC= ccache\tcc^J;CPP= \t;CFLAGS=-O -g;CPPFLAGS='-D A';LDFLAGS=-L. -s;LIBS=-la -lb => ccache|cc|-c|-O|-g|'-D|A'|conftest12.c|^Jccache|cc|-o|conftest12|-O|-g|'-D|A'|-L.|-s|conftest12.c|-la|-lb|^Jccache|cc|-E|'-D|A'|conftest12.c|
-
-// Another value of LIBS counts in place of that of the variables, which may have none.
-other -lm  -lz;CC=cc;LDFLAGS=-s;LIBS=-lq => cc|-o|conftest|-s|conftest.c|-lm|-lz|
-other -lm;CC=cc => cc|-o|conftest|conftest.c|-lm|
-other -lm;LIBS=-lq => 1
-
-run 0 => ./conftest|
-run 2 => ./conftest2|
-path /x/p => sh|-c|test -f \"$1\" && test -x \"$1\"|sh|/x/p|
-
-// A word of a vector, one that is pushed after it, and a copy of both; and no words.
-list cc -c => cc|-c|^J
-words CC=cc;CFLAGS=-O;LIBS=-lm;CPP=cpp => cc|-c|-O|conftest.c|^Jcc|-o|conftest|-O|conftest.c|-lm|^Jcpp|conftest.c|
-";
+use test_rows::{Page, RowCall, cut};
 
 /// Puts each word with a bar after it.
 fn put_words(page: &mut Page, words: &Words) {
@@ -143,7 +111,7 @@ fn put_two_words(page: &mut Page, first: &[u8], second: &[u8]) {
     put_words(page, &Words::new(alloc));
 }
 
-struct Commands;
+pub struct Commands;
 
 impl RowCall for Commands {
     fn put(&self, page: &mut Page, given: &[u8]) {
@@ -168,29 +136,6 @@ impl RowCall for Commands {
         }
     }
 }
-
-#[test]
-fn commands_of_jobs(rt: HostRuntime) -> Result<(), Fail> {
-    try_rows(rt.alloc(), &Commands, COMMANDS)
-}
-
-/// `compile` and a source: the job that compiles it with `cc`. `definitions` and some: the job of a
-/// test of a header under them. `source` and the kind of a source, its front, and a name or a body:
-/// that source.
-const SOURCES: &[u8] = b"
-// A source is ended by a newline.
-compile int x;^J => cc|-c|conftest1.c|^Jconftest1.c^J/* confdefs.h */^Jint x;^J
-compile int x; => cc|-c|conftest1.c|^Jconftest1.c^J/* confdefs.h */^Jint x;^J
-compile  => cc|-c|conftest1.c|^Jconftest1.c^J/* confdefs.h */^J^J
-
-// A header test of the first entry of a list, for a source that has given its name and version.
-definitions PACKAGE_NAME=\"demo\";PACKAGE_TARNAME=\"demo\";PACKAGE_VERSION=\"1.0\";PACKAGE_STRING=\"demo 1.0\";PACKAGE_BUGREPORT=\"\";PACKAGE_URL=\"\" => cc|-c|conftest1.c|^Jconftest1.c^J/* confdefs.h */^J#define PACKAGE_NAME \"demo\"^J#define PACKAGE_TARNAME \"demo\"^J#define PACKAGE_VERSION \"1.0\"^J#define PACKAGE_STRING \"demo 1.0\"^J#define PACKAGE_BUGREPORT \"\"^J#define PACKAGE_URL \"\"^J#include <stddef.h>^J#include <stdio.h>^J#include <stdlib.h>^J#include <string.h>^J#include <sys/types.h>^J#include <sys/stat.h>^J
-
-source program,, => ^Jint^Jmain (void)^J{^J^J  ;^J  return 0;^J}^J
-source program,x,y; => x^Jint^Jmain (void)^J{^Jy;^J  ;^J  return 0;^J}^J
-source header,x,a.h => x^J#include <a.h>
-source function,,f => #undef f^Jchar f (void);^Jint^Jmain (void)^J{^Jreturn f ();^J  ;^J  return 0;^J}^J
-";
 
 fn put_header_test(page: &mut Page, definitions: &[u8]) {
     let source = header_source(page.alloc(), default_includes(), b"sys/stat.h");
@@ -224,9 +169,4 @@ impl RowCall for Sources {
             _ => put_source(page, text),
         }
     }
-}
-
-#[test]
-fn sources_of_tests(rt: HostRuntime) -> Result<(), Fail> {
-    try_rows(rt.alloc(), &Sources, SOURCES)
 }

@@ -4,34 +4,7 @@ use deftable::{Bytes, Defs, Name, Note, Notes, Stream, SubstList, Vars, is_shell
 use std::alloc::{AllocError, Global};
 use std::cmp::Ordering;
 use std::hash::{DefaultHasher, Hash, Hasher};
-use std::test::Fail;
-use test_rows::{Page, RowCall, cut, try_rows};
-
-/// `text` and two texts with a comma between them: the length of the first and whether it is empty,
-/// a copy of it, and how the copy compares with the second. `name` and a text: whether it has the
-/// form of a name, and a copy of the name that it becomes.
-const TEXTS: &[u8] = b"
-text a\0\xff,a\0\xff => 3 no [a\0\xff] same
-text a,a\0\xff => 1 no [a] before
-text a,\xff => 1 no [a] before
-text , => 0 yes [] same
-text abcdefghijklmnopqrstuvwxyz0123,abcdefghijklmnopqrstuvwxyz0123 => 30 no [abcdefghijklmnopqrstuvwxyz0123] same
-text abcdefghijklmnopqrstuvwxyz0123,abcdefghijklmnopqrstuvwxyz01234 => 30 no [abcdefghijklmnopqrstuvwxyz0123] before
-text abcdefghijklmnopqrstuvwxyz01234,abcdefghijklmnopqrstuvwxyz01234 => 31 no [abcdefghijklmnopqrstuvwxyz01234] same
-text abcdefghijklmnopqrstuvwxyz01234,b => 31 no [abcdefghijklmnopqrstuvwxyz01234] before
-
-name a => yes [a]
-name _ => yes [_]
-name _0 => yes [_0]
-name ac_cv_header_Stdio_h => yes [ac_cv_header_Stdio_h]
-name HAVE_A_1 => yes [HAVE_A_1]
-name  => no none
-name 0a => no none
-name a-b => no none
-name a  => no none
-name = => no none
-name \xc3\xa9 => no none
-";
+use test_rows::{Page, RowCall, cut};
 
 fn hash_of(text: &Bytes) -> u64 {
     let mut state = DefaultHasher::new();
@@ -93,7 +66,7 @@ fn put_name(page: &mut Page, text: &[u8]) {
     }
 }
 
-struct Texts;
+pub struct Texts;
 
 impl RowCall for Texts {
     fn put(&self, page: &mut Page, given: &[u8]) {
@@ -107,38 +80,6 @@ impl RowCall for Texts {
         put_copy(page, &first, &second);
     }
 }
-
-#[test]
-fn texts_and_names(rt: HostRuntime) -> Result<(), Fail> {
-    try_rows(rt.alloc(), &Texts, TEXTS)
-}
-
-/// A table and steps with semicolons between them, and at its end what the table holds, in order. A
-/// step `NAME=VALUE` sets an entry, `!NAME` takes one away, and `?NAME` puts what the table holds
-/// at that point under the name. `~NAME` puts a variable's value, which is empty if it is unset.
-const TABLES: &[u8] = b"
-vars !CC =>
-vars CC=cc => CC=cc;
-vars CC=cc;LIBS=;CC=gcc => CC=gcc;LIBS=;
-vars CC=cc;LIBS=;CC=gcc;!CC => LIBS=;
-vars CC=cc;LIBS=;CC=gcc;!CC;!CC => LIBS=;
-vars CC=cc;LIBS=;!CC;CC=gcc => LIBS=;CC=gcc;
-vars LIBS=;?CC => none LIBS=;
-// A variable that is set to nothing is set.
-vars CC=cc;LIBS=;CC=gcc;?CC;?LIBS => [gcc] [] CC=gcc;LIBS=;
-vars CC=cc;LIBS=;!CC;?CC => none LIBS=;
-vars CC=cc;~CC;~LIBS => [cc] [] CC=cc;
-
-defs A=1 => A=1;
-defs A=1;B=;A=2 => A=2;B=;
-defs A=1;B=;A=2;?A;?C => [2] none A=2;B=;
-
-// A name is listed once.
-list CC;LIBS;CC;?LIBS;?LIB => yes no CC;LIBS;
-
-// Notes on standard output and on standard error keep their order.
-notes 1first;2second => 1first;2second;
-";
 
 /// Tables, as steps make them.
 #[derive(Drop)]
@@ -252,9 +193,4 @@ impl RowCall for Steps {
         tables.take(page, table, steps);
         tables.put(page);
     }
-}
-
-#[test]
-fn tables_keep_their_order(rt: HostRuntime) -> Result<(), Fail> {
-    try_rows(rt.alloc(), &Steps, TABLES)
 }

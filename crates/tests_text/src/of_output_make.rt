@@ -1,197 +1,195 @@
 //! making: records of runs, and the files and headers that are made of them.
 
+use crate::of_deftable::text_of;
 use deftable::{Bytes, Defs, SubstList, Texts, Vars, is_shell_name};
 use output_make::{add_outputs, find_missing, find_unknown, make_file, make_outputs, record_of};
 use output_put::{Artifact, Artifacts, Kind};
 use status_record::{Output, OutputList, Record};
 use std::alloc::{AllocError, Global};
-use std::test::Fail;
-use test_rows::{Page, RowCall, cut, try_rows};
+use test_rows::{Page, RowCall, cut};
 
-/// After the call, with bars between them: variables with their values, files and headers with
-/// their templates, templates with their texts, and tags. The source's own output variables are V,
-/// CC and srcdir, X is defined as `1`, the arguments are `-C` and `x y`, and the source is in
-/// `../s`.
-///
-/// `record`: the record. `make`: what is made of it. `append`: the same twice, in one list. `file`:
-/// what is made of the first file. `missing`: the file whose template is missing, and the header.
-/// `unknown`: the index of the tag that is no output. `many` alone: how many variables and definitions the record
-/// has of a source with 10,000 of each.
-const MADE: &[u8] = b"
-record V=x;W=y;LIBS=-lm;DEFS=-DX;prefix=/usr|file b t;header h k||h => PACKAGE_NAME[]PACKAGE_TARNAME[]PACKAGE_VERSION[]PACKAGE_STRING[]PACKAGE_BUGREPORT[]PACKAGE_URL[]prefix[/usr]exec_prefix[]bindir[]sbindir[]libexecdir[]libdir[]datarootdir[]datadir[]sysconfdir[]sharedstatedir[]localstatedir[]runstatedir[]includedir[]oldincludedir[]docdir[]infodir[]htmldir[]dvidir[]pdfdir[]psdir[]localedir[]mandir[]LIBS[-lm]DEFS[-DHAVE_CONFIG_H]V[x]CC[]srcdir[];../s[-C][x y];X[1];b[t];h[k]
-record DEFS=-DX;CC=;PACKAGE_URL=u||| => PACKAGE_NAME[]PACKAGE_TARNAME[]PACKAGE_VERSION[]PACKAGE_STRING[]PACKAGE_BUGREPORT[]PACKAGE_URL[u]prefix[]exec_prefix[]bindir[]sbindir[]libexecdir[]libdir[]datarootdir[]datadir[]sysconfdir[]sharedstatedir[]localstatedir[]runstatedir[]includedir[]oldincludedir[]docdir[]infodir[]htmldir[]dvidir[]pdfdir[]psdir[]localedir[]mandir[]LIBS[]V[]CC[]srcdir[];../s[-C][x y];X[1];;
-
-make V=x|file a/b t.in;header c.h d/c.in|t.in @V@-@W@-@CC@-@top_srcdir@^J;d/c.in #undef X^J#undef Y^J => file a/b[x-@W@--../../s^J]header c.h[/* c.h.  Generated from c.in by configure.  */^J#define X 1^J/* #undef Y */^J]
-// A value isn't read again, in a file or in a header.
-make V=@CC@;CC=c|file a t;header h k|t @V@;k #undef X @V@^J@V@ => file a[@CC@]header h[/* h.  Generated from k by configure.  */^J#define X 1^J@V@]
-// The variables of a file.
-make srcdir=x|file a/b t|t @srcdir@ @builddir@ @top_builddir@ => file a/b[../../s/a . ..]
-make |file a/b c/t|c/t @configure_input@ => file a/b[a/b.  Generated from t by configure.]
-// DEFS, without a header and with one.
-make DEFS=-DX|file a t|t @DEFS@ => file a[@DEFS@]
-make DEFS=-DX|file a t;header h k|t @DEFS@;k x => file a[-DHAVE_CONFIG_H]header h[/* h.  Generated from k by configure.  */^Jx]
-// The order, templates of one name, and a missing template.
-make |header h k;file b t;file a t|t x;k y => file b[x]file a[x]header h[/* h.  Generated from k by configure.  */^Jy]
-make |file a t;file b u|t one;t two;u  => file a[one]file b[]
-make |file a t;file b u;file c v;file d t;header h u|v 5;u 1;t 2;u 3;t 4;v 6 => file a[2]file b[1]file c[5]file d[2]header h[/* h.  Generated from u by configure.  */^J1]
-make |file a t;header h k|a x => file a[]header h[/* h.  Generated from k by configure.  */^J]
-make |||a =>
-// Tags.
-make |file a t;file b t;header h k|t x;k y|h;b;b => file b[x]header h[/* h.  Generated from k by configure.  */^Jy]
-make |file a t;file b t|t x|t =>
-
-append |file a t|t x|a => file a[x]file a[x]
-file |file a t;file b t|t @V@.|b => file a[.]
-
-missing |file a t;file b u;header h k|t x => file b[u];header h[k]
-missing |file a t;file b u;header h k|t x;u  => none;header h[k]
-missing |file a t;file b u;header h k|k ;u ;t  => none;none
-missing |file a t|a x => file a[t];none
-missing |file a t;file b u;header h k||h => none;header h[k]
-missing |file a t||b => none;none
-// Names that begin alike, and more than one template of a name.
-missing |file a t;file b tt;header h ttt|ttt x;t y;ttt z => file b[tt];none
-
-unknown |file a t;header h k||h;a;x;y;x => 2
-unknown |file a t;header h k||t;a => 0
-unknown |file a t;header h k||a;h;a => none
-unknown |file a t => none
-";
-
-fn texts_of(alloc: Global, list: &[u8]) -> Result<Vec<Bytes>, AllocError> {
-    let mut texts = Vec::new(alloc);
-    for piece in list.split(|byte| *byte == b';') {
-        if !piece.is_empty() {
-            texts.push(Bytes::from_slice(alloc, piece)?)?;
-        }
+/// Adds an item to a list.
+fn add<T: Drop>(page: &mut Page, list: &mut Vec<T>, item: T) {
+    if list.push(item).is_err() {
+        page.cut();
     }
-    Ok(texts)
 }
 
-fn template_of(alloc: Global, piece: &[u8]) -> Result<(Bytes, Bytes), AllocError> {
+fn texts_of(page: &mut Page, list: &[u8]) -> Vec<Bytes> {
+    let mut texts = Vec::new(page.alloc());
+    for piece in list.split(|byte| *byte == b';') {
+        if !piece.is_empty() {
+            let text = text_of(page, piece);
+            add(page, &mut texts, text);
+        }
+    }
+    texts
+}
+
+fn template_of(page: &mut Page, piece: &[u8]) -> (Bytes, Bytes) {
     let (name, text) = cut(piece, b" ");
-    let name = Bytes::from_slice(alloc, name)?;
-    let text = Bytes::from_slice(alloc, text)?;
-    Ok((name, text))
+    let name = text_of(page, name);
+    let text = text_of(page, text);
+    (name, text)
 }
 
-fn templates_of(alloc: Global, list: &[u8]) -> Result<Vec<(Bytes, Bytes)>, AllocError> {
-    let mut templates = Vec::new(alloc);
+fn templates_of(page: &mut Page, list: &[u8]) -> Vec<(Bytes, Bytes)> {
+    let mut templates = Vec::new(page.alloc());
     for piece in list.split(|byte| *byte == b';') {
         if !piece.is_empty() {
-            templates.push(template_of(alloc, piece)?)?;
+            let template = template_of(page, piece);
+            add(page, &mut templates, template);
         }
     }
-    Ok(templates)
+    templates
 }
 
-fn output_of(alloc: Global, names: &[u8]) -> Result<Output, AllocError> {
+fn output_of(page: &mut Page, names: &[u8]) -> Output {
     let (name, template) = cut(names, b" ");
-    let name = Bytes::from_slice(alloc, name)?;
-    let template = Bytes::from_slice(alloc, template)?;
-    Ok(Output { name, template })
+    let name = text_of(page, name);
+    let template = text_of(page, template);
+    Output { name, template }
 }
 
 /// Returns the outputs of this kind.
-fn outputs_of(alloc: Global, list: &[u8], kind: &[u8]) -> Result<OutputList, AllocError> {
-    let mut outputs = OutputList::new(alloc);
+fn outputs_of(page: &mut Page, list: &[u8], kind: &[u8]) -> OutputList {
+    let mut outputs = OutputList::new(page.alloc());
     for piece in list.split(|byte| *byte == b';') {
         let (first, names) = cut(piece, b" ");
         if first == kind {
-            outputs.push(output_of(alloc, names)?)?;
+            let output = output_of(page, names);
+            page.given(outputs.push(output));
         }
     }
-    Ok(outputs)
+    outputs
 }
 
-fn vars_of(alloc: Global, list: &[u8]) -> Result<Vars, AllocError> {
-    let mut vars = Vars::new(alloc);
+fn vars_of(page: &mut Page, list: &[u8]) -> Vars {
+    let mut vars = Vars::new(page.alloc());
     for piece in list.split(|byte| *byte == b';') {
         let (name, value) = cut(piece, b"=");
         if !name.is_empty() {
-            vars.set(name, value)?;
+            page.given(vars.set(name, value));
         }
     }
-    Ok(vars)
+    vars
 }
 
-fn own_names(alloc: Global) -> Result<SubstList, AllocError> {
-    let mut names = SubstList::new(alloc);
-    names.add(b"V")?;
-    names.add(b"CC")?;
-    names.add(b"srcdir")?;
-    Ok(names)
+fn own_names(page: &mut Page) -> SubstList {
+    let mut names = SubstList::new(page.alloc());
+    page.given(names.add(b"V"));
+    page.given(names.add(b"CC"));
+    page.given(names.add(b"srcdir"));
+    names
 }
 
-fn own_defs(alloc: Global) -> Result<Defs, AllocError> {
-    let mut defs = Defs::new(alloc);
-    defs.define(b"X", b"1")?;
-    Ok(defs)
+fn own_defs(page: &mut Page) -> Defs {
+    let mut defs = Defs::new(page.alloc());
+    page.given(defs.define(b"X", b"1"));
+    defs
 }
 
-fn own_args(alloc: Global) -> Result<Texts, AllocError> {
-    let mut args = Texts::new(alloc);
-    args.push(b"-C")?;
-    args.push(b"x y")?;
-    Ok(args)
+fn own_args(page: &mut Page) -> Texts {
+    let mut args = Texts::new(page.alloc());
+    page.given(args.push(b"-C"));
+    page.given(args.push(b"x y"));
+    args
 }
 
-fn record_with(
+/// What a record has of a source.
+#[derive(Clone, Copy)]
+struct Own<'a> {
+    vars: &'a Vars,
+    names: &'a SubstList,
+    defs: &'a Defs,
+    args: &'a Texts,
+}
+
+/// Returns the record of these files and headers.
+fn record_of_lists(
     alloc: Global,
-    vars: &Vars,
-    names: &SubstList,
-    defs: &Defs,
-    args: &Texts,
-    outputs: &[u8],
+    own: &Own<'_>,
+    files: &OutputList,
+    headers: &OutputList,
 ) -> Result<Record, AllocError> {
-    let files = outputs_of(alloc, outputs, b"file")?;
-    let headers = outputs_of(alloc, outputs, b"header")?;
-    let defs = defs.copy(alloc)?;
-    record_of(alloc, vars, defs, names, b"../s", args, &files, &headers)
+    let defs = own.defs.copy(alloc)?;
+    record_of(
+        alloc, own.vars, defs, own.names, b"../s", own.args, files, headers,
+    )
 }
 
-fn record_given(alloc: Global, vars: &[u8], outputs: &[u8]) -> Result<Record, AllocError> {
-    let vars = vars_of(alloc, vars)?;
-    let names = own_names(alloc)?;
-    let defs = own_defs(alloc)?;
-    let args = own_args(alloc)?;
-    record_with(alloc, &vars, &names, &defs, &args, outputs)
+fn record_with(page: &mut Page, own: &Own<'_>, outputs: &[u8]) -> Option<Record> {
+    let files = outputs_of(page, outputs, b"file");
+    let headers = outputs_of(page, outputs, b"header");
+    let made = record_of_lists(page.alloc(), own, &files, &headers);
+    page.given(made)
+}
+
+fn record_given(page: &mut Page, vars: &[u8], outputs: &[u8]) -> Option<Record> {
+    let vars = vars_of(page, vars);
+    let names = own_names(page);
+    let defs = own_defs(page);
+    let args = own_args(page);
+    let own = Own {
+        vars: &vars,
+        names: &names,
+        defs: &defs,
+        args: &args,
+    };
+    record_with(page, &own, outputs)
+}
+
+/// Adds a name, if it is one.
+fn add_name(page: &mut Page, names: &mut SubstList, name: &[u8]) {
+    if is_shell_name(name) {
+        page.given(names.add(name));
+    }
+}
+
+/// Adds the name of this number.
+fn add_numbered(page: &mut Page, names: &mut SubstList, number: usize) {
+    let mut name = Page::new(page.alloc());
+    name.put(b"V");
+    name.put_number(number);
+    add_name(page, names, name.text());
 }
 
 /// Returns 10,000 names.
-fn many_names(alloc: Global) -> Result<SubstList, AllocError> {
-    let mut names = SubstList::new(alloc);
-    for i in 0..10_000 {
-        let name = format!(in alloc; "V{i}")?;
-        if is_shell_name(name.as_bytes()) {
-            names.add(name.as_bytes())?;
-        }
+fn many_names(page: &mut Page) -> SubstList {
+    let mut names = SubstList::new(page.alloc());
+    for number in 0..10_000 {
+        add_numbered(page, &mut names, number);
     }
-    Ok(names)
+    names
 }
 
 /// Returns definitions of these names.
-fn defs_of(alloc: Global, names: &SubstList) -> Result<Defs, AllocError> {
-    let mut defs = Defs::new(alloc);
+fn defs_of(page: &mut Page, names: &SubstList) -> Defs {
+    let mut defs = Defs::new(page.alloc());
     for name in names.names() {
         if is_shell_name(name.as_slice()) {
-            defs.define(name.as_slice(), b"1")?;
+            page.given(defs.define(name.as_slice(), b"1"));
         }
     }
-    Ok(defs)
+    defs
 }
 
-fn record_of_many(alloc: Global) -> Result<Record, AllocError> {
-    let vars = Vars::new(alloc);
-    let names = many_names(alloc)?;
-    let defs = defs_of(alloc, &names)?;
-    let args = Texts::new(alloc);
-    record_with(alloc, &vars, &names, &defs, &args, b"")
+fn record_of_many(page: &mut Page) -> Option<Record> {
+    let names = many_names(page);
+    let defs = defs_of(page, &names);
+    let vars = Vars::new(page.alloc());
+    let args = Texts::new(page.alloc());
+    let own = Own {
+        vars: &vars,
+        names: &names,
+        defs: &defs,
+        args: &args,
+    };
+    record_with(page, &own, b"")
 }
 
 fn put_many(page: &mut Page) {
-    let record = record_of_many(page.alloc());
-    if let Some(record) = page.given(record) {
+    if let Some(record) = record_of_many(page) {
         page.put_number(record.vars.len());
         page.put(b" ");
         page.put_number(record.defs.len());
@@ -254,16 +252,13 @@ fn put_artifacts(page: &mut Page, artifacts: &[Artifact]) {
     }
 }
 
-fn made_twice(
-    alloc: Global,
-    record: &Record,
-    templates: &[(Bytes, Bytes)],
-    tags: &[Bytes],
-) -> Result<Artifacts, AllocError> {
+/// Puts what is made twice in one list.
+fn put_made_twice(page: &mut Page, record: &Record, templates: &[(Bytes, Bytes)], tags: &[Bytes]) {
+    let alloc = page.alloc();
     let mut artifacts = Artifacts::new(alloc);
-    add_outputs(alloc, &mut artifacts, record, templates, tags)?;
-    add_outputs(alloc, &mut artifacts, record, templates, tags)?;
-    Ok(artifacts)
+    page.given(add_outputs(alloc, &mut artifacts, record, templates, tags));
+    page.given(add_outputs(alloc, &mut artifacts, record, templates, tags));
+    put_artifacts(page, artifacts.as_slice());
 }
 
 fn put_made(page: &mut Page, made: Result<Artifacts, AllocError>) {
@@ -324,7 +319,7 @@ fn put_call(
     let alloc = page.alloc();
     match call {
         [b'r', ..] => put_record(page, record),
-        [b'a', ..] => put_made(page, made_twice(alloc, record, templates, tags)),
+        [b'a', ..] => put_made_twice(page, record, templates, tags),
         [b'f', ..] => put_first_file(page, record, templates),
         [b'u', ..] => put_unknown(page, record, tags),
         [b'm', b'i', ..] => put_missing(page, record, templates, tags),
@@ -339,10 +334,8 @@ fn put_with_tags(
     templates: &[(Bytes, Bytes)],
     tags: &[u8],
 ) {
-    let tags = texts_of(page.alloc(), tags);
-    if let Some(tags) = page.given(tags) {
-        put_call(page, call, record, templates, tags.as_slice());
-    }
+    let tags = texts_of(page, tags);
+    put_call(page, call, record, templates, tags.as_slice());
 }
 
 fn put_with_templates(
@@ -352,10 +345,8 @@ fn put_with_templates(
     templates: &[u8],
     tags: &[u8],
 ) {
-    let templates = templates_of(page.alloc(), templates);
-    if let Some(templates) = page.given(templates) {
-        put_with_tags(page, call, record, templates.as_slice(), tags);
-    }
+    let templates = templates_of(page, templates);
+    put_with_tags(page, call, record, templates.as_slice(), tags);
 }
 
 pub struct Making;
@@ -369,14 +360,8 @@ impl RowCall for Making {
         let (vars, rest) = cut(rest, b"|");
         let (outputs, rest) = cut(rest, b"|");
         let (templates, tags) = cut(rest, b"|");
-        let record = record_given(page.alloc(), vars, outputs);
-        if let Some(record) = page.given(record) {
+        if let Some(record) = record_given(page, vars, outputs) {
             put_with_templates(page, call, &record, templates, tags);
         }
     }
-}
-
-#[test]
-fn outputs_are_made(rt: HostRuntime) -> Result<(), Fail> {
-    try_rows(rt.alloc(), &Making, MADE)
 }

@@ -2,34 +2,7 @@
 
 use output_put::{Artifact, Artifacts, Kind, MemoryOutputs, Outputs, put_all};
 use std::alloc::{AllocError, Global};
-use std::test::Fail;
-use test_rows::{Page, RowCall, cut, try_rows};
-
-/// `all`, the number of the put that is refused, a bar, and artifacts with `;` between them, each a
-/// kind, a name and a text: `done` or the number that is returned, and what was handed over.
-/// `twice`: the same of two calls with the same artifacts. `one`: the same of a single put, with
-/// its error in place of a number.
-const PUTS: &[u8] = b"
-all 0|cache config.cache a=b^J;record config.status r;file src/Makefile x^J y^J;header config.h  => done;cache config.cache[a=b^J]record config.status[r]file src/Makefile[x^J y^J]header config.h[]
-all 4|cache config.cache a=b^J;record config.status r;file src/Makefile x^J y^J;header config.h  => 4;cache config.cache[a=b^J]record config.status[r]file src/Makefile[x^J y^J]
-all 2|file a x;file b y;file c z => 2;file a[x]
-all 1|file a x;file b y;file c z => 1;
-all 4|file a x;file b y;file c z => done;file a[x]file b[y]file c[z]
-all 0|file a x;file a x => done;file a[x]file a[x]
-all 0| => done;
-all 1| => done;
-
-// Puts of both calls are counted, also one that was refused.
-twice 0|file a x;file b y => done;done;file a[x]file b[y]file a[x]file b[y]
-twice 1|file a x;file b y => 1;done;file a[x]file b[y]
-twice 2|file a x;file b y => 2;done;file a[x]file a[x]file b[y]
-twice 3|file a x;file b y => done;1;file a[x]file b[y]
-twice 4|file a x;file b y => done;2;file a[x]file b[y]file a[x]
-
-one 0|file a x => done;file a[x]
-one 2|file a x => done;file a[x]
-one 1|file a x => put refused;
-";
+use test_rows::{Page, RowCall, cut};
 
 fn kind_of(name: &[u8]) -> Kind {
     match name {
@@ -55,14 +28,22 @@ fn artifact_of(alloc: Global, text: &[u8]) -> Result<Artifact, AllocError> {
     Artifact::from_slices(alloc, kind_of(kind), name, text)
 }
 
-fn artifacts_of(alloc: Global, text: &[u8]) -> Result<Artifacts, AllocError> {
-    let mut artifacts = Artifacts::new(alloc);
+/// Adds an artifact to a list.
+fn add_artifact(page: &mut Page, artifacts: &mut Artifacts, text: &[u8]) {
+    let made = artifact_of(page.alloc(), text);
+    if let Some(artifact) = page.given(made) {
+        page.given(artifacts.push(artifact));
+    }
+}
+
+fn artifacts_of(page: &mut Page, text: &[u8]) -> Artifacts {
+    let mut artifacts = Artifacts::new(page.alloc());
     for piece in text.split(|byte| *byte == b';') {
         if !piece.is_empty() {
-            artifacts.push(artifact_of(alloc, piece)?)?;
+            add_artifact(page, &mut artifacts, piece);
         }
     }
-    Ok(artifacts)
+    artifacts
 }
 
 fn number_of(text: &[u8]) -> u64 {
@@ -118,16 +99,14 @@ fn put_single(page: &mut Page, refuse: u64, text: &[u8]) {
 }
 
 fn put_several(page: &mut Page, call: &[u8], refuse: u64, text: &[u8]) {
-    let artifacts = artifacts_of(page.alloc(), text);
-    if let Some(artifacts) = page.given(artifacts) {
-        match call {
-            [b'a', ..] => put_all_once(page, refuse, artifacts.as_slice()),
-            _ => put_all_twice(page, refuse, artifacts.as_slice()),
-        }
+    let artifacts = artifacts_of(page, text);
+    match call {
+        [b'a', ..] => put_all_once(page, refuse, artifacts.as_slice()),
+        _ => put_all_twice(page, refuse, artifacts.as_slice()),
     }
 }
 
-struct Puts;
+pub struct Puts;
 
 impl RowCall for Puts {
     fn put(&self, page: &mut Page, given: &[u8]) {
@@ -138,9 +117,4 @@ impl RowCall for Puts {
             _ => put_several(page, call, number_of(refuse), text),
         }
     }
-}
-
-#[test]
-fn puts_to_memory(rt: HostRuntime) -> Result<(), Fail> {
-    try_rows(rt.alloc(), &Puts, PUTS)
 }

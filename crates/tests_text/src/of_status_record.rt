@@ -3,124 +3,8 @@
 use deftable::{Bytes, Defs, Texts};
 use status_record::{OutputList, Record, read_record, write_record};
 use std::alloc::Global;
-use std::test::Fail;
 use test_rows::escaped::value_or_fault;
-use test_rows::{Page, RowCall, cut, put_fronts, try_tables};
-
-/// `read` and a text: what the record holds, or its fault; `args` begins the arguments of version
-/// 2. `v1` or `v2` and lines: the same of a record of that version whose source directory is `.`,
-/// with these lines before `end`. What isn't written again with the same bytes is marked.
-const READ: &[u8] = b"
-read acrun-record 1^Jsrcdir .^Jvar A x\\ny^Jend^J => .;A[x^Jy];
-read acrun-record 1^Jsrcdir .^Jvar A x\\ny^J => 3
-read acrun-record 1^Jsrcdir .^Jvar A x\\ny^Jvar A x\\ny^Jend^J => 5 at 4
-read acrun-record 2^Jsrcdir .^Jvar A x\\ny^Jend^J => .;args;A[x^Jy];
-read acrun-record 2^Jsrcdir .^Jarg --enable-x^Jend^J => .;args[--enable-x];
-read acrun-record 1^Jsrcdir .^Jarg --enable-x^Jend^J => 2 at 3
-read acrun-record 2^Jsrcdir .^Jend^J => .;args;
-read  => 1
-
-read acrun-record 1^Jsrcdir ^Jend^J => ;
-read acrun-record 1^Jsrcdir a b\\\\c\\nd^Jend^J => a b\\c^Jd;
-v1 var A ^Jdef A x  y^Jfile a/b c\\\\d^Jfile a c^Jheader b a => .;A[];A[x  y];a/b[c\\d];a[c];b[a];
-v1 file ...a/-b \xff\0\r => .;...a/-b[\xff\0\r];
-
-// First lines.
-read acrun-record 1 => 1
-read ^J => 1
-read acrun-record 01^J => 1
-read acrun-record ^J => 1
-read acrun-record  1^J => 1
-read acrun-record 1 ^J => 1
-read acrun-record +1^J => 1
-read acrun-record 1x^J => 1
-read Acrun-record 1^J => 1
-read acrun-record 0^J => 4
-read acrun-record 02^J => 1
-read acrun-record 2 ^J => 1
-read acrun-record 3^J => 4
-read acrun-record 9^J => 4
-read acrun-record 20^J => 4
-read acrun-record 10^Jx => 4
-read acrun-record 99999999999999999999999^J => 4
-
-// Lines at fault.
-read acrun-record 1^Jend^J => 2 at 2
-read acrun-record 1^Jvar A x^Jend^J => 2 at 2
-read acrun-record 1^Jsrcdir^Jend^J => 2 at 2
-read acrun-record 1^Jsrcdir \\x^Jend^J => 2 at 2
-v1 arg --enable-x => 2 at 3
-v1 x => 2 at 3
-v1 ^J => 2 at 3
-v1 var A => 2 at 3
-v1 var  A x => 2 at 3
-v1 var 9 x => 2 at 3
-v1 var A-B x => 2 at 3
-v1 var A \\x => 2 at 3
-v1 var A \\ => 2 at 3
-v1 def A x^Jvar A x => 2 at 4
-v1 file a b^Jdef A x => 2 at 4
-v1 header a b^Jfile c d => 2 at 4
-v1 file a => 2 at 3
-v1 file a  => 2 at 3
-v1 file a b c => 2 at 3
-v1 file a b^Ic => 2 at 3
-v1 file a\\nb c => 2 at 3
-v1 file ../a b => 2 at 3
-v1 file a ./b => 2 at 3
-v1 file a /b => 2 at 3
-v1 file a/ b => 2 at 3
-v1 file a//b c => 2 at 3
-v1 file a$b c => 2 at 3
-v1 header a b:c => 2 at 3
-
-// Arguments, which may be any texts, and come before all else.
-v2 arg a\\\\b\\nc^Jarg -n^Jarg x y^Jarg -n => .;args[a\\b^Jc][-n][x y][-n];
-v2 arg ^Jvar A x^Jdef A y^Jfile a b^Jheader c d => .;args[];A[x];A[y];a[b];c[d];
-v2 arg a^Jvar A x^Jarg b => 2 at 5
-v2 def A x^Jarg a => 2 at 4
-v2 file a b^Jarg a => 2 at 4
-v2 header a b^Jarg a => 2 at 4
-v2 arg => 2 at 3
-v2 arg \\x => 2 at 3
-v2 arg a\\ => 2 at 3
-v2 arg a^Jvar A x^Jvar A y => 5 at 5
-read acrun-record 2^Jarg a^Jsrcdir .^Jend^J => 2 at 2
-read acrun-record 2^Jsrcdir .^Jarg a^J => 3
-read acrun-record 2^Jsrcdir .^Jarg a^Jend^Jarg b^J => 2 at 5
-
-// After `end`.
-read acrun-record 1^Jsrcdir .^Jend^J^J => 2 at 4
-read acrun-record 1^Jsrcdir .^Jend^Jx => 2 at 4
-read acrun-record 1^Jsrcdir .^Jend^Jend^J => 2 at 4
-
-// Names that are given before. The form of a line is checked before its name.
-v1 var A x^Jvar B x^Jvar A y => 5 at 5
-v1 def A x^Jdef A y => 5 at 4
-v1 file a b^Jfile a c => 5 at 4
-v1 file a b^Jheader a c => 5 at 4
-v1 header a b^Jheader a b => 5 at 4
-v1 var A x^Jvar A \\x => 2 at 4
-v1 var A x^Jvar A x^Jx => 5 at 4
-read acrun-record 9^Jsrcdir .^Jvar A x\\ny^Jend^J => 4
-";
-
-/// `fronts` and a text: from which length on a front of the text is read, or has a fault.
-const FRONTS: &[u8] = b"
-fronts acrun-record 1^Jsrcdir .^Jvar A x\\ny^Jend^J => 0 1;15 3;39 read;
-fronts acrun-record 2^Jsrcdir .^Jarg -C^Jvar A x^Jend^J => 0 1;15 3;43 read;
-fronts acrun-record 1^Jsrcdir .^Jdef A x^Jfile a b^Jheader c d^Jend^J => 0 1;15 3;56 read;
-";
-
-/// `value` alone: the bytes that aren't written as themselves in a value, or can't be at its end.
-/// `arg` and `path` alone: the same of an argument and of the name of a file. `many` alone: how a
-/// record with 1,024 variables is read.
-const BYTES: &[u8] = b"
-many => read
-value => 10 92
-arg => 10 92
-path => 9 10 32 36 47 58 92
-";
+use test_rows::{Page, RowCall, cut, put_fronts};
 
 fn put_defs(page: &mut Page, defs: &Defs) {
     for i in 0..defs.len() {
@@ -267,9 +151,4 @@ impl RowCall for Records {
             _ => put_lines(page, b"1", text),
         }
     }
-}
-
-#[test]
-fn records_are_read_and_written(rt: HostRuntime) -> Result<(), Fail> {
-    try_tables(rt.alloc(), &Records, &[READ, FRONTS, BYTES])
 }

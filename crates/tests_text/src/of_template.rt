@@ -1,47 +1,8 @@
 //! template: templates that are filled, and the variables of each output file.
 
 use deftable::is_shell_name;
-use std::test::Fail;
 use template::{FileDirectories, Table, configure_input, fill, has_one_filled_text, place_vars};
-use test_rows::{Page, RowCall, cut, try_rows};
-
-/// `fill`, the value of VAR and a template: what it makes if also A is `1` and B is empty. `repeat`
-/// and two texts with a comma between them: whether the first makes the second, each repeated over
-/// many windows. `key` and a name: its value where VAR is `v`. `names` alone: the length of the
-/// longest name. `many` alone: the same of a table with 10,000 names, and the value of the last.
-const FILLED: &[u8] = b"
-fill v @a@VAR@ => [@av]
-fill v  => []
-fill v plain text => [plain text]
-fill v @A@@B@@VAR@ => [1v]
-fill v A = @A@, B = @B@. => [A = 1, B = .]
-fill v @ => [@]
-fill v @@ => [@@]
-fill v @@@ => [@@@]
-fill v @A => [@A]
-fill v A@ => [A@]
-fill v @@A@ => [@1]
-fill v @A@A@ => [1A@]
-fill v @nope@ => [@nope@]
-fill v @nope@A@ => [@nope1]
-fill v @var@ @ A@ @A @A@ => [@var@ @ A@ @A 1]
-fill v @VARIABLE@\0@VA@ => [@VARIABLE@\0@VA@]
-// A value is not read again.
-fill @VAR@ @VAR@ => [@VAR@]
-fill @A @VAR@@ => [@A@]
-
-// Longer than the windows that are looked at and than the runs that are held, with an `@` at each
-// place of a window.
-repeat some text @A@ and @nope@@@ ,some text 1 and @nope@@@  => yes
-
-key VAR => [v]
-key B => []
-key  => none
-key C => none
-key V R => none
-key VARIABLE => none
-names => 3
-";
+use test_rows::{Page, RowCall, cut};
 
 fn set(page: &mut Page, table: &mut Table, key: &[u8], value: &[u8]) {
     if is_shell_name(key) {
@@ -142,26 +103,6 @@ impl RowCall for Filling {
     }
 }
 
-#[test]
-fn templates_are_filled(rt: HostRuntime) -> Result<(), Fail> {
-    try_rows(rt.alloc(), &Filling, FILLED)
-}
-
-/// `place`, a file and the top of the sources: srcdir, top_srcdir, builddir and top_builddir.
-/// `made`, a file and its template: the line that says so.
-const PLACES: &[u8] = b"
-place a/b/Makefile ../s => ../../../s/a/b ../../../s . ../..
-place a/b/Makefile . => . ../.. . ../..
-place Makefile /s => /s /s . .
-place a/Makefile /s => /s/a /s . ..
-place Makefile . => . . . .
-place Makefile ../s => ../s ../s . .
-place a/b/c/f ./ => ../../.././/a/b/c ../../.././ . ../../..
-
-made a/out a/b/out.in => a/out.  Generated from out.in by configure.
-made out in => out.  Generated from in by configure.
-";
-
 fn put_place(page: &mut Page, place: &FileDirectories) {
     page.put(place.srcdir.as_slice());
     page.put(b" ");
@@ -178,7 +119,7 @@ fn put_made(page: &mut Page, file: &[u8], source: &[u8]) {
     }
 }
 
-struct Placing;
+pub struct Placing;
 
 impl RowCall for Placing {
     fn put(&self, page: &mut Page, given: &[u8]) {
@@ -190,9 +131,4 @@ impl RowCall for Placing {
             put_place(page, &place);
         }
     }
-}
-
-#[test]
-fn places_of_files(rt: HostRuntime) -> Result<(), Fail> {
-    try_rows(rt.alloc(), &Placing, PLACES)
 }

@@ -1,40 +1,8 @@
 //! template: templates that are filled in pieces.
 
 use deftable::is_shell_name;
-use std::test::Fail;
 use template::{Filler, Table, fill};
-use test_rows::{Page, RowCall, cut, try_rows};
-
-/// `fed`, the value of VAR and pieces with `|` between them: what each gives, and then what the end
-/// gives. `cuts`, the value of VAR and a template: the filled template, if the same comes of the
-/// template cut in two at each place, and of its single bytes.
-const PIECES: &[u8] = b"
-fed v  => [][]
-fed v ||| => [][][][][]
-fed v @VA|R|@@VAX => [][][v@VAX][]
-fed v x@VAR => [x][@VAR]
-fed v @a@VAR@ => [@av][]
-fed v @a@V|AR@ => [@a][v][]
-fed @VAR@ @VAR@ => [@VAR@][]
-fed @VAR@ @|V|A|R|@|@VAR@ => [][][][][@VAR@][@VAR@][]
-fed v @ => [][@]
-fed v @|@|@ => [][@][@][@]
-fed v @VAX|R@ => [@VAX][R][@]
-fed v @VARX|@ => [@VARX][][@]
-fed v @VAR|@VAR|@ => [][vVAR][][@]
-fed v a@b|c@|VAR@d => [a@b][c][vd][]
-fed v no at|all => [no at][all][]
-
-cuts v  => []
-cuts v @VAR@@VAX => [v@VAX]
-cuts v x@VAR => [x@VAR]
-cuts v @a@VAR@ => [@av]
-cuts @VAR@ @VAR@ => [@VAR@]
-cuts @VAR @VAR@@ => [@VAR@]
-cuts  a@VAR@b@VAR@@ => [ab@]
-cuts value @@VAR@VAR@@VA@VAR@@V@ => [@valueVAR@@VAvalue@V@]
-cuts v @LONGER_VAR@ @LONGER_VA@ @LONGER => [long @LONGER_VA@ @LONGER]
-";
+use test_rows::{Page, RowCall, cut};
 
 fn set(page: &mut Page, table: &mut Table, key: &[u8], value: &[u8]) {
     if is_shell_name(key) {
@@ -119,9 +87,4 @@ impl RowCall for Pieces {
             _ => put_cuts(page, value, text),
         }
     }
-}
-
-#[test]
-fn templates_are_filled_in_pieces(rt: HostRuntime) -> Result<(), Fail> {
-    try_rows(rt.alloc(), &Pieces, PIECES)
 }

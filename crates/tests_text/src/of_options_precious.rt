@@ -8,8 +8,7 @@ use cachefile::{CacheFault, OldCache, read_cache};
 use deftable::{Bytes, Notes, Vars};
 use options::{OptionFault, PreciousFault, Settings, check_precious, check_precious_of, read_args};
 use std::alloc::Global;
-use std::test::Fail;
-use test_rows::{Named, Page, RowCall, cut, try_rows};
+use test_rows::{Page, RowCall, cut};
 
 /// The source of all rows: its precious variables are CC, LD and AR, in this order.
 const SOURCE: &[u8] =
@@ -197,51 +196,4 @@ impl RowCall for PreciousReader {
             _ => self.put_over(page, SOURCE, line),
         }
     }
-}
-
-/// The faults are those of configure that Autoconf 2.71 makes; the text of the note is own.
-const ROWS: &[u8] = b"
-source CC=gcc -O,ac_cv_env_CC_set=set^Jac_cv_env_CC_value='gcc  -O' =>  configure: WARNING: blanks of CC have changed, old value used^J [gcc  -O]---
-source CC=cc,ac_cv_env_CC_set=set^Jac_cv_env_CC_value='gcc  -O' => 3 at 1 [cc]---
-source -q,ac_cv_env_CC_set=set^Jac_cv_env_CC_value='gcc  -O' => 1 at 1 ----
-source LD=,ac_cv_env_LD_set=^Jac_cv_env_LD_value= => 2 at 2 -[]--
-list CC=gcc -O,ac_cv_env_CC_set=set^Jac_cv_env_CC_value='gcc  -O' =>  configure: WARNING: blanks of CC have changed, old value used^J [gcc  -O]---
-list AR=ar,ac_cv_env_AR_set=set^Jac_cv_env_AR_value=xar => 3 at 3 --[ar]-
-// unchanged
-source -q, =>  ----
-source CC=cc,ac_cv_env_CC_set=set^Jac_cv_env_CC_value=cc =>  [cc]---
-source -q,ac_cv_env_CC_set=^Jac_cv_env_CC_value= =>  ----
-source CC=,ac_cv_env_CC_set=set^Jac_cv_env_CC_value= =>  []---
-source v_cv_a=1,v_cv_a=2 =>  ---[1]
-// A mark that the cache lacks is that of the run.
-source CC=cc, =>  [cc]---
-source CC=cc,ac_cv_env_LD_set=^Jac_cv_env_LD_value= =>  [cc]---
-source CC=cc,ac_cv_env_CC_set=set =>  [cc]---
-source CC=cc,ac_cv_env_CC_value=gcc => 3 at 1 [cc]---
-// A line that sets a mark only if it isn't set changes nothing.
-source CC=cc,ac_cv_env_CC_value=${ac_cv_env_CC_value=gcc} =>  [cc]---
-source CC=cc,test ${ac_cv_env_CC_set+y} || ac_cv_env_CC_set=^Jtest \"${ac_cv_env_CC_value+set}\" = set || ac_cv_env_CC_value=gcc =>  [cc]---
-// The last line that sets a mark counts.
-source CC=cc,ac_cv_env_CC_value=gcc^Jac_cv_env_CC_value=cc =>  [cc]---
-// Blanks are spaces, tabs and newlines; a carriage return is none.
-source CC=gcc\t-O^J-g,ac_cv_env_CC_value=' gcc -O -g ' =>  configure: WARNING: blanks of CC have changed, old value used^J [ gcc -O -g ]---
-source CC=gcc -O,ac_cv_env_CC_value=gcc\"\t\"-O =>  configure: WARNING: blanks of CC have changed, old value used^J [gcc\t-O]---
-source CC=,ac_cv_env_CC_value=' ' =>  configure: WARNING: blanks of CC have changed, old value used^J [ ]---
-source CC=a b,ac_cv_env_CC_value=ab => 3 at 1 [a b]---
-source CC=a b,ac_cv_env_CC_value='a b c' => 3 at 1 [a b]---
-source CC=a b,ac_cv_env_CC_value=a\rb => 3 at 1 [a b]---
-// The first fault counts, and then no variable gets a value back.
-source CC=a b|LD=1|AR=2,ac_cv_env_CC_value='a  b'^Jac_cv_env_LD_set=^Jac_cv_env_AR_value=3 => 2 at 2 [a b][1][2]-
-source CC=cc,ac_cv_env_AR_set=set^Jac_cv_env_LD_set=set => 1 at 2 [cc]---
-// Each has a note, in the order of the source.
-source AR=x y|CC=a b,ac_cv_env_AR_value='x  y'^Jac_cv_env_CC_value='a  b' =>  configure: WARNING: blanks of CC have changed, old value used^J configure: WARNING: blanks of AR have changed, old value used^J [a  b]-[x  y]-
-// The cache is poured after the check.
-source CC=cc,v_cv_a=1 =>  [cc]---
-poured CC=a b,v_cv_a=1^Jac_cv_env_CC_value='a  b' =>  configure: WARNING: blanks of CC have changed, old value used^J [a  b]--[1]
-memory => memory
-";
-
-#[test]
-fn precious_variables_are_checked(rt: HostRuntime) -> Result<(), Fail> {
-    try_rows(rt.alloc(), &Named(&READERS), ROWS)
 }

@@ -17,8 +17,7 @@ use ac_tree::{Declarations, Declares, Effect, OptionKind, OutputKind, Question, 
 use deftable::Texts;
 use m4quote::{Arg, Item, read_items};
 use std::alloc::{AllocError, Global};
-use std::test::Fail;
-use test_rows::{Page, RowCall, try_rows};
+use test_rows::{Page, RowCall};
 use test_trees::{put_plain, put_question, put_sought};
 
 // ---- the table
@@ -254,7 +253,7 @@ fn put_programs(page: &mut Page) {
 }
 
 /// A call.
-enum MacroReader {
+pub enum MacroReader {
     /// What the table has of a name.
     Row,
     /// Whether a call has arguments that its macro takes.
@@ -275,7 +274,7 @@ enum MacroReader {
     Programs,
 }
 
-const READERS: [(&[u8], MacroReader); 11] = [
+pub const READERS: [(&[u8], MacroReader); 11] = [
     (b"row", MacroReader::Row),
     (b"takes", MacroReader::Takes),
     (b"reads", MacroReader::Reads),
@@ -337,200 +336,4 @@ impl RowCall for MacroReader {
             MacroReader::Programs => put_programs(page),
         }
     }
-}
-
-const ROWS: &[u8] = br#"
-// the table, by docs/language.md
-row AC_SUBST => statement Subst 1 to 2
-row AC_CONFIG_FILES => statement ConfigFiles 1 to 1 at top
-row AC_CONFIG_HEADERS => another 1 to 1 at top
-row AC_MSG_CHECKING => another 1 to 1
-row AC_MSG_RESULT => another 1 to 1
-row AC_MSG_NOTICE => another 1 to 1
-row AC_MSG_WARN => another 1 to 1
-row AC_MSG_FAILURE =>
-row AC_INIT => statement Init 2 to 5 at top
-row AS_CASE => choice Case 2 to any number
-row AC_ARG_WITH => question Package 1 to 4
-row AC_LINK_IFELSE => question Link 1 to 3
-row AC_RUN_IFELSE => question Run 1 to 4
-row AC_CACHE_CHECK => check 3 to 3
-row AC_LANG_SOURCE => argument LangSource 1 to 1
-row AC_CHECK_HEADER => one header 1 to 4
-row AC_CHECK_FUNC => one function 1 to 3
-row AC_CHECK_DECL => one declaration 1 to 4
-row AC_CHECK_TYPE => one type 1 to 4
-row AC_CHECK_HEADERS => each header 1 to 4
-row AC_CHECK_FUNCS => each function 1 to 3
-row AC_CHECK_DECLS => each declaration 1 to 4
-row AC_CHECK_TYPES => each type 1 to 4
-row AC_CHECK_LIB => question Library 2 to 5
-row AC_SEARCH_LIBS => question Libraries 2 to 5
-row AC_NOPE =>
-// arguments that are taken
-takes AC_OUTPUT => yes
-takes AC_OUTPUT() => yes
-takes AC_OUTPUT([]) => yes
-takes AC_OUTPUT([[]]) => yes
-takes AC_OUTPUT([@&t@]) => yes
-takes AC_OUTPUT([ ]) => no
-takes AC_OUTPUT([x]) => no
-// an argument whose quotes have an error is not empty
-takes AC_OUTPUT([#[^J]]) => no
-takes AC_OUTPUT(,) => no
-takes AS_HELP_STRING(,) => yes
-takes AS_HELP_STRING => no
-takes AC_CHECK_FUNC([f],,) => yes
-takes AC_CHECK_FUNC([f],,,) => no
-takes AC_CHECK_FUNCS([f],,,[]) => no
-takes AC_CHECK_HEADER([f],,,) => yes
-takes AC_CHECK_HEADER([f],,,,) => no
-takes AC_CHECK_TYPES => no
-takes AC_CHECK_LIB([m]) => no
-takes AC_CHECK_LIB([m],[f]) => yes
-takes AC_CHECK_LIB([m],[f],,,) => yes
-takes AC_CHECK_LIB([m],[f],,,,) => no
-takes AC_SEARCH_LIBS([f]) => no
-takes AC_SEARCH_LIBS([f],[m],,,) => yes
-takes AC_SEARCH_LIBS([f],[m],,,,) => no
-// in the file's own list
-top AC_CONFIG_FILES => accepted
-top AC_INIT => 7 at 3
-top AS_HELP_STRING => 3 at 3
-top a => 3 at 3
-// in another list
-inside AC_CONFIG_FILES => 7 at 3
-inside AC_CONFIG_HEADERS => 7 at 3
-inside AC_MSG_WARN => accepted
-inside AC_SUBST => accepted
-inside AC_CACHE_CHECK => accepted
-inside AC_CHECK_HEADERS => accepted
-inside AC_CHECK_TYPE => accepted
-inside AC_CHECK_LIB => accepted
-inside AC_SEARCH_LIBS => accepted
-// in the commands of AC_CACHE_CHECK
-commands AC_COMPILE_IFELSE => accepted
-commands AC_RUN_IFELSE => accepted
-commands AS_IF => accepted
-commands AS_CASE => accepted
-commands AC_CACHE_CHECK => 11 at 9
-commands AC_ARG_WITH => 11 at 9
-commands AC_DEFINE => 11 at 9
-commands AC_MSG_ERROR => 11 at 9
-commands AC_MSG_RESULT => 11 at 9
-commands AC_LANG => 11 at 9
-commands AC_CHECK_HEADER => 11 at 9
-commands AC_CHECK_FUNCS => 11 at 9
-commands AC_CHECK_LIB => 11 at 9
-commands AC_SEARCH_LIBS => 11 at 9
-// before AC_INIT
-before AC_CONFIG_FILES => 8
-before AC_INIT => accepted
-before AC_PREREQ => accepted
-before AC_CHECK_LIB => 8
-before a => 8
-// after AC_OUTPUT
-after AC_SUBST => 10 at 3
-after AC_SEARCH_LIBS => 10 at 3
-after AS_HELP_STRING => 10 at 3
-after a => 10 at 3
-// what a call is read as
-reads AC_INIT([x],[1]) => init [x] [1] [] [x] []
-reads AC_LANG([C]) => accepted
-reads AC_CONFIG_FILES([a b:c]) => files a:a.in b:c
-reads AC_CONFIG_HEADERS([config.h]) => config headers config.h:config.h.in
-reads AC_CONFIG_HEADERS([ ]) => 5 at 18
-reads AC_CONFIG_HEADERS([/config.h]) => 5 at 18
-reads AC_CONFIG_HEADERS([a:b:c]) => 5 at 18
-reads AC_MSG_CHECKING([for x]) => checking [for x]
-reads AC_MSG_RESULT([$x]) => results [${x}]
-reads AC_MSG_NOTICE([here]) => notice [here]
-reads AC_MSG_WARN([there]) => warning [there]
-reads AC_MSG_WARN([`a`]) => 6.1 at 12
-reads AC_SUBST([a]) => subst a
-reads AC_SUBST([a],[b]) => subst a=b
-reads AC_DEFINE([A]) => define A [1]
-reads AC_DEFINE_UNQUOTED([A],[$a]) => define unquoted A [${a}]
-reads AC_MSG_ERROR([no]) => error 1 [no]
-reads AC_ARG_VAR([CC],[a compiler]) => precious CC [a compiler]
-reads AC_CHECK_PROG([P],[p],[yes]) => program P [p] found [yes]
-reads AC_CHECK_PROGS([P],[p q]) => programs P [p] [q]
-reads AC_PATH_PROG([P],[p]) => path P [p]
-reads AC_PROG_CC => compiler [gcc] [cc]
-reads AC_OUTPUT => output
-reads AC_ARG_ENABLE([a-b],[AS_HELP_STRING([--enable-a-b],[c])]) => feature enable_a_b [--enable-a-b] [c]
-reads AC_ARG_WITH([x],[as it is]) => package with_x [as it is]
-reads AC_RUN_IFELSE([AC_LANG_SOURCE([x])]) => run source [x]
-reads AC_LINK_IFELSE([AC_LANG_PROGRAM]) => link program [] []
-// one entry, and its includes
-reads AC_CHECK_HEADER([ sys/stat.h ]) => header [sys/stat.h]
-reads AC_CHECK_FUNC(strdup,[x=1]) => function [strdup]
-reads AC_CHECK_DECL([errno],,,[#include <errno.h>]) => declaration [errno] includes [#include <errno.h>]
-reads AC_CHECK_TYPE([struct stat],,,[]) => type [struct stat]
-reads AC_CHECK_TYPE([f (int, char)]) => type [f (int, char)]
-reads AC_CHECK_HEADER([a.h b.h]) => 5 at 16
-reads AC_CHECK_FUNC([9p]) => 5 at 14
-reads AC_CHECK_DECL([f (int)]) => 5 at 14
-reads AC_CHECK_TYPE([a^Jb]) => 5 at 14
-reads AC_CHECK_TYPE() => 5 at 14
-reads AC_CHECK_DECL([a],,,[-]) => 5 at 20
-// lists of entries
-reads AC_CHECK_HEADERS([stdio.h^Junistd.h]) => each header [stdio.h] [unistd.h]
-reads AC_CHECK_HEADERS([a.h],,,[$i]) => each header [a.h] includes [${i}]
-reads AC_CHECK_FUNCS(f g f) => each function [f] [g] [f]
-reads AC_CHECK_DECLS([a, b,]) => each declaration [a] [b]
-reads AC_CHECK_TYPES([char *, f (int, char)]) => each type [char *] [f (int, char)]
-reads AC_CHECK_HEADERS([ ]) => 5 at 17
-reads AC_CHECK_FUNCS([f,g]) => 5 at 15
-reads AC_CHECK_DECLS([a b]) => 5 at 15
-reads AC_CHECK_TYPES([a, $b]) => 5 at 15
-reads AC_CHECK_TYPES([a],,,[`]) => 6.1 at 21
-// a library; that it is added is said after its actions are read
-reads AC_CHECK_LIB([m],[sin]) => library [m] function [sin]
-reads AC_CHECK_LIB([ stdc++.1-a_B ],[ sin ],[:],[:],[-lz $L]) => library [stdc++.1-a_B] function [sin] others [-lz ${L}]
-reads AC_CHECK_LIB(m,sin,,,[]) => library [m] function [sin]
-reads AC_CHECK_LIB([a/b],[sin]) => 5 at 13
-reads AC_CHECK_LIB([a b],[sin]) => 5 at 13
-reads AC_CHECK_LIB([$m],[sin]) => 5 at 13
-reads AC_CHECK_LIB([],[sin]) => 5 at 13
-reads AC_CHECK_LIB([m],[9p]) => 5 at 17
-reads AC_CHECK_LIB([m],[sin cos]) => 5 at 17
-reads AC_CHECK_LIB([m],[]) => 5 at 17
-reads AC_CHECK_LIB([a/b],[9p]) => 5 at 13
-reads AC_CHECK_LIB([m],[sin],,,[`]) => 6.1 at 25
-// several libraries
-reads AC_SEARCH_LIBS([sin],[m c]) => libraries [m] [c] function [sin]
-reads AC_SEARCH_LIBS(sin,[ m^J^Ic m ],,,[-lz]) => libraries [m] [c] [m] function [sin] others [-lz]
-reads AC_SEARCH_LIBS([9p],[/]) => 5 at 15
-reads AC_SEARCH_LIBS([sin],[m a/b]) => 5 at 21
-reads AC_SEARCH_LIBS([sin],[m,c]) => 5 at 21
-reads AC_SEARCH_LIBS([sin],[ ]) => 5 at 21
-reads AC_SEARCH_LIBS([sin],[]) => 5 at 21
-reads AC_SEARCH_LIBS([sin],[m],,,[`]) => 6.1 at 27
-// calls with errors
-reads AC_SUBST([a-b]) => 5 at 9
-reads AC_ARG_WITH([]) => 5 at 12
-// what is used: AC_SUBST without a value reads its variable, with a value it assigns it
-uses AC_SUBST([a]) => uses reads variable a
-uses AC_SUBST([a],[$b]) => uses assigns a reads $[b]
-uses AC_ARG_VAR([a],[b]) => uses
-uses AC_MSG_NOTICE([$a]) => uses reads $[a]
-uses AC_CHECK_PROG([P],[p],[$a],[$b]) => uses assigns P reads $[a] and $[b] tests ac_cv_prog_P alone
-uses AC_PATH_PROG([P],[p],[$b]) => uses assigns P reads $[b] tests ac_cv_path_P alone
-uses AC_PROG_CC => uses assigns CC tests ac_cv_prog_CC alone
-uses AC_ARG_WITH([x]) => uses assigns with_x
-uses AC_RUN_IFELSE([AC_LANG_PROGRAM([$a],[$b])]) => uses reads $[a] and $[b] tries
-uses AC_CHECK_DECL([d],,,[$a]) => uses reads $[a] tests ac_cv_have_decl_d
-uses AC_CHECK_TYPES([a, b]) => uses tests ac_cv_type_a tests ac_cv_type_b
-uses AC_CHECK_LIB([m],[f],,,[$a]) => uses reads $[a] tests ac_cv_lib_m_f
-uses AC_SEARCH_LIBS([f],[m c]) => uses tests ac_cv_search_f
-// nothing is declared at first
-first => yes
-// a list of programs
-programs => [gcc][cc]
-"#;
-
-#[test]
-fn macros(rt: HostRuntime) -> Result<(), Fail> {
-    try_rows(rt.alloc(), &test_rows::Named(&READERS), ROWS)
 }

@@ -8,8 +8,7 @@ use options::{
     OptionFault, Settings, directories, help_text, help_text_of, read_args, read_args_of, srcdir_of,
 };
 use std::alloc::Global;
-use std::test::Fail;
-use test_rows::{Named, Page, RowCall, try_rows};
+use test_rows::{Page, RowCall};
 use text_cut::parts;
 
 /// The variables whose values are told.
@@ -196,59 +195,4 @@ impl RowCall for OptionReader {
             OptionReader::Memory => page.put_shown(&OptionFault::OutOfMemory),
         }
     }
-}
-
-/// The directories' values are those of a configure script that Autoconf 2.71 makes; their order is
-/// own.
-const ROWS: &[u8] = br#"
-lists --prefix|/usr/|--disable-a-b|CC=cc|--srcdir=s/ => [/usr][no]-[-g][set][cc] in [s] notes 0
-lists --with-x=y|LDFLAGS=-s => [NONE]-[y][-s][][] in [.] notes 0
-lists -C|-q|-n => [NONE]--[-g][][] in [.] cache[config.cache] quiet no create notes 0
-lists --help|-V|--with-z => [NONE]--[-g][][] in [.] help version notes 1
-// errors, as docs/formats.md numbers them
-lists -q|--zz => 1 at 2
-lists --enable- => 2 at 1
-lists 1=2 => 3 at 1
-lists --prefix => 4 at 1
-lists --with-y|--enable-option-checking=fatal => 5 at 1
-memory => memory
-// over a source
-source --prefix=/usr/|--enable-a-b=no|--enable-a-b|--with-y => [/usr][yes]---- in [.] notes 1
-source --prefix=/usr|--bindir => 4 at 2
-// the directory of the source
-srcdir --prefix|/usr/|--disable-a-b|CC=cc|--srcdir=s/ => s
-srcdir -q => .
-srcdir --zz|--srcdir|../t => ../t
-// help
-help AC_INIT([x],[1])^JAC_ARG_ENABLE([x],[AS_HELP_STRING([--disable-x],[leave x out])])^JAC_OUTPUT => [Usage: configure [OPTION]... [VAR=VALUE]...^J  --disable-x             leave x out^J][Usage: configure [OPTION]... [VAR=VALUE]...^J  --disable-x             leave x out^J]
-help AC_INIT([x],[1])^JAC_ARG_ENABLE([a-b],[AS_HELP_STRING([--disable-a-b],[leave x out])])^JAC_OUTPUT^J => [Usage: configure [OPTION]... [VAR=VALUE]...^J  --disable-a-b           leave x out^J][Usage: configure [OPTION]... [VAR=VALUE]...^J  --disable-a-b           leave x out^J]
-// directories
-directories => 22
-directory prefix => 0 NONE
-directory exec_prefix => 1 NONE
-directory bindir => 2 ${exec_prefix}/bin
-directory sbindir => 3 ${exec_prefix}/sbin
-directory libexecdir => 4 ${exec_prefix}/libexec
-directory libdir => 5 ${exec_prefix}/lib
-directory datarootdir => 6 ${prefix}/share
-directory datadir => 7 ${datarootdir}
-directory sysconfdir => 8 ${prefix}/etc
-directory sharedstatedir => 9 ${prefix}/com
-directory localstatedir => 10 ${prefix}/var
-directory runstatedir => 11 ${localstatedir}/run
-directory includedir => 12 ${prefix}/include
-directory oldincludedir => 13 /usr/include
-directory docdir => 14 ${datarootdir}/doc/${PACKAGE_TARNAME}
-directory infodir => 15 ${datarootdir}/info
-directory htmldir => 16 ${docdir}
-directory dvidir => 17 ${docdir}
-directory pdfdir => 18 ${docdir}
-directory psdir => 19 ${docdir}
-directory localedir => 20 ${datarootdir}/locale
-directory mandir => 21 ${datarootdir}/man
-"#;
-
-#[test]
-fn readers(rt: HostRuntime) -> Result<(), Fail> {
-    try_rows(rt.alloc(), &Named(&READERS), ROWS)
 }

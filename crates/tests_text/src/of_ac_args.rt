@@ -18,13 +18,12 @@ use ac_tree::{Help, HelpList, OptionKind, is_feature, option_variable};
 use m4quote::{Arg, Item, QuoteFault, read_items};
 use output_list::{Output, OutputList};
 use shellword::ShellFault;
-use std::test::Fail;
-use test_rows::{Named, Page, RowCall, try_rows};
+use test_rows::{Page, RowCall};
 
 // ---- texts, names and numbers
 
 /// A reader of an argument that is a text, a name or a number.
-enum ArgReader {
+pub enum ArgReader {
     Text,
     Line,
     Title,
@@ -47,7 +46,7 @@ enum ArgReader {
     Help,
 }
 
-const READERS: [(&[u8], ArgReader); 20] = [
+pub const READERS: [(&[u8], ArgReader); 20] = [
     (b"text", ArgReader::Text),
     (b"line", ArgReader::Line),
     (b"title", ArgReader::Title),
@@ -108,100 +107,10 @@ impl ArgReader {
     }
 }
 
-/// The includes are those of the page on AC_INCLUDES_DEFAULT in docs/language.md.
-const READER_ROWS: &[u8] = br#"
-// texts
-text [ a ] => [ a ]
-text [[a]^J] => [a^J]
-text [a => 1.1 at 0
-line [ a ] => [ a ]
-line [a^J] => 5 at 0
-title [ a ] => [a]
-title [a^Jb] => 5 at 0
-// names
-name [ a ] => [a]
-name [a-b] => 5 at 0
-cache_name [ v_cv_x ] => [v_cv_x]
-cache_name _cv_ => [_cv_]
-cache_name [v_cx_x] => 5 at 0
-cache_name [1_cv_x] => 5 at 0
-cache_name [v_cv_x y] => 5 at 0
-cache_name  => 5 at 0
-feature [a-b+c.d] => [enable_a_b_c_d]
-feature  => 5 at 0
-package [ x ] => [with_x]
-package [x y] => 5 at 0
-program [ gcc-12 ] => [gcc-12]
-program [a b] => 5 at 0
-programs [ gcc cc^Ic99 ] => [gcc][cc][c99]
-programs [ ] => 5 at 0
-programs [a $b] => 5 at 0
-// numbers
-version [2.71] => accepted
-version 2.72 => 14 at 0
-version 2. => 5 at 0
-status [007] => 7
-status  => 1
-status 256 => 5 at 0
-language [ C ] => accepted
-language [C++] => 5 at 0
-// shell texts
-word [a$b] => a$[b]
-word [a b] => 6.1 at 0
-here [a $b] => a $[b]
-here [`] => 6.1 at 0
-source [int x = $n;] => int x = $[n];
-source [a^J AC_INCLUDES_DEFAULT^Jb] => a^J#include <stddef.h>^J#include <stdio.h>^J#include <stdlib.h>^J#include <string.h>^J#include <sys/types.h>^Jb
-source [`] => 6.1 at 0
-// includes; none are the default ones
-includes  =>
-includes [[]] =>
-includes [@&t@] =>
-includes [ ^J] =>  with  ^J
-includes [ $a^J] =>  with  $[a]^J
-includes [AC_INCLUDES_DEFAULT] =>  with #include <stddef.h>^J#include <stdio.h>^J#include <stdlib.h>^J#include <string.h>^J#include <sys/types.h>^J
-includes [-] => 5 at 0
-includes [ -^J] => 5 at 0
-includes [--] =>  with --
-includes [`] => 6.1 at 0
-includes [a => 1.1 at 0
-test [test a != b] => yes
-test [a = b] => 6.2 at 0
-patterns [a|b*] => 2 [a] [b]*
-patterns [a|] => 6.3 at 0
-// statements
-inside  [a=1] dnl x => [a=1] at 2
-inside a=1 => [a=1] at 0
-inside [a][b] => 3 at 0
-// help: entries
-help [AS_HELP_STRING([--enable-x],[range @<:@0,1)])] => [--enable-x] [range [0,1)]
-help AS_HELP_STRING([--enable-x],[range @<:@0,1)]) => [--enable-x] [range [0,1)]
-help [AS_HELP_STRING([--x],[end with @:>@])] => [--x] [end with ]]
-help [AS_HELP_STRING(--x, use @%:@ marks)] => [--x] [use # marks]
-help AS_HELP_STRING([--x],[y]) dnl [z]^J => [--x] [y]
-// help: texts of their own making
-help [AS_HELP@&t@_STRING([a],[b])] => [AS_HELP_STRING(a,b)]
-help [AS_HELP_STRING[]][[]] => [AS_HELP_STRING]
-help [a][b] [x [y]] => [ab x y]
-help [AC_FOO(] => [AC_FOO(]
-help [AC_FOO( AS_HELP@&t@_STRING] => [AC_FOO( AS_HELP_STRING]
-// AS_HELP_STRING beside something else, and with one text
-help [@%:@ AS_HELP_STRING([a],[b])] => 3 at 0
-help [x] AS_HELP_STRING([a],[b]) => 3 at 0
-help [AS_HELP_STRING([a])] => 4 at 1
-help [AS_HELP_STRING([a],[b]] => 1.2 at 15
-help AC_FOO( AS_HELP_STRING => 1.2 at 6
-"#;
-
-#[test]
-fn readers(rt: HostRuntime) -> Result<(), Fail> {
-    try_rows(rt.alloc(), &Named(&READERS), READER_ROWS)
-}
-
 // ---- what takes no argument alone
 
 /// A call of another form.
-enum Other {
+pub enum Other {
     Given,
     Option,
     Calls,
@@ -214,7 +123,7 @@ enum Other {
     Offsets,
 }
 
-const OTHERS: [(&[u8], Other); 10] = [
+pub const OTHERS: [(&[u8], Other); 10] = [
     (b"given", Other::Given),
     (b"option", Other::Option),
     (b"calls", Other::Calls),
@@ -393,50 +302,4 @@ impl RowCall for Other {
             Other::Offsets => put_kept(page),
         }
     }
-}
-
-const OTHER_ROWS: &[u8] = br#"
-// arguments that are given
-given [ a ] => yesnono
-given [] => nonono
-// options
-option a+b-c.d_1 => yes[enable_a_b_c_d_1][with_a_b_c_d_1]
-option a,b => no[enable_a,b][with_a,b]
-// calls
-calls [AC_X([a],[b])] => 1 with 2 at 1
-calls  AC_X dnl x => 3 with 0 at 1
-calls [AC_Y([a])] => 1
-calls [AC_X([a]) b] => 2
-calls [a => 1.1 at 0
-// text that says nothing
-idle  # x^J => yes
-idle [# x] => yes
-idle # x^Ja => no
-idle : => no
-// calls in the place of statements
-stands AC_X => yes
-stands  AC_X([a])^Ja => yes
-stands a=1; AC_X # b => yes
-stands a=1^JAC_X;a=2 => yes
-stands AC_X AC_Y => yes
-stands a AC_X => no
-stands AC_X([a]) b => no
-// files
-files [a b:c] => 2 a:a.in b:c
-files [old] => 5 at 0
-files [header] => 5 at 0
-files [a a] => 5 at 0
-files [ ] => 5 at 0
-added old => yesnoyesno2 old:old.in old:old.in
-// lists of help
-twice AS_HELP_STRING([a],[b]) => [a] [b];[a] [b];
-twice [c] => [c];[c];
-// errors
-errors => 1.2 at 9;2 at 9;3 at 9;4 at 9;5 at 9;6.2 at 9;7 at 9;8;9;10 at 9;11 at 9;12 at 9;13 at 9;14 at 9;memory;
-offsets => yesyes
-"#;
-
-#[test]
-fn others(rt: HostRuntime) -> Result<(), Fail> {
-    try_rows(rt.alloc(), &Named(&OTHERS), OTHER_ROWS)
 }
