@@ -100,7 +100,11 @@ fn put_after<R: Abort>(
 /// Returns the permission bits of three octal digits, or those of a program that anybody may run.
 fn mode_of(word: &[u8]) -> u32 {
     match word {
-        [first @ b'0'..=b'7', second @ b'0'..=b'7', third @ b'0'..=b'7'] => {
+        [
+            first @ b'0'..=b'7',
+            second @ b'0'..=b'7',
+            third @ b'0'..=b'7',
+        ] => {
             u32::from(first - b'0') * 64 + u32::from(second - b'0') * 8 + u32::from(third - b'0')
         }
         _ => 0o755,
