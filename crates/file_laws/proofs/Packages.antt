@@ -1,5 +1,5 @@
 -- What a run of the package leaves on the disk, and what is made of it again, whatever the texts are.
-use Rattle.std.proofs.Common.{◌≡◌, ◌≢◌, ℕ, length, true, List, [], ◌∷◌, ◌++◌, Some, None, refl}
+use Rattle.std.proofs.Common.{◌≡◌, ◌≢◌, ℕ, length, true, List, [], ◌∷◌, ◌++◌, Some, None, refl, inl}
 use Rattle.std.specs.Prelude.{◌^◌, All, codes, nat_le}
 use Rattle.std.specs.Fmt.{digits}
 use Rattle.std.proofs.lemmas.List.Elements.{All-nil, All-cons}
@@ -146,7 +146,7 @@ module _ (c r m h l : List ℕ) where
         named = refl;
         readable = refl;
         placed = made (alone (record { place = place 0 (codes "config.cache"); at = refl; free = refl; added = refl }));
-        put = cache_put _ other_cache (written 1 None refl of_nothing);
+        put = cache_put _ other_cache (inl refl) (written 1 None refl of_nothing);
       })
 
   record_done : nat_le (length r) (2 ^ 26) ≡ true → AreDone disk guards (cached ∷ recorded ∷ []) 0 [] two after_record

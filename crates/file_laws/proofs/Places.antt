@@ -52,7 +52,7 @@ in_after_both f c d keeps own file text deeds name x never of w at =
 pub in_after_put : (f : Files) → IsCoherent f → (d : List Deed) (kind : Kind) (own file text line : List ℕ) (deeds : List Deed) (name : List ℕ) (x : ℕ × ℕ)
     → IsNeverLink f file → AreOfRun f d → IsPut (after f d) own file text kind line deeds → IsIn f d name x → IsIn f (d ++ deeds) name x
 in_after_put f c d Cache own file text line [] name x never of (cache_same is) at = in_after_none f d name x at
-in_after_put f c d Cache own file text line deeds name x never of (cache_put rest other w) at = in_after_written f c d _ file text rest name x never of w at
+in_after_put f c d Cache own file text line deeds name x never of (cache_put rest other may w) at = in_after_written f c d _ file text rest name x never of w at
 in_after_put f c d Record own file text line deeds name x never of (record_put rest w) at = in_after_written f c d _ file text rest name x never of w at
 in_after_put f c d File own file text line deeds name x never of (file_put rest w) at = in_after_both f c d _ own file text rest name x never of w at
 in_after_put f c d Header own file text line [] name x never of (header_same is) at = in_after_none f d name x at
@@ -183,7 +183,7 @@ pub own_stays : (f : Files) → IsCoherent f → (d : List Deed) (kind : Kind) (
     → IsNeverLink f file → AreOfRun f d → file ≡ name → IsPut (after f d) name file text kind line deeds → place_under (after f (d ++ may_make kind name)) file ≡ Some place
     → place_under (after f (d ++ deeds)) file ≡ Some place
 own_stays f c d Cache name file text line [] place never of same (cache_same is) at = at
-own_stays f c d Cache name file text line deeds place never of same (cache_put rest other w) at = stays_written f c d _ file text rest place never of w (after_none f d file place at)
+own_stays f c d Cache name file text line deeds place never of same (cache_put rest other may w) at = stays_written f c d _ file text rest place never of w (after_none f d file place at)
 own_stays f c d Record name file text line deeds place never of same (record_put rest w) at = stays_written f c d _ file text rest place never of w (after_none f d file place at)
 own_stays f c d File name file text line deeds place never of same (file_put rest w) at = stays_both f c d _ name file text rest place never of w at
 own_stays f c d Header name file text line [] place never of same (header_same is) at = same_header f c d name file text place same is at

@@ -57,7 +57,7 @@ of_both f c d keeps own file text deeds w of =
 pub of_put : (f : Files) → IsCoherent f → (d : List Deed) (kind : Kind) (own file text line : List ℕ) (deeds : List Deed)
     → IsPut (after f d) own file text kind line deeds → AreOfRun f d → AreOfRun f (d ++ deeds)
 of_put f c d Cache own file text line [] (cache_same is) of = of_none f d of
-of_put f c d Cache own file text line deeds (cache_put rest other w) of = of_written f c d _ file text rest w of
+of_put f c d Cache own file text line deeds (cache_put rest other may w) of = of_written f c d _ file text rest w of
 of_put f c d Record own file text line deeds (record_put rest w) of = of_written f c d _ file text rest w of
 of_put f c d File own file text line deeds (file_put rest w) of = of_both f c d _ own file text rest w of
 of_put f c d Header own file text line [] (header_same is) of = of_none f d of
