@@ -116,7 +116,7 @@ fn file_of<R: Abort>(rt: &R, page: &mut Page, file: &[u8], word: &[u8]) -> Vec<P
     let (name, text) = cut(file, b" ");
     let placed = Placed {
         name: copied(rt, page.alloc(), name),
-        mode: 0o100000 + mode_of(word),
+        mode: 0o100000 | mode_of(word),
         text: copied(rt, page.alloc(), text),
     };
     let mut files = Vec::new(page.alloc());
