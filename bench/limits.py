@@ -141,7 +141,7 @@ def main():
         print(f"{title:<56} {size:7.2f} MB {seconds:6.3f} s {megabytes:6.0f} MB{told}", flush=True)
     ratio = taken["lint of it"] / taken[TEMPLATE]
     print(f"lint of a template takes {ratio:.1f} times as long as its run")
-    return wrong or int(ratio > 2)
+    return wrong or int(round(ratio, 1) > 2)
 
 
 sys.exit(main())
