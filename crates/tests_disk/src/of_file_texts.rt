@@ -323,13 +323,14 @@ sized e more|read e|front e => none67108865
 sized e|cause e => none
 sized e more|cause e => some
 remove e =>
-// A new file is another one, which keeps the permissions but for the special bits. Neither is
-// opened for writing if it may not be written.
+// A new file is another one. The old one closes it to the group and to others as far as it was closed
+// itself, and can be executed as it could. It isn't opened if it may not be written. The owner keeps
+// the bits that the system gives, and the special bits are gone.
 write f x|mark f|write f y|same f|read f => yesyesno[y]
 write g x|permit g private|write g y|mode g|read g => yesyes384[y]
 permit g program|write g z|mode g => yes493
 permit g special|mode g|write g z|mode g => 3565yes493
-permit g locked|write g no matter|mode g|read g => yes292[no matter]
+permit g locked|write g no matter|mode g|read g => yes420[no matter]
 // A link is replaced, whatever it leads to.
 write h x|link i h|write i y|look i|read i|look h|read h => yesyesfile[y]file[x]
 link j k|write j new|look j|read j|look k => yesfile[new]none
