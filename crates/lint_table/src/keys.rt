@@ -1050,6 +1050,10 @@ pub const WRONG_NO_IN_OUTPUTS: Key = Key(b"wrong-no-in-outputs", b"this run may 
 #[rattlefmt::skip]
 pub const LONG_CACHE: Key = Key(b"long-cache", b"\x01 has more than 4,194,304 bytes, so no run can read it again: remove it", b"");
 
+/// CACHE is kept as it is, since its answers can't be read: make it readable, or name another file with --cache-file
+#[rattlefmt::skip]
+pub const UNREAD_CACHE: Key = Key(b"unread-cache", b"\x01 is kept as it is, since its answers can't be read: make it readable, or name another file with --cache-file", b"");
+
 /// the file is not a record of a run: it begins with LINE
 #[rattlefmt::skip]
 pub const NO_RECORD: Key = Key(b"no-record", b"the file is not a record of a run: it begins with \x01", b"run acrun configure first; acrun does not read Autoconf's scripts");
@@ -1081,6 +1085,10 @@ pub const NO_COMPILER_WORKS: Key = Key(b"no-compiler-works", b"no compiler job o
 /// a compiler failed that wrote 65,536 bytes of diagnostics or more, which may be why: see config.log
 #[rattlefmt::skip]
 pub const CUT_DIAGNOSTICS: Key = Key(b"cut-diagnostics", b"a compiler failed that wrote 65,536 bytes of diagnostics or more, which may be why: see config.log", b"");
+
+/// /dev/null is not there, so no program can be started
+#[rattlefmt::skip]
+pub const NO_NULL_DEVICE: Key = Key(b"no-null-device", b"/dev/null is not there, so no program can be started", b"");
 
 /// The codes of the warnings that something means another thing to Autoconf.
 #[rattlefmt::skip]
