@@ -8,6 +8,7 @@ use crate::shortages::names_shortage;
 use crew_refusals::{Causes, shown};
 use crew_trait::{Entry, Reply};
 use deftable::Bytes;
+use file_disk::{Disk, Found};
 use lint_table::{Page, WordPart, keys};
 use std::alloc::{AllocError, Global};
 use std::io::Write;
@@ -145,15 +146,27 @@ fn put_made<E: Write>(alloc: Global, made: Result<Vec<u8>, AllocError>, errors: 
     }
 }
 
+/// Says that no program can be started if `/dev/null` is not there, which each child opens.
+fn explain_null<D: Disk, E: Write>(alloc: Global, disk: &D, errors: &mut E) {
+    if let Ok(Found::Nothing) = disk.look("/dev/null") {
+        let mut page = Page::new(alloc);
+        page.put(keys::NO_NULL_DEVICE, &[]);
+        if let Ok(words) = page.message() {
+            put_words(alloc, words.as_slice(), errors);
+        }
+    }
+}
+
 /// Says why the child of this number was refused, which cut the run with this log:
 /// `acrun: child N, CHECK: CAUSE`, with the check that it was made for, or with its command if it
 /// was made for none. If its program can't be started, one more line may say what is wrong with
-/// it. If the run has a cache, whose name isn't empty then, and a child of the
+/// it, and one that `/dev/null` is not there. If the run has a cache, whose name isn't empty then, and a child of the
 /// log found no room for a process, a file or its memory, one more line says that the cache may
 /// hold a wrong "no", and that it is to be removed: such a child answered "no", and its answer was
 /// kept (own).
-pub fn explain_cut<C: Causes, E: Write>(
+pub fn explain_cut<D: Disk, C: Causes, E: Write>(
     alloc: Global,
+    disk: &D,
     is_asked: bool,
     number: u64,
     crew: &C,
@@ -171,6 +184,7 @@ pub fn explain_cut<C: Causes, E: Write>(
                     put_program(alloc, &log[place], cause, errors);
                 }
             }
+            explain_null(alloc, disk, errors);
             if !cache.is_empty() && log.iter().any(has_shortage) {
                 put_made(alloc, cache_words(alloc, cache), errors);
             }

@@ -6,9 +6,13 @@ use crate::lines::put_words;
 use crate::precious::Given;
 use crew_refusals::shown;
 use deftable::Bytes;
+use file_disk::Disk;
+use file_texts::unread_cause;
+use lint_table::{Page, WordPart, keys};
+use options::Settings;
 use output_list::Output;
 use std::alloc::{AllocError, Global};
-use std::io::Write;
+use std::io::{ErrorKind, Write};
 
 /// The end of a cause that another file of the run has the output's name.
 const HELD: &[u8] = b": has the name of another file of this run";
@@ -109,11 +113,44 @@ fn put_cause_words(alloc: Global, given: &Given<'_>, cause: &[u8]) -> Result<Byt
     Bytes::from_slice(alloc, cause)
 }
 
+/// Returns whether something is under the name of a cache that may not be read.
+fn is_denied<D: Disk>(disk: &D, cache: &[u8]) -> bool {
+    match unread_cause(disk, cache) {
+        Some(error) => error.kind() == ErrorKind::PermissionDenied,
+        None => false,
+    }
+}
+
+/// Writes what to do about a cache that can't be read. If memory runs out, writes nothing.
+fn put_unread_cache<E: Write>(alloc: Global, cache: &[u8], errors: &mut E) {
+    let mut page = Page::new(alloc);
+    page.put(keys::UNREAD_CACHE, &[WordPart::AsItIs(cache)]);
+    if let Ok(words) = page.message() {
+        put_words(alloc, words.as_slice(), errors);
+    }
+}
+
+/// Says what to do about the cache of a run, if one is named and it may not be read.
+fn explain_unread_cache<D: Disk, E: Write>(
+    alloc: Global,
+    disk: &D,
+    settings: &Settings,
+    errors: &mut E,
+) {
+    if let Some(cache) = &settings.cache_name {
+        if is_denied(disk, cache.as_slice()) {
+            put_unread_cache(alloc, cache.as_slice(), errors);
+        }
+    }
+}
+
 /// Says why an output of a run was refused, if it is asked and the cause isn't empty:
 /// `acrun: NAME: CAUSE`. If another file of the run has its name, the line says which, and if one of
-/// its directories is something else, it says so (own).
-pub fn explain_put<E: Write>(
+/// its directories is something else, it says so. If the run's cache may not be read, one more line
+/// says what to do (own).
+pub fn explain_put<D: Disk, E: Write>(
     alloc: Global,
+    disk: &D,
     is_asked: bool,
     given: &Given<'_>,
     cause: &[u8],
@@ -124,6 +161,7 @@ pub fn explain_put<E: Write>(
     if is_asked && !cause.is_empty() {
         if let Ok(words) = put_cause_words(alloc, given, cause) {
             put_words(alloc, words.as_slice(), errors);
+            explain_unread_cache(alloc, disk, given.settings, errors);
         }
     }
 }

@@ -40,8 +40,9 @@ fn cache_name(settings: &Settings) -> &[u8] {
 }
 
 /// Says why a run was cut, if it was, and if it is asked.
-fn explain_short<C: Causes, E: Write>(
+fn explain_short<D: Disk, C: Causes, E: Write>(
     alloc: Global,
+    disk: &D,
     is_asked: bool,
     report: &Report,
     cache: &[u8],
@@ -53,6 +54,7 @@ fn explain_short<C: Causes, E: Write>(
     if let Outcome::CutShort(number) = report.outcome {
         explain_cut(
             alloc,
+            disk,
             is_asked,
             number,
             crew,
@@ -108,7 +110,16 @@ fn print_report<D: Disk, C: Causes, R: Read, W: Write, E: Hears>(
     let output = &mut terminal.output;
     let done = print_all(alloc, messages, lines, quiet, output, errors);
     explain_directories(alloc, is_asked, &settings.vars, errors);
-    explain_short(alloc, is_asked, report, cache_name(settings), crew, errors);
+    let disk = terminal.outputs.disk();
+    explain_short(
+        alloc,
+        disk,
+        is_asked,
+        report,
+        cache_name(settings),
+        crew,
+        errors,
+    );
     explain_compilers(alloc, is_asked, report.log.as_slice(), errors);
     explain_long_cache(alloc, is_asked, terminal.outputs.handed(), errors);
     explain_completed(alloc, is_asked, report, cache_name(settings), errors);
@@ -116,8 +127,9 @@ fn print_report<D: Disk, C: Causes, R: Read, W: Write, E: Hears>(
 }
 
 /// Reports the put that was refused, if one was, and says why if it is asked.
-fn tell_refused<E: Hears>(
+fn tell_refused<D: Disk, E: Hears>(
     alloc: Global,
+    disk: &D,
     is_asked: bool,
     given: &Given<'_>,
     refused: Option<u64>,
@@ -130,7 +142,7 @@ fn tell_refused<E: Hears>(
 {
     if let Some(number) = refused {
         let _ = tell_put(errors, number);
-        explain_put(alloc, is_asked, given, cause, errors);
+        explain_put(alloc, disk, is_asked, given, cause, errors);
     }
 }
 
@@ -185,7 +197,16 @@ fn finish_report<D: Disk, C: Causes, R: Read, W: Write, E: Hears>(
     let is_printed = print_report(terminal, given.settings, report, crew);
     let outputs = &mut terminal.outputs;
     let errors = &mut terminal.errors;
-    tell_refused(alloc, is_asked, given, refused, outputs.cause(), errors);
+    let disk = outputs.disk();
+    tell_refused(
+        alloc,
+        disk,
+        is_asked,
+        given,
+        refused,
+        outputs.cause(),
+        errors,
+    );
     let is_logged = log_report(alloc, outputs, is_asked, report, errors);
     RunLeft {
         status: status_of(report.outcome),
