@@ -17,7 +17,8 @@ if [ "$(id -u)" != 0 ] || ! as_user test -x "$acrun" 2> /dev/null; then
 fi
 wrong=0
 
-# trial WHAT CAUSE: a run with the cache `presets` is refused at its first put for this cause, and the file stays as it is
+# trial WHAT CAUSE: a run with the cache `presets` is refused at its first put for this cause, and the file stays as it is. If
+# reading it is denied, the run says what to do.
 trial() {
     before=$(ls -ld presets; cat presets 2>&1)
     as_user "$acrun" configure -q --cache-file=presets CC="$acrun standin" > out 2> err
@@ -27,8 +28,13 @@ trial() {
         wrong=1
         echo "caches: $1: status $status, $(cat err)"
     fi
-    as_user env ACRUN_WHY=1 "$acrun" configure -q --cache-file=presets CC="$acrun standin" 2>&1 | grep -q "^acrun: presets: $2" ||
-        { wrong=1; echo "caches: $1: the cause isn't said"; }
+    as_user env ACRUN_WHY=1 "$acrun" configure -q --cache-file=presets CC="$acrun standin" > why 2>&1
+    grep -q "^acrun: presets: $2" why || { wrong=1; echo "caches: $1: the cause isn't said"; }
+    case $2 in Permission*) helps=1 ;; *) helps=0 ;; esac
+    if [ "$(grep -c '^acrun: presets is kept as it is' why)" != "$helps" ]; then
+        wrong=1
+        echo "caches: $1: $(cat why)"
+    fi
 }
 
 # package: a directory of the user with a source and this text as presets
