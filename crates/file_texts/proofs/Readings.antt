@@ -4,6 +4,7 @@ use Rattle.std.specs.Prelude.{option_map, unwrap_or}
 use Rattle.std.proofs.lemmas.List.{take_all}
 use Rattle.std.proofs.lemmas.Bool.{cond-true, cond-false, le-leb, lt-leb}
 use Rattle.file_disk.specs.Known.{Known, text_under, limited}
+use Rattle.file_texts.specs.Done.{IsReplaceable}
 use Rattle.file_texts.specs.Names.{IsFileName}
 use Rattle.file_texts.specs.Reading.{whole, IsReadLimited, IsReadWhole}
 
@@ -52,3 +53,10 @@ whole_read (Some k) name text o read same short long = record {
   named = λ is. whole_of (text_under k name) text o (read.named is) same short long;
   unnamed = λ no_name. absurd (some_none (read.unnamed no_name));
 }
+
+-- A cache may be written over the text of its name, if that was read.
+pub replaceable : (known : Option Known) (name file text : List ℕ) → IsFileName name
+    → IfSome known (λ k. IsReadWhole k name (Some text))
+    → IfSome known (λ k. IsReplaceable k name file)
+replaceable None name file text is read = tt
+replaceable (Some k) name file text is read = inr (λ lost. some_none (read.named is ∙ lost))

@@ -1,7 +1,6 @@
 -- What a receiver did for what was handed over.
-use Rattle.std.specs.Prelude.{◌≡◌, ◌⊎◌, ℕ, ◌+◌, ◌<◌, ◌^◌, nat_le, Bool, true, false, List, [], ◌∷◌, ◌++◌, length, Some}
+use Rattle.std.specs.Prelude.{◌≡◌, ◌≢◌, ◌⊎◌, ℕ, ◌+◌, ◌<◌, ◌^◌, nat_le, Bool, true, false, List, [], ◌∷◌, ◌++◌, length, Some, None}
 use Rattle.file_disk.specs.Known.{Known, Files, Deed, with_deeds, text_under, kind_under}
-use Rattle.file_disk.specs.Regular.{IsOpened}
 use Rattle.file_disk.specs.declared.found.Found.TheVariants as found
 use Rattle.output_put.specs.declared.artifact.Artifact.{Artifact}
 use Rattle.output_put.specs.declared.artifact.Kind.{Kind}
@@ -9,6 +8,7 @@ use Rattle.output_put.specs.declared.artifact.Kind.TheVariants.{Cache, Record, F
 use Rattle.file_texts.specs.Lines.{creating_line, unchanged_line}
 use Rattle.file_texts.specs.Links.{LeadsTo}
 use Rattle.file_texts.specs.Places.{ArePlaced, is_name_guarded}
+use Rattle.file_texts.specs.Reading.{whole}
 use Rattle.file_texts.specs.Steps.{IsWritten, IsUndone, directories_for}
 use Rattle.file_texts.specs.declared.places.Guard.{Guard}
 use Rattle.file_texts.specs.declared.places.FilePlace.{FilePlace}
@@ -27,10 +27,10 @@ IsEnd k name Record file = file ≡ name
 IsEnd k name File file = file ≡ name
 IsEnd k name Header file = file ≡ name
 
--- A cache of this name may be written to this file: nothing is there, or what the name leads to can
--- be read. So no answers are lost that nobody could read. (own)
+-- A cache of this name may be written to this file: nothing is there, or the text that the name
+-- leads to was read, and has at most 64 MiB. (own)
 abbrev pub IsReplaceable : Known → List ℕ → List ℕ → Type 0
-IsReplaceable k name file = (kind_under k file ≡ found.Nothing) ⊎ IsOpened k name
+IsReplaceable k name file = (kind_under k file ≡ found.Nothing) ⊎ (whole (text_under k name) ≢ None)
 
 -- If this is known, an artifact of this kind, name and text was put to this file in this way: what
 -- is said of it, and the deeds. A cache or a header is left as it is exactly if the file under its

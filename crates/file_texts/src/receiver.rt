@@ -286,16 +286,26 @@ fn end_for<D: Disk>(alloc: Global, disk: &D, kind: Kind, name: &str) -> io::Resu
     }
 }
 
-/// Fails with the cause if something is under the name of the file of a cache that can't be read
-/// under the name of the cache.
-fn check_cache<D: Disk>(disk: &D, name: &str, file: &str) -> io::Result<()>
+/// Returns why the text of a cache was not read.
+fn unread<D: Disk>(disk: &D, name: &str) -> io::Error {
+    match disk.cause(name) {
+        Some(e) => e,
+        None => io::Error::other("can't be read"),
+    }
+}
+
+/// Fails if something is under the name of the file of a cache, and its text can't be read under
+/// the name of the cache.
+#[tactic(auto, using(crate::proofs::Readings::replaceable))]
+fn check_cache<D: Disk>(alloc: Global, disk: &D, name: &str, file: &str) -> io::Result<()>
     ensures { OnOk result (IfSome (D.known disk.now) (λ k. IsReplaceable k name.now file.now)) }
 {
     match disk.look(file)? {
         Found::Nothing => Ok(()),
-        _ => match disk.cause(name) {
-            None => Ok(()),
-            Some(e) => Err(e),
+        _ => match read_text(alloc, disk, name.as_bytes()) {
+            Ok(Some(_)) => Ok(()),
+            Ok(None) => Err(unread(disk, name)),
+            Err(_) => Err(no_memory()),
         },
     }
 }
@@ -303,6 +313,7 @@ fn check_cache<D: Disk>(disk: &D, name: &str, file: &str) -> io::Result<()>
 /// Fails if an artifact is a cache that is to be written over a file that can't be read: nobody
 /// knows what answers would be lost.
 fn check_replaced<D: Disk>(
+    alloc: Global,
     disk: &D,
     kind: Kind,
     is_left: bool,
@@ -317,7 +328,7 @@ fn check_replaced<D: Disk>(
             if is_left {
                 return Ok(());
             }
-            check_cache(disk, name, file)
+            check_cache(alloc, disk, name, file)
         }
         Kind::Record => Ok(()),
         Kind::File => Ok(()),
@@ -466,7 +477,7 @@ fn take_free<'a, D: Disk>(
         return Err(no_memory());
     };
     let end = end_for(alloc, disk, kind, path)?;
-    check_replaced(disk, kind, unchanged, path, file_of(&end, path))?;
+    check_replaced(alloc, disk, kind, unchanged, path, file_of(&end, path))?;
     let Ok(artifact) = Artifact::from_slices(alloc, kind, name, text) else {
         return Err(no_memory());
     };
