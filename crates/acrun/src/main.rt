@@ -1,4 +1,5 @@
-//! The program: `runner`, called with the arguments, the environment and a crew of real children.
+//! The program: `runner`, called with the arguments, the environment, a crew of real children, and
+//! what starts the program of the tools beside it.
 //!
 //! If standard error is a terminal, or ACRUN_PROGRESS asks for lines, the crew shows its children
 //! there. The log of an earlier run is removed before the first child is started, so that a run
@@ -12,11 +13,12 @@ use crew::ReadyCrew;
 use crew_progress::Watched;
 use patient_writer::Patient;
 use runner::{
-    FilterFault, Heard, LOG, ProcessTexts, command, environment, showing_of, tell, words,
+    FilterFault, Heard, LOG, ProcessTexts, VERSION, command, environment, showing_of, tell, words,
 };
 use std::alloc::AllocError;
 use std::io::IsTerminal;
 use std::process::ExitCode;
+use tool_start::Neighbour;
 
 /// Runs the command that the program's arguments name, and returns its exit status.
 fn run(rt: HostRuntime) -> Result<u8, AllocError> {
@@ -28,7 +30,15 @@ fn run(rt: HostRuntime) -> Result<u8, AllocError> {
     let showing = showing_of(words.as_slice(), env.as_slice(), is_terminal);
     let children = ReadyCrew::removing(rt, rt.alloc(), LOG)?;
     let mut crew = Watched::new(children, Heard::new(Patient::new(errors, &rt)), showing);
-    Ok(command(rt, rt.alloc(), words.as_slice(), env.as_slice(), &mut crew))
+    let mut tools = Neighbour::new(rt, rt.alloc(), VERSION);
+    Ok(command(
+        rt,
+        rt.alloc(),
+        words.as_slice(),
+        env.as_slice(),
+        &mut crew,
+        &mut tools,
+    ))
 }
 
 /// Ends the process with the exit status of the command. If memory runs out before the command is

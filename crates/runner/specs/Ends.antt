@@ -1,18 +1,13 @@
 -- How a command ends on a terminal.
 use Rattle.std.specs.Prelude.{◌≡◌, ◌⊎◌, ℕ, Bool, true, false, List, Option, Some, None}
 use Rattle.std.specs.Io.KnownBytes.{Appends}
-use Rattle.cmd_call.specs.Calls.{ProgramCall, Configure, Recheck, Lint}
+use Rattle.cmd_call.specs.Calls.{ProgramCall, Configure, Recheck}
 
 -- The call is a run. (own)
 abbrev pub asks_run : ProgramCall → Bool
 asks_run (Configure window arguments) = true
 asks_run Recheck = true
 asks_run call = false
-
--- Control bytes of what is printed are shown: of each call but lint, which shows them itself. (own)
-abbrev pub shows_output : ProgramCall → Bool
-shows_output (Lint words) = false
-shows_output call = true
 
 -- This line is appended, or the stream failed. If there is no line, nothing is. (own)
 abbrev pub IsSummed : {E : Type 0} → (E → Option (List ℕ)) → (E → Bool) → E → E → Option (List ℕ) → Type 0

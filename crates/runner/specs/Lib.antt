@@ -1,5 +1,5 @@
 pub mod Ends
 pub mod Filters
-pub mod Ports
 pub mod Puts
 pub mod Refusals
+pub mod Tools

@@ -1,10 +1,7 @@
--- What a command that explains something says if it refuses what it is asked.
-use Rattle.std.specs.Prelude.{◌≡◌, ◌⊎◌, ℕ, Bool, true, List, [], Option, None, codes}
-use Rattle.std.specs.List.{list_any}
-use Rattle.cmd_call.specs.Calls.{ProgramCall, Lint, Port, Help, Version, Unknown}
+-- What a command that explains the program says if it refuses what it is asked.
+use Rattle.std.specs.Prelude.{◌⊎◌, ℕ, Bool, List, [], Option, codes}
+use Rattle.cmd_call.specs.Calls.{ProgramCall, Help, Version, Unknown}
 use Rattle.cmd_call.specs.Lines.{IsTold, error_line}
-use Rattle.cmd_lint.specs.Status.{is_unknown}
-use Rattle.cmd_port.specs.Asked.{request_of}
 
 -- The line of words that the program doesn't know was written. (own)
 abbrev pub IsUsageTold : {E : Type 0} → (E → Option (List ℕ)) → (E → Bool) → E → E → Type 0
@@ -14,12 +11,10 @@ IsUsageTold contents has_failed old new = IsTold contents has_failed old new (er
 abbrev pub IsOutputTold : {E : Type 0} → (E → Option (List ℕ)) → (E → Bool) → E → E → Type 0
 IsOutputTold contents has_failed old new = IsTold contents has_failed old new (error_line (codes "file") (codes "standard output"))
 
--- What was said after a status of 2: for help and the version, the line of the words or of standard output; for options that `lint`
--- doesn't know, and for wrong words of `port` and of the program, the line of the words. (own)
+-- What was said after a status of 2: for help and the version, the line of the words or of standard output; for words that are no
+-- command, the line of the words. (own)
 abbrev pub TellsWhy : {E : Type 0} → (E → Option (List ℕ)) → (E → Bool) → E → E → ProgramCall → Type 0
 TellsWhy contents has_failed old new (Help words) = IsUsageTold contents has_failed old new ⊎ IsOutputTold contents has_failed old new
 TellsWhy contents has_failed old new Version = IsUsageTold contents has_failed old new ⊎ IsOutputTold contents has_failed old new
-TellsWhy contents has_failed old new (Lint words) = list_any is_unknown words ≡ true → IsUsageTold contents has_failed old new
-TellsWhy contents has_failed old new (Port words) = request_of words ≡ None → IsUsageTold contents has_failed old new
 TellsWhy contents has_failed old new Unknown = IsUsageTold contents has_failed old new
 TellsWhy contents has_failed old new call = Unit {0}

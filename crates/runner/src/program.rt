@@ -2,45 +2,35 @@
 
 ghost use Rattle.std.specs.Prelude.{◌≡◌, true, false, ◌∷◌, ◌≢◌, ◌⊎◌, ◌≤◌, ◌<◌, ℕ, List, [], length, None, IfSome, OnOk, codes, option_map, vec_items};
 ghost use Rattle.std.specs.Io.KnownBytes.{Appends};
-ghost use Rattle.std.specs.List.{list_any};
 ghost use Rattle.cmd_status.specs.MadeAgain.{IsMadeAgain};
 ghost use Rattle.cmd_configure.specs.Configures.{IsConfigured, IsRechecked, IsWindow, MayRun};
 ghost use Rattle.cmd_configure.specs.Ended.{Exits, HasHappened, HasHappenedAgain, Prints};
 ghost use Rattle.crew_trait.specs.Events.{IsIdle};
 ghost use Rattle.file_texts.specs.Held.{fresh};
 ghost use Rattle.cmd_filter.specs.Filtered.{IsFiltered};
-ghost use Rattle.cmd_call.specs.Calls.{call_of, Unknown, Version, IfFilter, IfStandIn, IfConfigure, IfStatus, IfRecheck, IfWhy, IfHelp, IfLint, HasNoRun, HasNoInput, HasNoOutput};
+ghost use Rattle.cmd_call.specs.Calls.{call_of, Unknown, Version, IfFilter, IfStandIn, IfConfigure, IfStatus, IfRecheck, IfHelp, HasNoRun};
 ghost use Rattle.cmd_call.specs.Errors.{AreTold};
 ghost use Rattle.cmd_call.specs.Lines.{AreSaid, IsTold, error_line};
 ghost use Rattle.cmd_status.specs.Reasons.{SaysOf};
 ghost use Rattle.cmd_status.specs.Unmade.{SaysUnmade};
 ghost use Rattle.runner.specs.Refusals.{IsUsageTold, TellsWhy};
-ghost use Rattle.cmd_lint.specs.Refusals.{AreSaidOf};
-ghost use Rattle.cmd_lint.specs.Status.{IsStatus, is_unknown, named_by};
-ghost use Rattle.cmd_port.specs.Asked.{request_of};
-ghost use Rattle.cmd_port.specs.Printed.{IsAnswer};
-ghost use Rattle.cmd_port.specs.Refusals.{IsSaid, Says};
 ghost use Rattle.runner.specs.Filters.{FilterSays, FiltersSo};
-ghost use Rattle.runner.specs.Ports.{IfPort};
 ghost use Rattle.runner.specs.Puts.{HasNoPuts};
 ghost use Rattle.crew_tally.specs.Line.{summary};
 ghost use Rattle.runner.specs.Ends as ends;
+ghost use Rattle.runner.specs.Tools.{AreToolsRun, HasNoTools, HasToolStatus, IfTools, IsUnstartedTold, ReadsNothing, WritesNothing};
 ghost use Rattle.runner.specs.Ends.{IsSummed};
 ghost use Rattle.cmd_standin.specs.Standin.{IsAnswered};
-ghost use Rattle.cmd_why.specs.Refusals as unprinted;
-ghost use Rattle.cmd_why.specs.Refusals.{Tells};
-ghost use Rattle.cmd_why.specs.Why.{IsWhy};
 
 use crate::inputs::run_filter;
-use cmd_call::{FAULT, Heard, Hears, ProgramCall, Terminal, call_of, tell_usage};
+use cmd_call::{
+    FAULT, Heard, Hears, ProgramCall, Terminal, call_of, tell_memory, tell_named, tell_usage,
+};
 use cmd_configure::{run_configure, run_recheck};
 use cmd_explain::{asks_why, explain_help, explain_usage};
 use cmd_help::{run_help, run_version};
-use cmd_lint::{may_colour, run_lint};
-use cmd_port::run_port;
 use cmd_status::{exit_status, run_standin, run_status};
-use cmd_why::run_why;
-use crew_refusals::Causes;
+use crew_refusals::{Cause, Causes};
 use crew_tally::{Children, Counted, Tally, summary};
 use crew_trait::Crew;
 use deftable::Bytes;
@@ -52,6 +42,7 @@ use std::io::{self, Input, IsTerminal, Read, Write};
 use std::rt::Files;
 use std::time::Instant;
 use text_controls::Shown;
+use tool_start::Tools;
 
 /// Reports that the words are no command, and says more of it if it is asked. Returns the exit
 /// status.
@@ -66,66 +57,27 @@ fn tell_unknown<E: Hears>(alloc: Global, is_asked: bool, words: &[Bytes], errors
     FAULT
 }
 
-/// Runs the command that the words name, if it is one that explains something, and returns its exit
-/// status. Any other words are reported as no command.
+/// Runs the command that the words name, if it is one that explains the program, and returns its
+/// exit status. Any other words are reported as no command.
 fn explain<D: Disk, R: Read, W: Write, E: Hears>(
     terminal: &mut Terminal<'_, D, R, W, E>,
     words: &[Bytes],
-    has_colours: bool,
 ) -> u8
-    ensures explained { IfWhy (call_of words.now) (λ asked.
-        (result ≤ 2) × (result ≢ 2 → terminal.new.errors ≡ terminal.old.errors)) }
-    ensures why { IfWhy (call_of words.now) (λ asked.
-        result ≢ 2
-        → (out : List ℕ) × IsWhy (D.known terminal.old.outputs.disk) asked out result
-        × Appends (W.contents terminal.old.output) (W.contents terminal.new.output) out) }
     ensures help { IfHelp (call_of words.now) (λ asked.
         ((result ≡ 0) ⊎ (result ≡ 2)) × (1 < length asked → result ≡ 2)
         × (result ≡ 0 → terminal.new.errors ≡ terminal.old.errors)) }
     ensures version { call_of words.now ≡ Version
         → ((result ≡ 0) ⊎ (result ≡ 2)) × (result ≡ 0 → terminal.new.errors ≡ terminal.old.errors) }
-    ensures linted { IfLint (call_of words.now) (λ asked.
-        (result ≤ 2) × (result ≢ 2 → terminal.new.errors ≡ terminal.old.errors)) }
-    ensures lint { IfLint (call_of words.now) (λ asked.
-        (list_any is_unknown asked ≡ true → result ≡ 2)
-        × (result ≢ 2 → IsStatus (D.known terminal.old.outputs.disk) asked result)) }
-    ensures ported { IfPort (call_of words.now) (λ asked.
-        (result ≤ 2)
-        × (result ≢ 2
-        → (terminal.new.errors ≡ terminal.old.errors)
-        ⊎ ((page : List ℕ)
-        × Appends (E.contents terminal.old.errors) (E.contents terminal.new.errors) page))) }
-    ensures port { IfPort (call_of words.now) (λ asked.
-        (request_of asked ≡ None → result ≡ 2)
-        × (result ≢ 2
-        → (out : List ℕ)
-        × IsAnswer (D.known terminal.old.outputs.disk) (request_of asked) out result
-        × Appends (W.contents terminal.old.output) (W.contents terminal.new.output)
-        out)) }
     ensures unknown { call_of words.now ≡ Unknown → result ≡ 2 }
-    ensures input { HasNoInput (call_of words.now) → terminal.new.input ≡ terminal.old.input }
-    ensures output { HasNoOutput (call_of words.now) → terminal.new.output ≡ terminal.old.output }
+    ensures input { terminal.new.input ≡ terminal.old.input }
+    ensures output { WritesNothing (call_of words.now)
+        → terminal.new.output ≡ terminal.old.output }
     ensures files { terminal.new.outputs ≡ terminal.old.outputs }
     ensures refused { terminal.old.is_asked ≡ false → result ≡ 2
         → TellsWhy E.contents E.has_failed terminal.old.errors terminal.new.errors
         (call_of words.now) }
-    ensures why_refused { IfWhy (call_of words.now) (λ asked.
-        result ≡ 2
-        → Tells E.contents E.has_failed terminal.old.errors terminal.new.errors (
-        unprinted.IsSaid (D.known terminal.old.outputs.disk) asked)) }
-    ensures lint_refused { IfLint (call_of words.now) (λ asked.
-        list_any is_unknown asked ≡ false
-        → (lines : List (List ℕ)) × AreSaidOf (named_by asked) lines
-        × (result ≡ 2 → lines ≢ [])
-        × AreSaid E.contents E.has_failed terminal.old.errors terminal.new.errors lines) }
-    ensures port_refused { IfPort (call_of words.now) (λ asked.
-        result ≡ 2
-        → Says E.contents E.has_failed terminal.old.errors terminal.new.errors (
-        IsSaid (D.known terminal.old.outputs.disk) (request_of asked))) }
 {
     let alloc = terminal.alloc;
-    let disk = terminal.outputs.disk();
-    let input = &mut terminal.input;
     let output = &mut terminal.output;
     let errors = &mut terminal.errors;
     match call_of(words) {
@@ -135,18 +87,29 @@ fn explain<D: Disk, R: Read, W: Write, E: Hears>(
             status
         }
         ProgramCall::Version => run_version(output, errors),
-        ProgramCall::Why(words) => run_why(alloc, disk, words, output, errors),
-        ProgramCall::Port(words) => run_port(alloc, disk, words, input, output, errors),
-        ProgramCall::Lint(words) => run_lint(
-            alloc,
-            disk,
-            words,
-            has_colours,
-            input,
-            output,
-            errors,
-        ),
         _ => tell_unknown(alloc, terminal.is_asked, words, errors),
+    }
+}
+
+/// Reports that the program of the tools can't be started, and returns the exit status.
+fn tell_unstarted<E: Hears>(cause: &Cause, errors: &mut E) -> u8
+    ensures status { result ≡ 2 }
+    ensures told { IsUnstartedTold E.contents E.has_failed errors.old errors.new }
+{
+    match cause.line() {
+        Some(line) => tell_named(errors, b"tools", line),
+        None => tell_memory(errors),
+    }
+}
+
+/// Runs the program of the tools with these words, and returns its exit status.
+fn start_tools<T: Tools, E: Hears>(words: &[Bytes], tools: &mut T, errors: &mut E) -> u8
+    ensures { AreToolsRun E.contents E.has_failed errors.old errors.new (T.starts tools.old)
+        (T.starts tools.new) words.now result }
+{
+    match tools.start(words) {
+        Ok(status) => status,
+        Err(cause) => tell_unstarted(&cause, errors),
     }
 }
 
@@ -225,20 +188,20 @@ fn recheck<D: Disk, C: Crew + Causes, R: Read, W: Write, E: Hears>(
 /// they are the command line of a compiler, which the stand-in answers. After `configure` they are
 /// the arguments of a run, which has at most one child at once, or N after `-jN`. After `status`
 /// they are the names of outputs of the run's record, which are made again; but `status --recheck`
-/// is the run again, with the arguments of its record. `lint` says what is wrong with sources,
-/// `port` rewrites one, `why` says why a check has its answer, and `help` how commands are called.
-/// There is no other command. If anything is wrong, also with the words, the status is 2 (own).
-/// `is_terminal` is whether standard output is a terminal, for colours.
+/// is the run again, with the arguments of its record. `help` says how commands are called. For
+/// `lint`, `port` and `why` the program of the tools is run with the same words, and the status is
+/// its own. There is no other command. If anything is wrong, also with the words, the status is 2
+/// (own).
 ///
 /// Each error is reported as one line on standard error. If that can't be written, only the status
 /// reports it. If the terminal's `is_asked` is true, further lines may follow such a line, which
 /// say why; otherwise none do.
-pub fn run<F: Files, D: Disk, C: Crew + Causes, R: Read, W: Write, E: Hears>(
+pub fn run<F: Files, D: Disk, C: Crew + Causes, T: Tools, R: Read, W: Write, E: Hears>(
     terminal: &mut Terminal<'_, D, R, W, E>,
     files: &F,
     words: &[Bytes],
     crew: &mut C,
-    is_terminal: bool,
+    tools: &mut T,
 ) -> u8
     requires may_run { MayRun (C.account crew.old) }
     requires fresh { terminal.old.outputs ≡ fresh terminal.old.outputs.disk }
@@ -340,69 +303,33 @@ pub fn run<F: Files, D: Disk, C: Crew + Causes, R: Read, W: Write, E: Hears>(
         IsRechecked terminal.old.env.now (C.account crew.old) (C.account crew.new)
         (D.known terminal.old.outputs.disk) (D.known terminal.new.outputs.disk) out said
         result))) }
-    // What explains something has no other status than these. Unless it is 2, `why` writes nothing
-    // on standard error.
-    ensures explained { IfWhy (call_of words.now) (λ asked.
-        (result ≤ 2) × (result ≢ 2 → terminal.new.errors ≡ terminal.old.errors)) }
-    // Then what it writes is the answer for the words, by the log or the record.
-    ensures why { IfWhy (call_of words.now) (λ asked.
-        result ≢ 2
-        → (out : List ℕ) × IsWhy (D.known terminal.old.outputs.disk) asked out result
-        × Appends (W.contents terminal.old.output) (W.contents terminal.new.output) out) }
     ensures help { IfHelp (call_of words.now) (λ asked.
         ((result ≡ 0) ⊎ (result ≡ 2)) × (1 < length asked → result ≡ 2)
         × (result ≡ 0 → terminal.new.errors ≡ terminal.old.errors)) }
     ensures version { call_of words.now ≡ Version
         → ((result ≡ 0) ⊎ (result ≡ 2)) × (result ≡ 0 → terminal.new.errors ≡ terminal.old.errors) }
-    // Unless the status of `lint` is 2, the sources that the words name were read, and it is 1
-    // exactly if one of them has an error. If an option isn't known, it is 2.
-    ensures linted { IfLint (call_of words.now) (λ asked.
-        (result ≤ 2) × (result ≢ 2 → terminal.new.errors ≡ terminal.old.errors)) }
-    ensures lint { IfLint (call_of words.now) (λ asked.
-        (list_any is_unknown asked ≡ true → result ≡ 2)
-        × (result ≢ 2 → IsStatus (D.known terminal.old.outputs.disk) asked result)) }
-    // Unless the status of `port` is 2, the source that the words name is written as it was
-    // rewritten, and it is 1 exactly if that has comments about what is left. If the words are
-    // wrong, it is 2.
-    ensures ported { IfPort (call_of words.now) (λ asked.
-        (result ≤ 2)
-        × (result ≢ 2
-        → (terminal.new.errors ≡ terminal.old.errors)
-        ⊎ ((page : List ℕ)
-        × Appends (E.contents terminal.old.errors) (E.contents terminal.new.errors) page))) }
-    ensures port { IfPort (call_of words.now) (λ asked.
-        (request_of asked ≡ None → result ≡ 2)
-        × (result ≢ 2
-        → (out : List ℕ)
-        × IsAnswer (D.known terminal.old.outputs.disk) (request_of asked) out result
-        × Appends (W.contents terminal.old.output) (W.contents terminal.new.output)
-        out)) }
     ensures unknown { call_of words.now ≡ Unknown → result ≡ 2 }
-    // Only a run starts children, only the filter, `lint` and `port` read the input, and the
-    // stand-in writes no output. Only a run, and outputs that are made again, change files through
-    // `outputs`.
+    // For `lint`, `port` and `why` the program of the tools is run once, with the same words. Its
+    // status is that of the command, and nothing is written. If it can't be started, the status is
+    // 2, and standard error has the line of the cause, or of memory. No other words run it.
+    ensures tools { IfTools (call_of words.now) (
+        AreToolsRun E.contents E.has_failed terminal.old.errors terminal.new.errors
+        (T.starts tools.old) (T.starts tools.new) words.now result) }
+    ensures untooled { HasNoTools (call_of words.now) → tools.new ≡ tools.old }
+    // Only a run starts children, and only the filter reads the input. The stand-in writes no
+    // output, and where the tools are run nothing is written here. Only a run, and outputs that are
+    // made again, change files through `outputs`.
     ensures crew { HasNoRun (call_of words.now) → crew.new ≡ crew.old }
-    ensures input { HasNoInput (call_of words.now) → terminal.new.input ≡ terminal.old.input }
-    ensures output { HasNoOutput (call_of words.now) → terminal.new.output ≡ terminal.old.output }
+    ensures input { ReadsNothing (call_of words.now)
+        → terminal.new.input ≡ terminal.old.input }
+    ensures output { WritesNothing (call_of words.now)
+        → terminal.new.output ≡ terminal.old.output }
     ensures files { HasNoPuts (call_of words.now) → terminal.new.outputs ≡ terminal.old.outputs }
     // If it isn't asked why, a refusal is told, unless standard error failed: what refuses is one of
     // these, and standard error has its line, and nothing more.
     ensures refused { terminal.old.is_asked ≡ false → result ≡ 2
         → TellsWhy E.contents E.has_failed terminal.old.errors terminal.new.errors
         (call_of words.now) }
-    ensures why_refused { IfWhy (call_of words.now) (λ asked.
-        result ≡ 2
-        → Tells E.contents E.has_failed terminal.old.errors terminal.new.errors (
-        unprinted.IsSaid (D.known terminal.old.outputs.disk) asked)) }
-    ensures lint_refused { IfLint (call_of words.now) (λ asked.
-        list_any is_unknown asked ≡ false
-        → (lines : List (List ℕ)) × AreSaidOf (named_by asked) lines
-        × (result ≡ 2 → lines ≢ [])
-        × AreSaid E.contents E.has_failed terminal.old.errors terminal.new.errors lines) }
-    ensures port_refused { IfPort (call_of words.now) (λ asked.
-        result ≡ 2
-        → Says E.contents E.has_failed terminal.old.errors terminal.new.errors (
-        IsSaid (D.known terminal.old.outputs.disk) (request_of asked))) }
     ensures filter_refused { IfFilter (call_of words.now) (
         terminal.old.is_asked ≡ false → result ≡ 2
         → FilterSays E.contents E.has_failed terminal.old.errors terminal.new.errors
@@ -435,21 +362,10 @@ pub fn run<F: Files, D: Disk, C: Crew + Causes, R: Read, W: Write, E: Hears>(
         ProgramCall::Configure(window, args) => configure(terminal, window, args, crew),
         ProgramCall::Status(tags) => run_status(terminal, tags),
         ProgramCall::Recheck => recheck(terminal, crew),
-        _ => {
-            let has_colours = may_colour(terminal.env, is_terminal);
-            explain(terminal, words, has_colours)
-        }
-    }
-}
-
-/// Returns whether control bytes are to be shown on standard output if it is a terminal. What
-/// `lint` prints shows them itself, and may have colours.
-fn shows_output(words: &[Bytes]) -> bool
-    ensures { result ≡ ends.shows_output (call_of words.now) }
-{
-    match call_of(words) {
-        ProgramCall::Lint(_) => false,
-        _ => true,
+        ProgramCall::Lint(_) => start_tools(words, tools, &mut terminal.errors),
+        ProgramCall::Port(_) => start_tools(words, tools, &mut terminal.errors),
+        ProgramCall::Why(_) => start_tools(words, tools, &mut terminal.errors),
+        _ => explain(terminal, words),
     }
 }
 
@@ -525,12 +441,13 @@ fn put_line<E: Hears>(line: &Option<Vec<u8>>, errors: &mut E)
 /// asked for if standard error is a terminal, or if the environment has an ACRUN_WHY that isn't
 /// empty. If standard error is a terminal, the last line of a run that made a check sums it up
 /// (own).
-pub fn command<C: Crew + Causes + Children>(
+pub fn command<C: Crew + Causes + Children, T: Tools>(
     rt: HostRuntime,
     alloc: Global,
     words: &[Bytes],
     env: &[(Bytes, Bytes)],
     crew: &mut C,
+    tools: &mut T,
 ) -> u8
     requires may_run { MayRun (C.account crew.old) }
     // What [`run`] says, but for what only known streams and files can show.
@@ -564,25 +481,18 @@ pub fn command<C: Crew + Causes + Children>(
         ((out : List ℕ) × (said : List (List ℕ))
         × IsRechecked env.now (C.account crew.old) (C.account crew.new) None None out said
         result)) }
-    ensures explained { IfWhy (call_of words.now) (λ asked. result ≤ 2) }
-    ensures why { IfWhy (call_of words.now) (λ asked.
-        result ≢ 2 → (out : List ℕ) × IsWhy None asked out result) }
     ensures help { IfHelp (call_of words.now) (λ asked.
         ((result ≡ 0) ⊎ (result ≡ 2)) × (1 < length asked → result ≡ 2)) }
     ensures version { call_of words.now ≡ Version → (result ≡ 0) ⊎ (result ≡ 2) }
-    ensures lint { IfLint (call_of words.now) (λ asked.
-        (result ≤ 2) × (list_any is_unknown asked ≡ true → result ≡ 2)
-        × (result ≢ 2 → IsStatus None asked result)) }
-    ensures port { IfPort (call_of words.now) (λ asked.
-        (result ≤ 2) × (request_of asked ≡ None → result ≡ 2)
-        × (result ≢ 2 → (out : List ℕ) × IsAnswer None (request_of asked) out result)) }
     ensures unknown { call_of words.now ≡ Unknown → result ≡ 2 }
+    ensures tools { IfTools (call_of words.now) (
+        HasToolStatus (T.starts tools.old) (T.starts tools.new) words.now result) }
+    ensures untooled { HasNoTools (call_of words.now) → tools.new ≡ tools.old }
     ensures crew { HasNoRun (call_of words.now) → crew.new ≡ crew.old }
     ensures idle { IsIdle (C.account crew.new).events }
 {
     let is_seen = rt.stderr().is_terminal();
-    let is_terminal = rt.stdout().is_terminal();
-    let is_shown = is_terminal && shows_output(words);
+    let is_shown = rt.stdout().is_terminal();
     let is_summed = is_seen && asks_run(words);
     let begun = Instant::now(&rt);
     let mut terminal = Terminal {
@@ -597,7 +507,7 @@ pub fn command<C: Crew + Causes + Children>(
         ),
         errors: Heard::new(Shown::new(Patient::new(rt.stderr(), &rt), is_seen)),
     };
-    let status = run(&mut terminal, &rt, words, crew, is_terminal);
+    let status = run(&mut terminal, &rt, words, crew, tools);
     let tally = terminal.output.tally();
     let children = crew.children();
     let _ = sum_up(&rt, alloc, &begun, &tally, children, &mut terminal.errors);

@@ -4,16 +4,18 @@ ghost use Rattle.proberun.specs.Ran.{MayRun};
 
 use crew::{Crew, MemoryCrew, Order, ProcessCrew};
 use crew_progress::{Showing, Watched};
-use crew_refusals::Causes;
+use crew_refusals::{Cause, Causes};
 use crew_tally::Children;
 use deftable::Bytes;
 use file_disk::Host;
 use file_texts::FileOutputs;
 use runner::{Heard, Terminal, asks_why, command, run};
+use std::alloc::Global;
 use std::fs::File;
 use std::io::{Read, Write};
 use test_rows::Page;
 use test_runs::given::{entries_of, replies_in};
+use tool_start::Tools;
 
 /// What a command is given besides its words.
 #[derive(Clone, Copy)]
@@ -48,6 +50,21 @@ pub const NOTHING: Around<'static> = Around {
     is_watched: false,
 };
 
+/// In place of the program of the tools: its status is the number of its words, and it can't be
+/// started with fewer than two.
+struct Counting {
+    alloc: Global,
+}
+
+impl Tools for Counting {
+    fn start(&mut self, words: &[Bytes]) -> Result<u8, Cause> {
+        match u8::try_from(words.len()) {
+            Ok(count) if count > 1 => Ok(count),
+            _ => Err(Cause::of_words(self.alloc, b"acrun-tools", b"too few words")),
+        }
+    }
+}
+
 /// Returns the exit status of the program over a crew. It promises nothing, so that its callers
 /// don't see the long contract of the command.
 pub fn status_over<C: Crew + Causes, R: Read, W: Write, E: Write>(
@@ -70,7 +87,13 @@ pub fn status_over<C: Crew + Causes, R: Read, W: Write, E: Write>(
         output,
         errors: Heard::new(errors),
     };
-    run(&mut terminal, rt, words, crew, false)
+    run(
+        &mut terminal,
+        rt,
+        words,
+        crew,
+        &mut Counting { alloc: rt.alloc() },
+    )
 }
 
 /// Returns the exit status of the whole program over a crew, on the streams of the process.
@@ -83,7 +106,14 @@ pub fn command_over<C: Crew + Causes + Children>(
     requires may_run { MayRun (C.account crew.old) }
 {
     match rt.clone() {
-        Ok(own) => command(own, rt.alloc(), words, env, crew),
+        Ok(own) => command(
+            own,
+            rt.alloc(),
+            words,
+            env,
+            crew,
+            &mut Counting { alloc: rt.alloc() },
+        ),
         Err(_) => 2,
     }
 }

@@ -1,0 +1,114 @@
+//! The commands of the tools, over files in a directory.
+
+use cmd_call::{Heard, Terminal};
+use file_disk::Host;
+use file_texts::FileOutputs;
+use std::fs;
+use std::test::Fail;
+use test_crews::texts::words_of;
+use test_rows::{Page, RowCall, cut, try_rows_in};
+use tools_runner::run;
+
+/// The words with commas between them, the input, and the text of `configure.ac`, with semicolons
+/// between them: the exit status, standard output and standard error. An empty text is no file.
+const COMMANDS: &[u8] = b"
+// each command by its name
+lint;;AC_INIT([x],[1])^JAC_OUTPUT^J => 0[no errors and no warnings in ./configure.ac^J][]
+lint,-;AC_INIT([x],[1])^JAC_OUTPUT^J; => 0[no errors and no warnings in standard input^J][]
+lint; => 2[][acrun: file ./configure.ac^J]
+lint,--bad;;AC_INIT([x],[1])^JAC_OUTPUT^J => 2[][acrun: usage^J]
+port;;AC_INIT([x],[1])^JAC_OUTPUT^J => 0[AC_INIT([x],[1])^JAC_OUTPUT^J][]
+port,-;AC_INIT([x],[1])^JAC_HEADER_STDC^JAC_OUTPUT^J; => 0[AC_INIT([x],[1])^JAC_HEADER_STDC^JAC_OUTPUT^J][]
+port; => 2[][acrun: file ./configure.ac^J]
+port,a,b; => 2[][acrun: usage^J]
+why; => 2[][acrun: file config.status^J]
+why,a; => 2[][acrun: file config.log^J]
+why,a,b,c; => 2[][acrun: usage^J]
+--version; => 0[acrun 0.1.0^J][]
+help,help; => 0[Usage: acrun help [COMMAND]^J^JPrints the commands, or how COMMAND is called.^J][]
+help,a; => 2[][acrun: usage^J]
+help,a,b; => 2[][acrun: usage^J]
+// the commands of the other program, and none
+configure; => 2[][acrun: usage^J]
+-j2,configure; => 2[][acrun: usage^J]
+status; => 2[][acrun: usage^J]
+status,--recheck; => 2[][acrun: usage^J]
+standin,-c,a.c; => 2[][acrun: usage^J]
+;AC_INIT([x],[1])^JAC_OUTPUT^J%%^J; => 2[][acrun: usage^J]
+nothing; => 2[][acrun: usage^J]
+--acrun=0.1.0,lint; => 2[][acrun: usage^J]
+";
+
+/// The words with commas between them: the exit status, standard output and standard error, over a
+/// log of more than a mebibyte.
+const LONG: &[u8] = b"
+why,a.h => 0[checking for a.h... yes^Jchild 2:^J$ cc -c conftest2.c^Jstatus 0^J][]
+";
+
+#[derive(Drop)]
+struct Commands<'a>(&'a HostRuntime);
+
+/// Puts what the commands do with these words and this input.
+fn put_run(page: &mut Page, rt: &HostRuntime, words: &[u8], input: &[u8]) {
+    let words = words_of(page, words);
+    let mut output = Vec::new(page.alloc());
+    let mut errors = Vec::new(page.alloc());
+    let mut input = input;
+    let mut terminal = Terminal {
+        alloc: rt.alloc(),
+        is_asked: false,
+        env: &[],
+        outputs: FileOutputs::new(rt.alloc(), Host::new(rt)),
+        input: &mut input,
+        output: &mut output,
+        errors: Heard::new(&mut errors),
+    };
+    let status = run(&mut terminal, words.as_slice(), false);
+    page.put_number(usize::from(status));
+    page.put_text(output.as_slice());
+    page.put_text(errors.as_slice());
+}
+
+/// Writes a file, or removes it if it has no text.
+fn put_file(page: &mut Page, rt: &HostRuntime, name: &str, text: &[u8]) {
+    if text.is_empty() {
+        let _ = fs::remove_file(rt, name);
+    } else if fs::write(rt, name, text).is_err() {
+        page.put(b"no file");
+    }
+}
+
+impl RowCall for Commands<'_> {
+    fn put(&self, page: &mut Page, given: &[u8]) {
+        let (words, rest) = cut(given, b";");
+        let (input, source) = cut(rest, b";");
+        put_file(page, self.0, "configure.ac", source);
+        put_run(page, self.0, words, input);
+    }
+}
+
+#[derive(Drop)]
+struct Long<'a>(&'a HostRuntime);
+
+impl RowCall for Long<'_> {
+    fn put(&self, page: &mut Page, given: &[u8]) {
+        let mut log = Page::new(page.alloc());
+        log.put(b"checking for b.h... \n$ cc -c conftest1.c\n");
+        for _ in 0..524_290 {
+            log.put(b"x\n");
+        }
+        log.put(b"status 1\nno\nchecking for a.h... \n$ cc -c conftest2.c\nstatus 0\nyes\n");
+        put_file(page, self.0, "config.log", log.text());
+        put_run(page, self.0, given, b"");
+    }
+}
+
+#[test]
+fn commands_by_their_words(rt: HostRuntime) -> Result<(), Fail> {
+    try_rows_in(&rt, "commands_by_their_words", &Commands(&rt), COMMANDS)
+}
+
+#[test]
+fn a_log_of_a_mebibyte_is_read_whole(rt: HostRuntime) -> Result<(), Fail> {
+    try_rows_in(&rt, "a_log_of_a_mebibyte_is_read_whole", &Long(&rt), LONG)
+}

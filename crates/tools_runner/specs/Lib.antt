@@ -1,0 +1,4 @@
+pub mod Ends
+pub mod Ports
+pub mod Refusals
+pub mod Words
