@@ -51,6 +51,7 @@ demo: all
 	@sh examples/help/run.sh out/acrun
 	@sh examples/lint/run.sh out/acrun
 	@sh examples/port/run.sh out/acrun
+	@sh examples/tools/run.sh out/acrun
 	@sh examples/exact/run.sh out/acrun
 	@sh examples/completions/run.sh out/acrun
 	@sh examples/wrapper/run.sh
@@ -97,13 +98,15 @@ install-files:
 	install -m 755 share/configure "$(DESTDIR)$(datadir)/acrun/configure"
 	install -m 644 share/acrun.1 "$(DESTDIR)$(mandir)/man1/acrun.1"
 	install -m 644 share/acrun-compare.1 "$(DESTDIR)$(mandir)/man1/acrun-compare.1"
+	[ -z "$(tools)" ] || install -m 644 share/acrun-tools.1 "$(DESTDIR)$(mandir)/man1/acrun-tools.1"
 	install -m 644 share/completions/acrun.bash "$(DESTDIR)$(bashdir)/acrun"
 	install -m 644 share/completions/_acrun "$(DESTDIR)$(zshdir)/_acrun"
 	install -m 644 share/completions/acrun.fish "$(DESTDIR)$(fishdir)/acrun.fish"
 	install -m 644 share/macros.acrun "$(DESTDIR)$(rpmmacrodir)/macros.acrun"
 
 uninstall:
-	rm -f "$(DESTDIR)$(bindir)/acrun" "$(DESTDIR)$(bindir)/acrun-tools" "$(DESTDIR)$(datadir)/acrun/configure" "$(DESTDIR)$(mandir)/man1/acrun.1"
+	rm -f "$(DESTDIR)$(bindir)/acrun" "$(DESTDIR)$(datadir)/acrun/configure" "$(DESTDIR)$(mandir)/man1/acrun.1"
+	rm -f "$(DESTDIR)$(bindir)/acrun-tools" "$(DESTDIR)$(mandir)/man1/acrun-tools.1"
 	rm -f "$(DESTDIR)$(bindir)/acrun-compare" "$(DESTDIR)$(mandir)/man1/acrun-compare.1"
 	rm -f "$(DESTDIR)$(bashdir)/acrun" "$(DESTDIR)$(zshdir)/_acrun" "$(DESTDIR)$(fishdir)/acrun.fish"
 	rm -f "$(DESTDIR)$(rpmmacrodir)/macros.acrun"
