@@ -1,6 +1,7 @@
 # make try      configures examples/tally before any proof, in three minutes
-# make          proves the crates that the program stands on, then builds it as out/acrun
-# make demo     the same, and runs it on the examples
+# make          proves the crates that the programs stand on, then builds out/acrun and out/acrun-tools
+# make core     the same for out/acrun alone: without acrun-tools beside it, it has no lint, port and why
+# make demo     as make, and runs the programs on the examples
 # make ports    configures, builds and tests packages of Debian, which it fetches, some by debhelper, and one by rpmbuild; it says what it skips
 # make compile  tries sample conftests with a real compiler, the one that CC names
 # make check    the gate: every proof, every test, every must-fail edit, each allocation refused, and the checks of tools/repository.py
@@ -8,9 +9,9 @@
 # make edits    tries the wrong bodies of every crate, or of those that NAMES names: make edits NAMES="crew plan"
 # make edits-test  tries the script that does it
 # make plants   tries the wrong bodies that tests alone refuse, of every crate, or of those that NAMES names
-# make install  puts the program, acrun-compare, the manual pages, completions, share/configure and macros of rpm below $(DESTDIR)$(prefix)
+# make install  puts the programs, acrun-compare, the manual pages, completions, share/configure and macros of rpm below $(DESTDIR)$(prefix)
 # make uninstall  removes them
-# make dist     makes an archive of the program for machines without the toolchain, out/acrun-VERSION-x86_64-linux.tar.gz
+# make dist     makes an archive of the programs for machines without the toolchain, out/acrun-VERSION-x86_64-linux.tar.gz
 # make deb      makes a Debian package of the same files, with a build system and an add-on of debhelper
 
 prefix = /usr/local
@@ -22,13 +23,17 @@ zshdir = $(datadir)/zsh/site-functions
 fishdir = $(datadir)/fish/vendor_completions.d
 # rpm looks in /usr/lib/rpm/macros.d.
 rpmmacrodir = $(prefix)/lib/rpm/macros.d
-# The program that is installed.
+# The programs that are installed. If `tools` is empty, acrun is installed without acrun-tools.
 program = out/acrun
+tools = $$(dirname "$(program)")/acrun-tools
 
-.PHONY: all try demo ports compile check proofs edits edits-test plants install install-files uninstall dist deb
+.PHONY: all core try demo ports compile check proofs edits edits-test plants install install-files uninstall dist deb
 
 # tools/build.sh looks at what has changed, and builds nothing anew if nothing has.
 all:
+	@sh tools/build.sh acrun acrun_tools
+
+core:
 	@sh tools/build.sh acrun
 
 try:
@@ -46,6 +51,7 @@ demo: all
 	@sh examples/help/run.sh out/acrun
 	@sh examples/lint/run.sh out/acrun
 	@sh examples/port/run.sh out/acrun
+	@sh examples/tools/run.sh out/acrun
 	@sh examples/exact/run.sh out/acrun
 	@sh examples/completions/run.sh out/acrun
 	@sh examples/wrapper/run.sh
@@ -87,10 +93,12 @@ install-files:
 	mkdir -p "$(DESTDIR)$(bindir)" "$(DESTDIR)$(mandir)/man1" "$(DESTDIR)$(datadir)/acrun" "$(DESTDIR)$(bashdir)" "$(DESTDIR)$(zshdir)" "$(DESTDIR)$(fishdir)"
 	mkdir -p "$(DESTDIR)$(rpmmacrodir)"
 	install -m 755 "$(program)" "$(DESTDIR)$(bindir)/acrun"
+	[ -z "$(tools)" ] || install -m 755 "$(tools)" "$(DESTDIR)$(bindir)/acrun-tools"
 	install -m 755 share/acrun-compare "$(DESTDIR)$(bindir)/acrun-compare"
 	install -m 755 share/configure "$(DESTDIR)$(datadir)/acrun/configure"
 	install -m 644 share/acrun.1 "$(DESTDIR)$(mandir)/man1/acrun.1"
 	install -m 644 share/acrun-compare.1 "$(DESTDIR)$(mandir)/man1/acrun-compare.1"
+	[ -z "$(tools)" ] || install -m 644 share/acrun-tools.1 "$(DESTDIR)$(mandir)/man1/acrun-tools.1"
 	install -m 644 share/completions/acrun.bash "$(DESTDIR)$(bashdir)/acrun"
 	install -m 644 share/completions/_acrun "$(DESTDIR)$(zshdir)/_acrun"
 	install -m 644 share/completions/acrun.fish "$(DESTDIR)$(fishdir)/acrun.fish"
@@ -98,6 +106,7 @@ install-files:
 
 uninstall:
 	rm -f "$(DESTDIR)$(bindir)/acrun" "$(DESTDIR)$(datadir)/acrun/configure" "$(DESTDIR)$(mandir)/man1/acrun.1"
+	rm -f "$(DESTDIR)$(bindir)/acrun-tools" "$(DESTDIR)$(mandir)/man1/acrun-tools.1"
 	rm -f "$(DESTDIR)$(bindir)/acrun-compare" "$(DESTDIR)$(mandir)/man1/acrun-compare.1"
 	rm -f "$(DESTDIR)$(bashdir)/acrun" "$(DESTDIR)$(zshdir)/_acrun" "$(DESTDIR)$(fishdir)/acrun.fish"
 	rm -f "$(DESTDIR)$(rpmmacrodir)/macros.acrun"

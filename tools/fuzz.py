@@ -376,7 +376,7 @@ FAULTS = {
     "status": rb"record (?:[14]|[25] at \d+|3)|tag \d+|template [^\n]+|put \d+|file config\.status|usage",
     "recheck": PARSE + rb"|option [1-5] at \d+|cache [12] at \d+|cache 3|precious [123] [^\n]+|template [^\n]+|put \d+"
                rb"|record (?:[14]|[25] at \d+|3)|recheck|file (?s:.*)configure\.ac|file config\.(?:log|status)",
-    "words": rb"usage|file \./configure\.ac|file config\.status|file [^\n]+",
+    "words": rb"usage|tools [^\n]+|file \./configure\.ac|file config\.status|file [^\n]+",
 }
 FAULTS = {kind: re.compile(rb"acrun: (?:" + it + rb")\n\Z") for kind, it in FAULTS.items()}
 NOTHING_WRITTEN = re.compile(
@@ -401,7 +401,8 @@ class Room:
 
     def __init__(self, bin_directory, most_seconds):
         self.program, self.most_seconds = os.path.join(bin_directory, "acrun"), most_seconds
-        self.other = os.path.join(bin_directory, "other") if os.path.exists(os.path.join(bin_directory, "other")) else None
+        other = os.path.join(bin_directory, "other/acrun")
+        self.other = other if os.path.exists(other) else None
         self.outer = pathlib.Path(tempfile.mkdtemp(prefix="fuzz-", dir="/dev/shm" if os.path.isdir("/dev/shm") else None))
         self.inner = self.outer / "run"
         for name, text in AROUND.items():
@@ -796,6 +797,17 @@ def rerun(room, it, program):
     return room.run(words_of(it, it.window), it.given, program)
 
 
+def copy_programs(program, directory):
+    """Copies acrun, and the acrun-tools beside it if there is one, into a directory that each user may read."""
+    os.makedirs(directory, exist_ok=True)
+    os.chmod(directory, 0o755)
+    tools = os.path.join(os.path.dirname(os.path.realpath(program)), "acrun-tools")
+    for name, file in (("acrun", program), ("acrun-tools", tools)):
+        if name == "acrun" or os.path.exists(file):
+            shutil.copy(file, os.path.join(directory, name))
+            os.chmod(os.path.join(directory, name), 0o755)
+
+
 def main():
     parser = argparse.ArgumentParser()
     parser.add_argument("program")
@@ -811,11 +823,9 @@ def main():
     arguments = parser.parse_args()
     corpus = Corpus()
     with tempfile.TemporaryDirectory() as bin_directory:
-        os.chmod(bin_directory, 0o755)
-        for name, program in (("acrun", arguments.program), ("other", arguments.other)):
+        for directory, program in ((bin_directory, arguments.program), (os.path.join(bin_directory, "other"), arguments.other)):
             if program:
-                shutil.copy(program, os.path.join(bin_directory, name))
-                os.chmod(os.path.join(bin_directory, name), 0o755)
+                copy_programs(program, directory)
         os.symlink(os.path.realpath(shutil.which("sh")), os.path.join(bin_directory, "sh"))
         number = arguments.replay if arguments.replay is not None else arguments.minimize
         if number is not None:

@@ -28,7 +28,7 @@ WORDS = [b"sys/stat.h", b"HAVE_SYS_STAT_H", b"ac_cv_func_getline", b"HAVE_DECL_S
 ARGS = [b"-C", b"--config-cache", b"--cache-file=config.cache", b"--cache-file", b"config.cache", b"--cache-file=", b"--cache-file=.", b"--prefix",
         b"ac_cv_header_sys_stat_h=no", b"ac_cv_func_getline=a b", b"ac_cv_lib_z_inflate=", b"-q", b"=", b"", b"\\n", b"\xff=\xff"]
 SET = [b"ac_cv_header_sys_stat_h", b"ac_cv_func_getline", b"ac_cv_type_size_t", b"ac_cv_have_decl_strlcpy", b"ac_cv_func_", b"x", b""]
-FAULT = re.compile(rb"acrun: (usage|memory|file .*|log .*)\n", re.S)
+FAULT = re.compile(rb"acrun: (usage|memory|tools .*|file .*|log .*)\n", re.S)
 
 
 def message(pick):

@@ -1,8 +1,9 @@
 #!/usr/bin/env python3
 """The gate, `make check`: `rt ci`, then what no proof sees of the repository (`repository.py`), what comes of memory that runs out
-at each allocation (`refuse_each.py`), and runs of the built program: over children that are it too (`examples/standin`), on a
-terminal (`try_terminal.py`), with errors (`examples/errors` and the examples of docs/errors.md), and of the commands whose words no
-clause has (`examples/help`, `examples/lint` and `examples/port`).
+at each allocation (`refuse_each.py`), and runs of the built programs: over children that are acrun too (`examples/standin`), on a
+terminal (`try_terminal.py`), with errors (`examples/errors` and the examples of docs/errors.md), of the commands whose words no clause
+has (`examples/help`, `examples/lint` and `examples/port`), and of acrun with other programs in the place of acrun-tools
+(`examples/tools`).
 
   gate.py            the gate
   gate.py --proofs   proves all crates and their tests, without the must-fail edits, in a room. What it proves is kept on this
@@ -27,6 +28,8 @@ import machine
 import refuse_each
 import repository
 
+# The built programs, beside each other.
+PROGRAMS = pathlib.Path("out/programs")
 COUNTS = re.compile(r"(\d+) passed, (\d+) failed\s*\Z")
 
 
@@ -57,17 +60,30 @@ def prove_in_room():
     return prove(room)
 
 
+def gather():
+    """Puts the programs that `rt ci` built into one directory, since acrun starts the acrun-tools beside it."""
+    shutil.rmtree(PROGRAMS, ignore_errors=True)
+    PROGRAMS.mkdir(parents=True)
+    for crate, name in {"acrun": "acrun", "acrun_tools": "acrun-tools", "tests_cases": "tests_cases"}.items():
+        built = pathlib.Path("crates", crate, "out", crate)
+        if built.exists():
+            shutil.copy(built, PROGRAMS / name)
+        else:
+            print(f"gate: there is no {built}", flush=True)
+
+
 def tried(*command):
-    """Tries the program that `rt ci` built by a command, and returns how many checks passed and failed."""
-    done = subprocess.run([*command, "crates/acrun/out/acrun"], stdin=subprocess.DEVNULL)
+    """Tries the programs by a command, and returns how many checks passed and failed."""
+    done = subprocess.run([*command, PROGRAMS / "acrun"], stdin=subprocess.DEVNULL)
     return int(done.returncode == 0), int(done.returncode != 0)
 
 
 def examples():
-    """Tries the program as the compiler of its own runs, on a terminal, with errors, and in commands that explain something."""
+    """Tries acrun as the compiler of its own runs, on a terminal, with errors, in commands that explain something, and with other tools."""
+    gather()
     for name in ("terminal", "errors"):
         yield tried(sys.executable, f"tools/try_{name}.py")
-    for name in ("standin", "help", "errors", "lint", "port"):
+    for name in ("standin", "help", "errors", "lint", "port", "tools"):
         yield tried("sh", f"examples/{name}/run.sh")
 
 

@@ -127,7 +127,7 @@ def document():
 def heads_of_code():
     """Returns what error lines begin with, as far as the code spells it."""
     found = {shown for crate, enum in LINES for _, shown, _ in variants(crate, enum)} | {"memory"}
-    for file in CRATES.glob("cmd_*/src/*.rt"):
+    for file in (it for front in ("cmd_*", "*runner") for it in CRATES.glob(f"{front}/src/*.rt")):
         text = re.sub(r"(?m)//.*$", "", file.read_text())
         found |= {*re.findall(r'tell_(?:named|numbered|spot)\(\s*errors,\s*[&b]"([^"]*)"', text)}
         found |= {*re.findall(r'write!\(errors, "acrun: ([^"]*)\\n"', text)}

@@ -1,13 +1,14 @@
 #!/bin/sh
-# Makes an archive or a Debian package of out/acrun, for machines without the toolchain.
+# Makes an archive or a Debian package of out/acrun and out/acrun-tools, for machines without the toolchain.
 #   package.sh dist [PROGRAM [DIRECTORY]]    out/acrun-VERSION-x86_64-linux.tar.gz
 #   package.sh deb [PROGRAM [DIRECTORY]]     out/acrun_VERSION_amd64.deb
-# Another program than out/acrun, and another directory than out, are for trials.
-# The same commit, program and tools give the same bytes, in any directory and at any time, whoever makes it and with any umask. The time
-# of each file is that of the last commit, or SOURCE_DATE_EPOCH.
+# Another program than out/acrun, with its acrun-tools beside it, and another directory than out, are for trials.
+# The same commit, programs and tools of the machine give the same bytes, in any directory and at any time, whoever makes it and with any
+# umask. The time of each file is that of the last commit, or SOURCE_DATE_EPOCH.
 set -e
 kind=$1
 program=${2-out/acrun}
+tools=$(dirname "$program")/acrun-tools
 out=${3-out}
 version=$(sed -n 's/^pub const VERSION: &str = "\(.*\)";$/\1/p' crates/cmd_help/src/texts.rt)
 [ -n "$version" ] || { echo 'package.sh: crates/cmd_help/src/texts.rt names no version' >&2; exit 2; }
@@ -16,9 +17,9 @@ export SOURCE_DATE_EPOCH
 folder=$(mktemp -d)
 trap 'rm -rf "$folder"' EXIT
 
-# The oldest version of the C library that has all that the program asks of it.
+# The oldest version of the C library that has all that the programs ask of it.
 glibc() {
-    LC_ALL=C objdump -T "$program" | sed -n 's/.*GLIBC_\([0-9][0-9.]*\).*/\1/p' | sort -t. -k1,1n -k2,2n -k3,3n | tail -1
+    LC_ALL=C objdump -T "$program" "$tools" | sed -n 's/.*GLIBC_\([0-9][0-9.]*\).*/\1/p' | sort -t. -k1,1n -k2,2n -k3,3n | tail -1
 }
 
 # The KiB that the package takes, whatever the file system: each file rounded up, and one for each directory.
@@ -56,7 +57,7 @@ make_deb() {
     MAKEFLAGS='' make -s install-files DESTDIR="$folder" prefix=/usr program="$program"
     mkdir -p "$share/perl5/Debian"
     cp -R share/debhelper "$share/perl5/Debian/Debhelper"
-    strip --strip-unneeded --remove-section=.comment --remove-section=.note "$folder/usr/bin/acrun"
+    strip --strip-unneeded --remove-section=.comment --remove-section=.note "$folder/usr/bin/acrun" "$folder/usr/bin/acrun-tools"
     mkdir -p "$share/doc/acrun" "$folder/DEBIAN"
     cp -R README.md CONTRIBUTING.md docs "$share/doc/acrun"
     cp LICENSE "$share/doc/acrun/copyright"

@@ -150,7 +150,7 @@ def sentences_that_name_nothing():
 
 
 def unnamed_crates():
-    """The document that lists the crates lacks one, or its picture lacks one that the program stands on."""
+    """The document that lists the crates lacks one, or its picture lacks one that a program stands on."""
     file = pathlib.Path("docs/architecture.md")
     text = file.read_text()
     picture = text.partition("## The way of a text")[2].partition("\n## ")[0]
@@ -158,7 +158,8 @@ def unnamed_crates():
     for crate in uses:
         if f"`{crate}`" not in text:
             yield f"{file} does not name the crate {crate}"
-    for crate in sorted({"acrun", *below("acrun", uses)}):
+    programs = [it for it in ("acrun", "acrun_tools") if it in uses]
+    for crate in sorted({*programs, *(under for it in programs for under in below(it, uses))}):
         if not re.search(rf"\b{crate}\b", picture):
             yield f"the picture of {file} lacks the crate {crate}"
 

@@ -36,4 +36,4 @@ echo '--- its output'
 printed 2-filter
 echo
 echo 'The files that it created for tally are gone with the directory that `rt try` runs it in. `make demo` shows them in use: it builds'
-echo 'tally with them, and tests it. Next: `make` proves acrun and builds out/acrun.'
+echo 'tally with them, and tests it. Next: `make` proves acrun and acrun-tools, and builds them.'

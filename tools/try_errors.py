@@ -10,6 +10,7 @@ numbers go up by one. In a code `a0 a1 .. aN` are N + 1 words.
 import os
 import pathlib
 import re
+import shutil
 import subprocess
 import sys
 import tempfile
@@ -60,6 +61,13 @@ def wanted(kind, number, place):
     return f"{kind} {number} at {place}" if place else f"{kind} {number}"
 
 
+def said_alone(program):
+    """Returns the first line of an error that an acrun without acrun-tools prints, without its directory."""
+    with tempfile.TemporaryDirectory() as folder:
+        copy = shutil.copy(program, f"{os.path.realpath(folder)}/acrun")
+        return said(copy, {}, ["lint"]).replace(os.path.dirname(copy), "..")
+
+
 def tried(program):
     """Yields what is tried, the error line of its row, and that of the program."""
     plain = {"configure.ac": "AC_INIT([x],[1])\nAC_PROG_CC\nAC_OUTPUT\n"}
@@ -78,6 +86,10 @@ def tried(program):
         marks = "".join(f"{it}\n" for it in re.findall(r"`([^`]*)`", cell))
         words = [f"CC={now.strip('`')}"] if now != "unset" else []
         yield cell, f"precious {number} CC", said(program, {**plain, "config.cache": marks}, ["configure", "-C", *words])
+    yield "no acrun-tools beside acrun", "tools ../acrun-tools: No such file or directory", said_alone(program)
+    tools = f"{os.path.dirname(program)}/acrun-tools"
+    yield "acrun-tools of another version", "tools acrun-tools: another version", said(tools, {}, ["--acrun=0", "lint"])
+    yield "a word that isn't UTF-8", "tools \ufffd: not UTF-8", said(program, {}, ["lint", b"\xff"])
     for number, _, cell, place in rows("Errors of a record"):
         yield cell, wanted("record", number, place), said(program, {"config.status": example(cell)}, ["status"])
 

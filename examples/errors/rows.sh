@@ -7,6 +7,7 @@ new 'a word after a command'; ac; row help cofigure
 new 'an option that lint does not have'; ac; row lint --jsn
 new 'two sources for port'; ac; row port a b
 new 'help of a command'; ac; row lint --help
+new 'no acrun-tools beside acrun'; ac; alone lint
 new 'too many children'; ac; row -j17 configure
 new 'no children'; ac; row -j0 configure
 new 'children without a command'; ac; row -j4

@@ -52,8 +52,8 @@ once() {
     )
 }
 
-# shown: what a run said
-shown() { sed 's/^/    /' "$folder/err"; sed 's/^/    /' "$folder/status"; }
+# shown: what a run said, without the directory that is another one each time
+shown() { sed "s/^/    /; s|$folder/|/|g" "$folder/err"; sed 's/^/    /' "$folder/status"; }
 
 # all PROGRAM WORD..: what a run without ACRUN_WHY says and leaves
 all() {
@@ -87,6 +87,14 @@ row() {
     once "$program" 1 "$@"
     echo "  \$ ACRUN_WHY=1 acrun $*"
     shown
+}
+
+# alone WORD..: as row, with an acrun that has no acrun-tools beside it
+alone() {
+    [ -z "$other" ] || return
+    with_tools=$program program=$folder/alone/acrun
+    mkdir -p "$folder/alone" && cp "$with_tools" "$program" && row "$@"
+    program=$with_tools
 }
 
 # built WORD..: the log of a build that calls share/configure with these words, after those of dh_auto_configure

@@ -3,7 +3,7 @@
 # removes. Each call that changes something, and each opening, has to be one that the page lists.
 #   calls.sh PROGRAM     in an empty directory
 set -u
-program=$1
+program=$1 tools=$(dirname "$1")/acrun-tools
 cc=$(command -v cc) || { echo 'calls: skipped, as there is no cc'; exit 77; }
 if ! command -v strace > /dev/null || ! strace -f -o trace true 2> /dev/null; then
     echo 'calls: skipped, as there is no strace that works'
@@ -56,13 +56,32 @@ deeds() {
     END { for (each in child) print "runs " run[each] }' trace | sort -u
 }
 
-# traced DIRECTORY EXPECTED WORD..: the deeds of the program are those in the file EXPECTED, one pattern of the shell on each line, and
-# the program ends with 0. Each pattern has a deed.
+# traced DIRECTORY EXPECTED WORD..: the deeds of acrun are those in the file EXPECTED, one pattern of the shell on each line, and it ends
+# with 0. Each pattern has a deed.
 traced() {
     directory=$1 expected=$2
     shift 2
+    traced_of "$program" "$@"
+}
+
+# of_tools DIRECTORY EXPECTED WORD..: acrun starts acrun-tools with these words and does nothing else, and the deeds of acrun-tools are those
+# in the file EXPECTED.
+of_tools() {
+    directory=$1 expected=starts deeds_of_tools=$2
+    shift 2
+    printf 'runs "*acrun-tools", "--acrun=*"' > starts
+    printf ', "%s"' "$@" >> starts
+    echo >> starts
+    traced_of "$program" "$@"
+    expected=$deeds_of_tools
+    traced_of "$tools" "$@"
+}
+
+traced_of() {
+    traced=$1
+    shift
     rows=$((rows + 1))
-    (cd "$directory" && strace -f -s 200 -o ../trace "$program" "$@" > ../out 2> ../err < /dev/null) || { wrong=1; echo "calls: $*: status $?"; }
+    (cd "$directory" && strace -f -s 200 -o ../trace "$traced" "$@" > ../out 2> ../err < /dev/null) || { wrong=1; echo "calls: $*: status $?"; }
     deeds > seen
     sort -u "$expected" > patterns
     : > met
@@ -167,12 +186,12 @@ traced build remade status
 traced build rechecked status --recheck
 
 opens config.log config.status config.cache > asked
-traced build asked why stdio.h
+of_tools build asked why stdio.h
 opens config.status > asked
-traced build asked why
+of_tools build asked why
 { opens configure.ac; opens ./Makefile.in ./sub/new/x.in ./config.h.in; } > reads
-traced source reads lint configure.ac
-traced source reads port configure.ac
+of_tools source reads lint configure.ac
+of_tools source reads port configure.ac
 : > nothing
 traced source nothing help configure
 traced source nothing --version

@@ -82,8 +82,8 @@ if [ "$found" != 0 ] || [ "$said" != 'checking for sys/stat.h... no' ] || ! cmp 
 fi
 
 # The program starts its children by another crew than `ProcessCrew`, which `tests_cases` has. So it is the compiler of a run of that one
-# too, and answers 1 and 0.
-cases=$(dirname "$acrun")/../../tests_cases/out/tests_cases
+# too, and answers 1 and 0. The gate puts that program beside acrun.
+cases=$(dirname "$acrun")/tests_cases
 if [ -x "$cases" ]; then
     cd "$folder" || exit 2
     cat > process.cases <<END
