@@ -89,7 +89,7 @@ def tried(program):
     yield "no acrun-tools beside acrun", "tools ../acrun-tools: No such file or directory", said_alone(program)
     tools = f"{os.path.dirname(program)}/acrun-tools"
     yield "acrun-tools of another version", "tools acrun-tools: another version", said(tools, {}, ["--acrun=0", "lint"])
-    yield "a word that isn't UTF-8", "tools \ufffd: not UTF-8", said(program, {}, ["lint", b"\xff"])
+    yield "a word that isn't UTF-8", "tools \\xff: not UTF-8", said(program, {}, ["lint", b"\xff"])
     for number, _, cell, place in rows("Errors of a record"):
         yield cell, wanted("record", number, place), said(program, {"config.status": example(cell)}, ["status"])
 

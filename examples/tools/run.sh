@@ -97,6 +97,12 @@ C='\"
 $folder/work
 given
 text" 'on standard error' given
+stub << 'END'
+#!/bin/sh
+for number in 4 5 6 7 8 9; do [ ! -e "/proc/$$/fd/$number" ] || echo "$number"; done
+END
+more() { "$bin/acrun" lint 5> "$folder/five" 9< configure.ac; }
+expect 'other descriptors' 0 '' '' more
 printf '#!/bin/sh\nexit "$3"\n' | stub
 for status in 0 1 2 3 77 255; do
     expect "status $status" "$status" '' '' acrun why "$status"
