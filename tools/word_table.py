@@ -54,7 +54,7 @@ MOST_FIRST, MOST = 68, 70
 PLACE = re.compile(r"%(.)")
 # The texts that the gate compares with what the program says, and how long a part of the words is at most that says nothing in them.
 COMPARED = ("examples/lint/expected.txt", "examples/port/expected.txt", "examples/help/*", "crates/tests_*/data/*", "crates/tests_*/src/*.rt",
-            "crates/acrun/stdout", "tools/try_terminal.py")
+            "crates/acrun/stdout", "crates/acrun_tools/stdout", "tools/try_terminal.py")
 SHORT = 8
 # The crates with tables of macros, and the file that names the variables of AC_INIT.
 LINT = ("lint_errors", "lint_templates", "lint_warnings", "lint_words", "run_words")
