@@ -4,6 +4,7 @@ mod Guarded
 mod Kept
 mod Keyed
 mod Leading
+mod Modes
 mod Placed
 mod Puts
 mod Readings

@@ -1,13 +1,15 @@
 //! Laws of what is written and then read, on disks that nobody else changes.
 
-ghost use Rattle.std.specs.Prelude.{◌≡◌, ℕ, false, List, Some};
+ghost use Rattle.std.specs.Int.{bit_at};
+ghost use Rattle.std.specs.Prelude.{◌≡◌, ◌≤◌, ◌+◌, ℕ, false, List, Some, max};
 ghost use Rattle.file_disk.specs.Known.{Known, Deed, with_deeds, kind_under, text_under};
 ghost use Rattle.file_texts.specs.Coherent.{HasPlace, IsCoherent, IsApart, IsPutApart, ReadsAt};
 ghost use Rattle.file_texts.specs.Done.{IsTakenSo};
 ghost use Rattle.file_texts.specs.Links.{is_link};
-ghost use Rattle.file_texts.specs.Steps.{IsReplaced};
+ghost use Rattle.file_texts.specs.Steps.{IsReplaced, mode_for};
 ghost use Rattle.file_texts.specs.declared.places.Guard.{Guard};
 ghost use Rattle.file_texts.specs.declared.places.FilePlace.{FilePlace};
+ghost use Rattle.file_texts.specs.declared.writing.Keeps.{Keeps};
 ghost use Rattle.output_put.specs.declared.artifact.Artifact.{Artifact};
 
 /// What is read under the name of an artifact, after it was put, is its text.
@@ -37,4 +39,14 @@ pub fn last_files_are_read()
         (place : FilePlace) (text : List ℕ) → IsCoherent k.files → IsReplaced k file written deeds
         → IsApart k file place → ReadsAt k name place text
         → ReadsAt (with_deeds k deeds) name place text }
+{}
+
+/// A new file in the place of an old one has no bit to read or to write that the system didn't give
+/// it. A bit to execute it was given by the system, or whoever has it may read the file: the bit to
+/// read is two places above.
+pub fn modes_give_no_rights()
+    ensures read_write { (keeps : Keeps) (old new i : ℕ) → bit_at 0o666 i ≡ 1
+        → bit_at (mode_for keeps old new) i ≤ bit_at new i }
+    ensures execute { (keeps : Keeps) (old new i : ℕ) → bit_at (mode_for keeps old new) i
+        ≤ max (bit_at new i) (bit_at (mode_for keeps old new) (i + 2)) }
 {}
