@@ -18,7 +18,7 @@ use crate::failures::{failures_after, refusal};
 use crate::room::{put, put_end};
 use crate::table::SlotTable;
 use crew_jobs::Job;
-use crew_launch::{Launcher, start_child};
+use crew_launch::{Launcher, PipeEnd, Watch, start_child};
 use crew_refusals::{Cause, Causes};
 use crew_trait::{Crew, CrewEvent, Refused, Reply};
 use std::alloc::{AllocError, Global};
@@ -26,8 +26,10 @@ use std::collections::VecDeque;
 use std::marker::Model;
 use std::process::OpenProcess;
 
-/// A crew of the children that a launcher starts, whose `next` takes the first child that has
-/// ended, or the oldest if none has.
+/// How often the pipes are waited for at most: once for each byte of 16 queues of 4 MiB.
+const MOST_TURNS: u32 = 67_108_864;
+
+/// A crew of the children that a launcher starts, whose `next` takes the oldest.
 #[derive(Drop)]
 pub(crate) struct Children<L: Launcher + Drop> {
     launcher: L,
@@ -92,18 +94,6 @@ impl<L: Launcher + Drop> Children<L> {
         started_in(self.events.as_slice())
     }
 
-    /// Returns the place of the first child that has ended, in the order in which they were
-    /// started, or 0 if none has.
-    ///
-    /// It looks once at each child, unless there is one alone, and waits for none.
-    pub(crate) fn place_of_ended(&mut self) -> usize
-        requires { IsSomeBusy self.old.account.events }
-        ensures within { result < length (slots_in_flight self.new.account.events) }
-        ensures unchanged { self.new ≡ self.old }
-    {
-        place_of_ended(&mut self.table, &self.slots)
-    }
-
     /// Waits for the end of the child in a place, counted from 0 in the order in which the children
     /// in flight were started. Frees its slot, and returns the slot with the reply.
     pub(crate) fn end_at(&mut self, place: usize) -> (usize, Reply)
@@ -132,6 +122,24 @@ impl<L: Launcher + Drop> Children<L> {
         put_end(&mut self.events, slot, kept, self.attempts);
         self.failures = failures_after(&reply, self.failures);
         (slot, reply)
+    }
+}
+
+impl<L: Launcher + Drop> Children<L>
+where
+    <L::Process as OpenProcess>::Stderr: PipeEnd,
+{
+    /// Waits until the pipe of a child ends, and returns the place of the child, counted from 0 in
+    /// the order in which the children in flight were started.
+    ///
+    /// Meanwhile it reads all pipes ahead. If there is one child alone, or if the system refuses to
+    /// wait, it returns 0 at once.
+    pub(crate) fn place_of_ended(&mut self) -> usize
+        requires { IsSomeBusy self.old.account.events }
+        ensures within { result < length (slots_in_flight self.new.account.events) }
+        ensures unchanged { self.new ≡ self.old }
+    {
+        place_of_ended(&mut self.table, &self.slots)
     }
 }
 
@@ -198,14 +206,15 @@ impl<L: Launcher + Drop> Crew for Children<L> {
             (number_in result.0 self.old.account.events) result.1 }
         ensures stale { self.new.stale ≡ self.old.stale }
     {
-        let place = self.place_of_ended();
-        self.end_at(place)
+        self.end_at(0)
     }
 }
 
-/// Returns the place of the first child that has ended, or 0 if none has. If there is one child
-/// alone, its place is 0 either way, and the system isn't asked.
+/// Reads all pipes ahead until one ends, and returns the place of its child. If there is one child
+/// alone, its place is 0 in any case, and no pipe is waited for.
 fn place_of_ended<P: OpenProcess + Drop>(table: &mut SlotTable<P>, slots: &VecDeque<usize>) -> usize
+where
+    P::Stderr: PipeEnd,
     requires not_empty { 0 < length slots.now.items }
     requires within { All (λ s. s < 16) slots.now.items }
     ensures within { result < length slots.now.items }
@@ -214,12 +223,52 @@ fn place_of_ended<P: OpenProcess + Drop>(table: &mut SlotTable<P>, slots: &VecDe
     if slots.len() == 1 {
         return 0;
     }
-    for place in 0..slots.len() {
-        if table.has_ended(slots[place]) {
+    'turns: for _ in 0..MOST_TURNS {
+        let mut watch = watch_of(table, slots);
+        if !watch.wait() {
+            return 0;
+        }
+        if let Some(place) = read_ready(table, slots, &watch) {
             return place;
         }
     }
     0
+}
+
+/// Returns a watch of the pipes of the children in these slots.
+fn watch_of<P: OpenProcess + Drop>(table: &SlotTable<P>, slots: &VecDeque<usize>) -> Watch
+where
+    P::Stderr: PipeEnd,
+    requires { All (λ s. s < 16) slots.now.items }
+{
+    let mut watch = Watch::new();
+    for place in 0..slots.len() {
+        let slot = slots[place];
+        watch.add(slot, table.descriptor(slot));
+    }
+    watch
+}
+
+/// Reads once of each pipe that is ready. Returns the place of the first child whose pipe has ended,
+/// and reads no further pipe then.
+fn read_ready<P: OpenProcess + Drop>(
+    table: &mut SlotTable<P>,
+    slots: &VecDeque<usize>,
+    watch: &Watch,
+) -> Option<usize>
+where
+    P::Stderr: PipeEnd,
+    requires { All (λ s. s < 16) slots.now.items }
+    ensures within { IfSome result (λ place. place < length slots.now.items) }
+    ensures kept { table.new ≡ table.old }
+{
+    for place in 0..slots.len() {
+        let slot = slots[place];
+        if watch.is_ready(slot) && table.read_ahead(slot) {
+            return Some(place);
+        }
+    }
+    None
 }
 
 /// Reserves room for the records of a start, and starts the child of this number in a slot.

@@ -13,7 +13,8 @@
 //! [`MemoryCrew`], in `memory`, is a crew for tests. It answers from a list of replies, in a given
 //! `order`, and lists its calls (`event`); `specs/Scripted.antt` defines the effect of each call,
 //! and `flight` is one of its children. [`ProcessCrew`], in `process`, and [`ReadyCrew`], in
-//! `ready`, start real children by the crate `crew_launch`. They differ in which child `next` ends.
+//! `ready`, start real children by the crate `crew_launch`. They differ in which child `next` ends,
+//! and [`ReadyCrew`] reads all pipes.
 //! `children` keeps their account. `table` has the child of each slot, the child that ended last,
 //! and why calls were refused, and `numbered` is one of these children. `specs/Runs.antt` defines
 //! the jobs that were started, and `specs/Holding.antt` which child is in a slot, and that a reply
@@ -38,6 +39,7 @@ mod ready;
 mod room;
 mod table;
 
+pub use crew_launch::PipeEnd;
 pub use crew_refusals::Causes;
 pub use crew_trait::{Crew, CrewEvent, Entry, Log, Refused, Reply};
 pub use event::Event;

@@ -5,11 +5,12 @@ ghost use Rattle.crew_launch.specs.Ending.{IsExplained};
 ghost use Rattle.crew_launch.specs.Piped.{IsUnread};
 ghost use Rattle.crew.specs.Holding.{IsEndOf, number_of};
 
-use crew_launch::{Started, end_child};
+use crew_launch::{PipeEnd, Started, end_child};
 use crew_refusals::Cause;
 use crew_trait::Reply;
 use std::alloc::Global;
 use std::marker::Model;
+use std::os::fd::RawFd;
 use std::process::OpenProcess;
 
 /// A child in flight, known by the number of its start. Nothing puts another child in its place.
@@ -44,12 +45,23 @@ impl<P: OpenProcess + Drop> Numbered<P> {
     {
         self.number
     }
+}
 
-    /// Returns whether the child has ended, without waiting for it.
-    pub(crate) fn has_ended(&mut self) -> bool
+impl<P: OpenProcess + Drop> Numbered<P>
+where
+    P::Stderr: PipeEnd,
+{
+    /// Returns the descriptor of its pipe, or a negative number if there is none.
+    pub(crate) fn descriptor(&self) -> RawFd {
+        self.child.descriptor()
+    }
+
+    /// Reads once of its pipe, for the time when it is to end. Returns whether nothing more can be
+    /// read ahead.
+    pub(crate) fn read_ahead(&mut self) -> bool
         ensures { self.new ≡ self.old }
     {
-        self.child.has_ended()
+        self.child.read_ahead()
     }
 }
 

@@ -11,20 +11,23 @@ ghost use Rattle.crew_launch.specs.Launch.{IsClearing};
 
 use crate::children::Children;
 use crew_jobs::Job;
-use crew_launch::{DiskLauncher, System};
+use crew_launch::{DiskLauncher, PipeEnd, System};
 use crew_refusals::Causes;
 use crew_trait::{Crew, Refused, Reply};
 use std::alloc::{AllocError, Global};
 use std::marker::Model;
-use std::process::Processes;
+use std::process::{OpenProcess, Processes};
 use std::rt::Files;
 
 /// A crew of real children, as [`ProcessCrew`](crate::ProcessCrew), whose `next` takes the first
-/// child that has ended.
+/// child whose pipe ends.
 ///
-/// `next` looks once at each child, from the oldest on, and takes the first that has ended. If none
-/// has, it waits for the oldest, which may write to standard error until then. So no child is
-/// polled.
+/// `next` waits for the pipes of all children at once, and reads each that has something to read,
+/// so no child waits for a reader while another one is awaited. What it reads is kept in a queue
+/// until the child is to end. The child whose pipe ends first is the one that ends; mostly, it has
+/// ended itself by then. A child of whose pipe 4 MiB were read ends too. If the system refuses to
+/// wait for pipes, the oldest child ends. If one child is alone, no other pipe is to be read, and it
+/// ends as in [`ProcessCrew`](crate::ProcessCrew).
 #[derive(Drop)]
 pub struct ReadyCrew<R: Files + Processes + Drop> {
     children: Children<DiskLauncher<System<R>>>,
@@ -73,7 +76,10 @@ impl<R: Files + Processes + Drop> ReadyCrew<R> {
     }
 }
 
-impl<R: Files + Processes + Drop> Crew for ReadyCrew<R> {
+impl<R: Files + Processes + Drop> Crew for ReadyCrew<R>
+where
+    <R::Started as OpenProcess>::Stderr: PipeEnd,
+{
     ghost account = { λ c. c.account };
 
     fn start(&mut self, slot: usize, job: Job) -> Result<(), Refused>
@@ -119,7 +125,8 @@ impl<R: Files + Processes + Drop> Crew for ReadyCrew<R> {
             (number_in result.0 self.old.account.events) result.1 }
         ensures stale { self.new.stale ≡ self.old.stale }
     {
-        self.children.next()
+        let place = self.children.place_of_ended();
+        self.children.end_at(place)
     }
 }
 

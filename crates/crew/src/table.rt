@@ -9,11 +9,12 @@ ghost use Rattle.crew.specs.Holding.{Ends, IsEndOf, IsEndTold, child_in, number_
 ghost use Rattle.crew_trait.specs.declared.reply.Reply.TheVariants.{EndRefused};
 
 use crate::numbered::{Finished, Numbered, end_in};
-use crew_launch::Started;
+use crew_launch::{PipeEnd, Started};
 use crew_refusals::{Cause, CauseList};
 use crew_trait::Reply;
 use std::alloc::{AllocError, Global};
 use std::marker::Model;
+use std::os::fd::RawFd;
 use std::process::OpenProcess;
 
 const SLOTS: usize = 16;
@@ -73,15 +74,6 @@ impl<P: OpenProcess + Drop> SlotTable<P> {
         self.causes.put(number, cause);
     }
 
-    /// Returns whether the child in a slot has ended, without waiting for it.
-    #[tactic(auto, using(crate::proofs::Holding::kept_at))]
-    pub(crate) fn has_ended(&mut self, slot: usize) -> bool
-        requires { slot < 16 }
-        ensures { self.new ≡ self.old }
-    {
-        has_ended(&mut self.children[slot])
-    }
-
     /// Waits for the end of the child in a slot, and takes it out. Returns its reply twice.
     pub(crate) fn end(&mut self, slot: usize, alloc: Global) -> (Reply, Reply)
         requires slot { slot < 16 }
@@ -106,6 +98,32 @@ impl<P: OpenProcess + Drop> SlotTable<P> {
     }
 }
 
+impl<P: OpenProcess + Drop> SlotTable<P>
+where
+    P::Stderr: PipeEnd,
+{
+    /// Returns the descriptor of the pipe of the child in a slot, or a negative number if there is
+    /// none.
+    pub(crate) fn descriptor(&self, slot: usize) -> RawFd
+        requires { slot < 16 }
+    {
+        match &self.children[slot] {
+            Some(child) => child.descriptor(),
+            None => -1,
+        }
+    }
+
+    /// Reads once of the pipe of the child in a slot, for the time when it is to end. Returns
+    /// whether nothing more can be read ahead.
+    #[tactic(auto, using(crate::proofs::Holding::kept_at))]
+    pub(crate) fn read_ahead(&mut self, slot: usize) -> bool
+        requires { slot < 16 }
+        ensures { self.new ≡ self.old }
+    {
+        read_ahead(&mut self.children[slot])
+    }
+}
+
 /// Returns a list with one entry per slot, all empty.
 fn no_children<P: OpenProcess + Drop>(alloc: Global) -> Result<Vec<Option<Numbered<P>>>, AllocError>
     ensures { IfOk result (λ v. vec_len v ≡ 16) }
@@ -117,13 +135,15 @@ fn no_children<P: OpenProcess + Drop>(alloc: Global) -> Result<Vec<Option<Number
     Ok(children)
 }
 
-/// Returns whether a child has ended, without waiting for it.
-fn has_ended<P: OpenProcess + Drop>(child: &mut Option<Numbered<P>>) -> bool
+/// Reads once of the pipe of a child. Returns whether nothing more can be read ahead.
+fn read_ahead<P: OpenProcess + Drop>(child: &mut Option<Numbered<P>>) -> bool
+where
+    P::Stderr: PipeEnd,
     ensures { child.new ≡ child.old }
 {
     match child {
-        Some(child) => child.has_ended(),
-        None => false,
+        Some(child) => child.read_ahead(),
+        None => true,
     }
 }
 

@@ -1,5 +1,7 @@
+mod Calls
 pub mod ChildLemmas
 mod Explaining
 mod Freeing
 mod Naming
+mod Queue
 mod Spoilt

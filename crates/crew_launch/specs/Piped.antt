@@ -1,5 +1,6 @@
 -- The pipe of a child's diagnostics, and the child.
-use Rattle.std.specs.Prelude.{◌≡◌, ◌⊎◌, ℕ, Bool, true, false, List, Option, Some, None}
+use Rattle.std.specs.Prelude.{◌≡◌, ◌⊎◌, ℕ, Bool, true, false, List, ◌++◌, Option, Some, None}
+use Rattle.std.specs.Io.KnownBytes.{prepend_known}
 use Rattle.std.specs.declared.process.status.ExitStatus.{ExitStatus}
 
 -- A pipe: whether it is open, what is left in it, if that is known, how many pieces of it were read, whether its end was
@@ -29,3 +30,8 @@ pub record Running : Type 0 where
   pub pipe : Piped
   pub status : Option ExitStatus
   pub is_awaited : Bool
+
+-- Bytes are moved from what is left, if that is known, to the end of a queue. (own)
+abbrev pub ReadsAhead : List ℕ → List ℕ → Option (List ℕ) → Option (List ℕ) → Type 0
+ReadsAhead queue new left rest =
+    (bytes : List ℕ) × (new ≡ queue ++ bytes) × (left ≡ prepend_known bytes rest)

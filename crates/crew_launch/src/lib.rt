@@ -20,6 +20,9 @@
 //! `fresh`, which writes new files, `products`, which removes what a compiler made, `system`,
 //! `pipe`, `started`, which is a child, `starting`, `ending`, and `diagnostics`, which reads what a
 //! child writes.
+//!
+//! Several children may write at once. [`PipeEnd`] is a pipe that can be waited for, [`Watch`]
+//! waits for several, and [`Queued`] reads a pipe ahead.
 #![tactic(auto)]
 
 mod diagnostics;
@@ -27,14 +30,20 @@ mod ending;
 mod fresh;
 mod launcher;
 mod pipe;
+mod pipe_end;
 mod products;
+mod queued;
 mod started;
 mod starting;
 mod system;
+mod watch;
 
 pub use ending::end_child;
 pub use launcher::{DiskLauncher, Launcher};
 pub use pipe::Pipe;
+pub use pipe_end::PipeEnd;
+pub use queued::Queued;
 pub use started::Started;
 pub use starting::start_child;
 pub use system::System;
+pub use watch::Watch;

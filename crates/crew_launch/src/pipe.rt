@@ -4,8 +4,11 @@ ghost use Rattle.std.specs.Prelude.{◌≡◌, ◌+◌, ◌<◌, ◌≤◌, leng
 ghost use Rattle.std.specs.Io.KnownBytes.{Consumes, IsAtEnd};
 ghost use Rattle.crew_launch.specs.Piped.{left_of, IsUnread};
 
+use crate::pipe_end::PipeEnd;
+use crate::queued::Queued;
 use std::io::{self, ErrorKind, Read};
 use std::marker::Model;
+use std::os::fd::RawFd;
 
 /// How often a read is tried that a signal interrupts.
 const MOST_TRIES: u32 = 1024;
@@ -93,6 +96,26 @@ impl<R: Read + Drop> Pipe<R> {
         ensures has_failed { self.new.has_failed ≡ self.old.has_failed }
     {
         self.reader = None;
+    }
+}
+
+impl<R: PipeEnd + Drop> Pipe<Queued<R>> {
+    /// Returns its descriptor, or a negative number if there is none.
+    pub(crate) fn descriptor(&self) -> RawFd {
+        match &self.reader {
+            Some(reader) => reader.descriptor(),
+            None => -1,
+        }
+    }
+
+    /// Reads once ahead. Returns whether nothing more can be read ahead.
+    pub(crate) fn read_ahead(&mut self) -> bool
+        ensures { self.new ≡ self.old }
+    {
+        match &mut self.reader {
+            Some(reader) => reader.read_ahead(),
+            None => true,
+        }
     }
 }
 

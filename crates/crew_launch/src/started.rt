@@ -7,17 +7,20 @@ ghost use Rattle.crew_launch.specs.Piped.{IsReadThrough, IsUnread};
 
 use crate::diagnostics::diagnostics;
 use crate::pipe::Pipe;
+use crate::pipe_end::PipeEnd;
+use crate::queued::Queued;
 use crew_refusals::Cause;
 use std::alloc::Global;
-use std::io;
+use std::io::{self, Read};
 use std::marker::Model;
+use std::os::fd::RawFd;
 use std::process::{Child, ExitStatus, OpenProcess};
 
 /// A child that was started, with the pipe of its diagnostics, and whether it was waited for.
 #[derive(Drop)]
 pub struct Started<P: OpenProcess + Drop> {
     child: Child<P>,
-    pipe: Pipe<P::Stderr>,
+    pipe: Pipe<Queued<P::Stderr>>,
     is_awaited: bool,
 }
 
@@ -32,22 +35,15 @@ impl<P: OpenProcess + Drop> Model for Started<P> {
 
 impl<P: OpenProcess + Drop> Started<P> {
     /// Returns a child that was just started.
-    pub(crate) fn new(mut child: Child<P>) -> Started<P>
+    pub(crate) fn new(alloc: Global, mut child: Child<P>) -> Started<P>
         ensures { IsUnread result.pipe }
     {
-        let pipe = Pipe::new(child.stderr.take());
+        let pipe = Pipe::new(queued(alloc, child.stderr.take()));
         Started {
             child,
             pipe,
             is_awaited: false,
         }
-    }
-
-    /// Returns whether the child has ended, without waiting for it.
-    pub fn has_ended(&mut self) -> bool
-        ensures { self.new.pipe ≡ self.old.pipe }
-    {
-        matches!(self.child.try_wait(), Ok(Some(_)))
     }
 
     /// Reads what the child writes to standard error, and closes the pipe. Returns the text to
@@ -80,5 +76,32 @@ impl<P: OpenProcess + Drop> Started<P> {
     {
         self.is_awaited = true;
         self.child.wait()
+    }
+}
+
+impl<P: OpenProcess + Drop> Started<P>
+where
+    P::Stderr: PipeEnd,
+{
+    /// Returns the descriptor of its pipe, or a negative number if there is none.
+    pub fn descriptor(&self) -> RawFd {
+        self.pipe.descriptor()
+    }
+
+    /// Reads once of its pipe, for the time when it is to end. Returns whether nothing more can be
+    /// read ahead: there is no pipe, it is at its end, the read fails, 4 MiB were read, or memory
+    /// runs out.
+    pub fn read_ahead(&mut self) -> bool
+        ensures { self.new.pipe ≡ self.old.pipe }
+    {
+        self.pipe.read_ahead()
+    }
+}
+
+/// Returns the reader with an empty queue, if there is one.
+fn queued<R: Read + Drop>(alloc: Global, reader: Option<R>) -> Option<Queued<R>> {
+    match reader {
+        Some(reader) => Some(Queued::new(alloc, reader)),
+        None => None,
     }
 }

@@ -151,7 +151,7 @@ fn spawn<L: Launcher>(
     ensures stale { L.stale launcher.new ≡ None }
 {
     match launcher.spawn(command) {
-        Ok(child) => Ok(Started::new(child)),
+        Ok(child) => Ok(Started::new(alloc, child)),
         Err(error) => Err(spawn_cause(alloc, program, arguments, &error)),
     }
 }

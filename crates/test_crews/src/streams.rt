@@ -1,6 +1,8 @@
 //! Streams that fail where a test says so.
 
+use crew::PipeEnd;
 use std::io::{self, ErrorKind, Read, Write};
+use std::os::fd::RawFd;
 use test_rows::{Page, cut, number_of};
 
 /// Gives so many pieces of one size, each of the same byte. Its reads are counted from 1. One may
@@ -51,6 +53,17 @@ impl Read for Pipe {
         let len = self.size.min(buf.len());
         buf[..len].fill(self.byte);
         Ok(len)
+    }
+}
+
+/// No descriptor of a process has its number, so the system says at once that a read doesn't wait.
+impl PipeEnd for Pipe {
+    fn descriptor(&self) -> RawFd {
+        i32::MAX
+    }
+
+    fn read_once(&mut self, piece: &mut [u8]) -> io::Result<usize> {
+        self.read(piece)
     }
 }
 

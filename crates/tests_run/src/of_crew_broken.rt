@@ -16,12 +16,11 @@ use test_crews::streams::{Pipe, pipe_of};
 use test_rows::{Page, RowCall, cut, number_of, try_rows};
 
 /// Ends with a status as `waitpid` gives it, or fails if the text of the status is empty; its waits
-/// are counted. If it is looked at, it has ended (`y`), it has not (`n`), or the look fails.
+/// are counted.
 #[derive(Drop)]
 struct Process<'a> {
     status: &'a [u8],
     waits: &'a Cell<u64>,
-    look: u8,
 }
 
 impl Process<'_> {
@@ -48,30 +47,34 @@ impl<'a> OpenProcess for Process<'a> {
         }
         Ok(self.ended())
     }
-
-    fn try_wait(&mut self) -> io::Result<Option<ExitStatus>> {
-        match self.look {
-            b'y' => Ok(Some(self.ended())),
-            b'n' => Ok(None),
-            _ => Err(io::Error::from(ErrorKind::Other)),
-        }
-    }
 }
 
 /// The name of a file that is there, and can't be removed.
 const KEPT: &str = "kept.o";
 
-/// The system, but each child that is started has this pipe and this status, and the next of these
-/// looks. If it has the number of a refusal, each start is refused with that error.
+/// The system, but each child that is started has the next of these pipes, which have semicolons
+/// between them, and this status. If it has the number of a refusal, each start is refused with that
+/// error.
 #[derive(Drop)]
 struct System<'a> {
     rt: &'a HostRuntime,
-    pipe: &'a [u8],
+    pipes: &'a [u8],
     status: &'a [u8],
     waits: &'a Cell<u64>,
-    looks: &'a [u8],
-    started: Cell<usize>,
+    started: Cell<u8>,
     refusal: usize,
+}
+
+/// Returns the part of this number of a text, from 0 on, with semicolons between parts: nothing if
+/// there is none.
+fn part_at(text: &[u8], number: u8) -> &[u8] {
+    let mut rest = text;
+    for _ in 0..number {
+        let (_, after) = cut(rest, b";");
+        rest = after;
+    }
+    let (part, _) = cut(rest, b";");
+    part
 }
 
 impl<'a> Processes for System<'a> {
@@ -92,9 +95,10 @@ impl<'a> Processes for System<'a> {
         let process = Process {
             status: self.status,
             waits: self.waits,
-            look: *self.looks.get(number).unwrap_or(&b'e'),
         };
-        Ok(Child::from_parts(process, None, None, pipe_of(self.pipe, b'a')))
+        let pipe = part_at(self.pipes, number);
+        let byte = b'a'.saturating_add(number);
+        Ok(Child::from_parts(process, None, None, pipe_of(pipe, byte)))
     }
 }
 
@@ -150,9 +154,9 @@ impl<'a> Files for System<'a> {
     }
 }
 
-/// A child: its pipe, if it has one, and its status as `waitpid` gives it, if a wait doesn't fail.
-/// The answer says also how often it was waited for. If there are looks, so many children are
-/// started, and one that has ended is taken first.
+/// Children: the pipe of each, if it has one, and the status of all as `waitpid` gives it, if a wait
+/// doesn't fail. The answer says also how often they were waited for. If there are several, the
+/// child whose pipe ends first is taken first.
 #[derive(Drop)]
 struct Ends<'a> {
     rt: &'a HostRuntime,
@@ -160,24 +164,22 @@ struct Ends<'a> {
 
 impl RowCall for Ends<'_> {
     fn put(&self, page: &mut Page, given: &[u8]) {
-        let (pipe, rest) = cut(given, b"|");
-        let (status, looks) = cut(rest, b"|");
+        let (pipes, status) = cut(given, b"|");
         let waits = Cell::new(0);
         let system = System {
             rt: self.rt,
-            pipe,
+            pipes,
             status,
             waits: &waits,
-            looks,
             started: Cell::new(0),
             refusal: 0,
         };
         let job = job_of(page, b"true", b"");
         let work = Work {
-            count: looks.len().max(1),
+            count: pipes.split(|b| *b == b';').count(),
             job: &job,
         };
-        if looks.is_empty() {
+        if work.count == 1 {
             put_children(page, system, &work);
         } else {
             put_ready(page, system, &work);
@@ -225,12 +227,28 @@ const ENDS: &[u8] = b"\
 1 4|9 =>  0:256:aaaa, waits 1
 1 4|139 =>  0:256:aaaa, waits 1
 1 4| =>  0:E, waits 1
-// The first that has ended is taken first, and a look that fails is none at one that has. If none
-// has, the oldest is taken.
-0 1|0|nyy =>  1:0: 2:0: 0:0:, waits 1
-0 1|0|ney =>  2:0: 0:0: 1:0:, waits 2
-0 1|0|een =>  0:0: 1:0: 2:0:, waits 3
-0 1|256|nyy =>  1:1: 2:1: 0:1:, waits 1
+// The pipe that ends first: each is read once in turn. Of those that end in one turn the oldest is
+// taken first.
+9 2;2 2;5 2|0 =>  1:0:bbbb 2:0:cccccccccc 0:0:aaaaaaaaaaaaaaaaaa, waits 3
+9 2;5 2;2 2|256 =>  2:1:cccc 1:1:bbbbbbbbbb 0:1:aaaaaaaaaaaaaaaaaa, waits 3
+2 2;2 2;2 2|0 =>  0:0:aaaa 1:0:bbbb 2:0:cccc, waits 3
+0 1;0 1;0 1|0 =>  0:0: 1:0: 2:0:, waits 3
+9 2;2 2|9 =>  1:256:bbbb 0:256:aaaaaaaaaaaaaaaaaa, waits 2
+9 2;2 2| =>  1:E 0:E, waits 2
+// What was read ahead and what is read later are one text, in whatever pieces.
+20 5000;1 1;15 4095|0 =>  1:0:b 2:0:61425 bytes cccccccccccccccc .. cccccccccccccccc 0:0:65536 bytes aaaaaaaaaaaaaaaa .. aaaaaaaaaaaaaaaa, waits 3
+3 2 0 9;2 2|0 =>  1:0:bbbb 0:0:aaaaaa, waits 2
+3 2 0 2000;9 2 0 1999|0 =>  0:0:aaaaaa 1:0:bbbbbbbbbbbbbbbbbb, waits 2
+// A pipe of which 4 MiB were read ends, and no byte more is read.
+2000 4096;2000 4096 1025|0 =>  0:0:65536 bytes aaaaaaaaaaaaaaaa .. aaaaaaaaaaaaaaaa 1:0:65536 bytes bbbbbbbbbbbbbbbb .. bbbbbbbbbbbbbbbb, waits 2
+2000 4096;2000 4096 1024|0 =>  1:E 0:0:65536 bytes aaaaaaaaaaaaaaaa .. aaaaaaaaaaaaaaaa, waits 2
+// A pipe that can't be read ends, as its end is, and a failure ahead is told later.
+9 2;9 2 3|0 =>  1:E 0:0:aaaaaaaaaaaaaaaaaa, waits 2
+9 2 1;9 2|0 =>  0:E 1:0:bbbbbbbbbbbbbbbbbb, waits 2
+9 2 5;2 2|0 =>  1:0:bbbb 0:E, waits 2
+// A child without a pipe is taken after the others. If none has one, the oldest is taken.
+;2 2;|0 =>  1:0:bbbb 0:E 2:E, waits 3
+;;|0 =>  0:E 1:E 2:E, waits 3
 ";
 
 #[test]
@@ -251,10 +269,9 @@ impl RowCall for Refusals<'_> {
         let waits = Cell::new(0);
         let system = System {
             rt: self.rt,
-            pipe: b"",
+            pipes: b"",
             status: b"",
             waits: &waits,
-            looks: b"",
             started: Cell::new(0),
             refusal: number_of(refusal),
         };

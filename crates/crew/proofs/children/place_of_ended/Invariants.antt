@@ -1,5 +1,5 @@
 use Rattle.std.proofs.Common.{◌≡◌}
 use Rattle.crew.proofs.children.place_of_ended.Given as goal
 
-abbrev pub invariant-loop-place : goal.invariant-loop-place
-invariant-loop-place g l = l.table ≡ l.fn.table
+abbrev pub invariant-turns : goal.invariant-turns
+invariant-turns g l = l.table ≡ l.fn.table
