@@ -35,11 +35,8 @@ from the sources.
 """
 # Why functions of a crate have no clause, by crate.
 WHY_NONE = {
-<<<<<<< HEAD
     "tool_start": "It takes what the program starts with. That the right program is started is tested.",
-=======
     "crew_launch": "They ask the system in which pipe there is something to read. Whatever it answers, no byte is lost.",
->>>>>>> e5f79a06aeffa55b9f57daed2ed16dc4bf23a9b4
     "lint_macros": "Each index is exact, whoever made it: it has a ghost field that says so, and its calls are stated by that.",
     "lint_words": "They choose words for a reader. Which words are right is a judgement, and examples hold it.",
     "run_words": "They choose words for a reader. Which words are right is a judgement, and examples hold it.",
