@@ -128,12 +128,7 @@ fn joined(alloc: Global, first: &str, second: &str) -> Result<String, AllocError
 
 /// Returns the command of the program at this path with these words. It changes nothing of its
 /// environment, and sets no stream.
-fn command_of(
-    alloc: Global,
-    path: &str,
-    version: &str,
-    words: &[Bytes],
-) -> Result<Command, Cause>
+fn command_of(alloc: Global, path: &str, version: &str, words: &[Bytes]) -> Result<Command, Cause>
     ensures program { IfOk result (λ command. command_program command ≡ path.now) }
     ensures words { IfOk result (λ command. command_args command
         ≡ (codes "--acrun=" ++ version.now) ∷ words.now) }

@@ -141,7 +141,6 @@ fn shows_output(words: &[Bytes]) -> bool
     }
 }
 
-
 /// What the first word begins with if it names the version of the program that started this one.
 const MARK: &[u8] = b"--acrun=";
 

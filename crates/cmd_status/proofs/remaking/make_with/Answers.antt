@@ -47,5 +47,5 @@ returns-clause-left g c = λ two.
     let guarded : AreGuarded (g.D.Disk.known now.disk) now.guards (codes "config.status" ∷ inputs_of c.args.recorded.now.srcdir c.args.templates.now) =
     subst (λ s. AreGuarded (g.D.Disk.known now.disk) now.guards (codes "config.status" ∷ inputs_of s c.args.templates.now)) c.as_slice-srcdir.ensures c.in-Ok.ensures.guarded in
     left_again g.D.Disk.known d c.keep_all.new.outputs c.remake_record-answer.new.outputs c.args.recorded.now _ c.args.why.now.args.now _ _ c.lines-lines.result.now
-        (more_unused _ _ (fresh_unused _ _ c.requires.fresh) c.keep_all.ensures.more) c.requires.found c.requires.given c.remake_record-answer.ensures.remade c.lines-lines.ensures.value c.print_made-is_printed.ensures.nothing c.lines-lines.ensures.lines
-        c.lines-lines.ensures.unguarded c.lines-lines.ensures.apart (ap (λ l. l.guards) c.remake_record-answer.ensures.lasting) (ap (λ l. l.closed) c.remake_record-answer.ensures.lasting) (ap (λ l. l.files) c.remake_record-answer.ensures.lasting) (ap (λ o. o.disk) c.keep_all.ensures.more.1) guarded
+    (more_unused _ _ (fresh_unused _ _ c.requires.fresh) c.keep_all.ensures.more) c.requires.found c.requires.given c.remake_record-answer.ensures.remade c.lines-lines.ensures.value c.print_made-is_printed.ensures.nothing c.lines-lines.ensures.lines
+    c.lines-lines.ensures.unguarded c.lines-lines.ensures.apart (ap (λ l. l.guards) c.remake_record-answer.ensures.lasting) (ap (λ l. l.closed) c.remake_record-answer.ensures.lasting) (ap (λ l. l.files) c.remake_record-answer.ensures.lasting) (ap (λ o. o.disk) c.keep_all.ensures.more.1) guarded
