@@ -136,8 +136,11 @@ refusals_counted : (failures : ℕ) (closed : Bool) (n : ℕ) → closed ≡ fal
 refusals_counted failures false n opened is = omega (arith, is)
 refusals_counted failures true n opened is = absurd (cc)
 
-at_most : (n m : ℕ) → n ≡ m → m ≤ 1 → n ≤ 1
-at_most n m is le = omega (arith, is, le)
+none_at_most_one : (n : ℕ) → n ≡ 0 → n ≤ 1
+none_at_most_one n is = omega (arith, is)
+
+one_at_most_one : (n : ℕ) → n ≡ 1 → n ≤ 1
+one_at_most_one n is = omega (arith, is)
 
 -- What a call of `remake_record` left, whatever it returned.
 pub left_again : {D : Type 0} (known : D → Option Known) (d : D) (before now : Held D) (recorded : Record) (templates : List (List ℕ × List ℕ)) (tags : List (List ℕ)) (silent : Type 0) (answer : Result ℕ RemakeFault) (lines : List ℕ)
@@ -157,11 +160,11 @@ left_again known d before now recorded templates tags silent (Ok m) lines new fo
     let made_all : now.handed ≡ made = ap (λ (r : Receipt). r.handed) handed ∙ ap (λ (r : Receipt). r.handed ++ made) empty in
     let counted : now.failures + closings now.closed ≡ 0 = ap (λ (r : Receipt). r.failures) handed ∙ ap (λ (r : Receipt). r.failures) empty in
     left_in_part known d before now recorded templates tags silent made (length made) found given is (made_all ∙ sym (take-length made))
-    (at_most now.failures 0 (refusals_counted now.failures now.closed 0 opened counted) (arith)) (subst (AreLines now.handed) shown are) free (done opened) same_guards same_names disk guarded
+    (none_at_most_one now.failures (refusals_counted now.failures now.closed 0 opened counted)) (subst (AreLines now.handed) shown are) free (done opened) same_guards same_names disk guarded
 left_again known d before now recorded templates tags silent (Err f) lines new found given (cut {artifacts = made} is at) shown quiet are free done same_guards same_closed same_names disk guarded =
     let empty : receipt_of before ≡ record { handed = []; failures = 0 } = unused_receipt before new in
     let opened : now.closed ≡ false = same_closed ∙ new.opened in
     let made_first : now.handed ≡ take at.first made = ap (λ (r : Receipt). r.handed) at.receipt ∙ ap (λ (r : Receipt). r.handed ++ take at.first made) empty in
     let counted : now.failures + closings now.closed ≡ 1 = ap (λ (r : Receipt). r.failures) at.receipt ∙ ap (λ (r : Receipt). r.failures + 1) empty in
     left_in_part known d before now recorded templates tags silent made at.first found given is made_first
-    (at_most now.failures 1 (refusals_counted now.failures now.closed 1 opened counted) (arith)) (subst (AreLines now.handed) shown are) free (done opened) same_guards same_names disk guarded
+    (one_at_most_one now.failures (refusals_counted now.failures now.closed 1 opened counted)) (subst (AreLines now.handed) shown are) free (done opened) same_guards same_names disk guarded
