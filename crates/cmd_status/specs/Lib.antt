@@ -1,5 +1,6 @@
 pub mod Happened
 pub mod Left
+pub mod LeftAgain
 pub mod Printed
 pub mod Reasons
 pub mod MadeAgain

@@ -1,7 +1,8 @@
 //! The command that makes the outputs of a record again.
 
-ghost use Rattle.std.specs.Prelude.{◌≡◌, ◌≢◌, ℕ, List, ◌∷◌, ◌++◌, false, Some, Ok, Err, OnOk, IsTrue, codes};
+ghost use Rattle.std.specs.Prelude.{◌≡◌, ◌≢◌, ℕ, List, ◌∷◌, ◌++◌, [], false, Some, Ok, Err, OnOk, IsTrue, codes};
 ghost use Rattle.std.specs.Io.KnownBytes.{Appends};
+ghost use Rattle.cmd_status.specs.LeftAgain.{IsLeftAgain};
 ghost use Rattle.cmd_status.specs.MadeAgain.{IsMadeAgain, IsRecordFound};
 ghost use Rattle.cmd_status.specs.Reasons.{answer_line, unwritten};
 ghost use Rattle.cmd_status.specs.Unmade.{SaysUnmade};
@@ -20,13 +21,26 @@ use file_disk::Disk;
 use file_texts::{FileOutputs, read_text};
 use status_record::{Record, read_record};
 use std::alloc::{AllocError, Global};
-use std::io::{Read, Write};
+use std::io::{self, Read, Write};
 
 /// The name of the record.
 pub const RECORD: &[u8] = b"config.status";
 
 /// The name of standard output in the line of a fault.
 pub(crate) const OUTPUT: &[u8] = b"standard output";
+
+/// Prints lines, unless there are none.
+#[tactic(auto, using(cmd_call::proofs::Lines::blank_whole))]
+fn print_some<W: Write>(lines: &[u8], output: &mut W) -> io::Result<()>
+    ensures printed { OnOk result (
+        Appends (W.contents output.old) (W.contents output.new) lines.now) }
+    ensures nothing { lines.now ≡ [] → output.new ≡ output.old }
+{
+    if lines.is_empty() {
+        return Ok(());
+    }
+    print_lines(lines, false, output)
+}
 
 /// Prints the lines of the outputs. Returns whether standard output took them.
 fn print_made<W: Write, E: Hears>(
@@ -38,12 +52,13 @@ fn print_made<W: Write, E: Hears>(
 ) -> bool
     ensures prints { IsTrue result
         → Appends (W.contents output.old) (W.contents output.new) lines.now }
+    ensures nothing { lines.now ≡ [] → output.new ≡ output.old }
     ensures silent { IsTrue result → errors.new ≡ errors.old }
     ensures said { why.now.is_asked ≡ false
         → AreSaid E.contents E.has_failed errors.old errors.new
         (unwritten (codes "standard output") result) }
 {
-    let done = print_lines(lines, false, output);
+    let done = print_some(lines, output);
     tell_written(alloc, why.is_asked, OUTPUT, done, errors)
 }
 
@@ -127,6 +142,9 @@ fn make_with<D: Disk, R: Read, W: Write, E: Hears>(
         → (lines : List (List ℕ))
         × SaysUnmade (D.known terminal.old.outputs.disk) why.now.args.now lines
         × AreSaid E.contents E.has_failed terminal.old.errors terminal.new.errors lines }
+    ensures left { result ≡ 2
+        → IsLeftAgain (D.known terminal.old.outputs.disk) (D.known terminal.new.outputs.disk)
+        why.now.args.now (terminal.new.output ≡ terminal.old.output) }
     ensures input { terminal.new.input ≡ terminal.old.input }
 {
     let alloc = terminal.alloc;
@@ -167,6 +185,9 @@ fn make_record<D: Disk, R: Read, W: Write, E: Hears>(
         → (lines : List (List ℕ))
         × SaysUnmade (D.known terminal.old.outputs.disk) tags.now lines
         × AreSaid E.contents E.has_failed terminal.old.errors terminal.new.errors lines }
+    ensures left { result ≡ 2
+        → IsLeftAgain (D.known terminal.old.outputs.disk) (D.known terminal.new.outputs.disk)
+        tags.now (terminal.new.output ≡ terminal.old.output) }
     ensures input { terminal.new.input ≡ terminal.old.input }
 {
     match record_templates(terminal.alloc, terminal.outputs.disk(), recorded) {
@@ -197,6 +218,9 @@ fn make_text<D: Disk, R: Read, W: Write, E: Hears>(
         → (lines : List (List ℕ))
         × SaysUnmade (D.known terminal.old.outputs.disk) tags.now lines
         × AreSaid E.contents E.has_failed terminal.old.errors terminal.new.errors lines }
+    ensures left { result ≡ 2
+        → IsLeftAgain (D.known terminal.old.outputs.disk) (D.known terminal.new.outputs.disk)
+        tags.now (terminal.new.output ≡ terminal.old.output) }
     ensures input { terminal.new.input ≡ terminal.old.input }
 {
     match read_record(terminal.alloc, text) {
@@ -241,6 +265,11 @@ pub fn run_status<D: Disk, R: Read, W: Write, E: Hears>(
         → (lines : List (List ℕ))
         × SaysUnmade (D.known terminal.old.outputs.disk) tags.now lines
         × AreSaid E.contents E.has_failed terminal.old.errors terminal.new.errors lines }
+    // If the status is 2, nothing was done to files and nothing was printed, or the outputs up to one
+    // that was refused are made, or all are, and nothing else was done to files.
+    ensures left { result ≡ 2
+        → IsLeftAgain (D.known terminal.old.outputs.disk) (D.known terminal.new.outputs.disk)
+        tags.now (terminal.new.output ≡ terminal.old.output) }
     ensures input { terminal.new.input ≡ terminal.old.input }
 {
     match read_text(terminal.alloc, terminal.outputs.disk(), RECORD) {

@@ -2,6 +2,7 @@
 
 ghost use Rattle.std.specs.Prelude.{◌≡◌, true, false, ◌∷◌, ◌≢◌, ◌⊎◌, ◌≤◌, ◌<◌, ℕ, List, [], length, None, IfSome, OnOk, codes, option_map, vec_items};
 ghost use Rattle.std.specs.Io.KnownBytes.{Appends};
+ghost use Rattle.cmd_status.specs.LeftAgain.{IsLeftAgain};
 ghost use Rattle.cmd_status.specs.MadeAgain.{IsMadeAgain};
 ghost use Rattle.cmd_configure.specs.Configures.{IsConfigured, IsRechecked, IsWindow, MayRun};
 ghost use Rattle.cmd_configure.specs.Ended.{Exits, HasHappened, HasHappenedAgain, Prints};
@@ -338,6 +339,12 @@ pub fn run<F: Files, D: Disk, C: Crew + Causes, T: Tools, R: Read, W: Write, E: 
         result ≡ 2
         → IsTold E.contents E.has_failed terminal.old.errors terminal.new.errors
         (error_line (codes "memory") [])) }
+    // If the status of `status` is 2, nothing was done to files and nothing was printed, or the outputs
+    // up to one that was refused are made, or all are, and nothing else was done to files.
+    ensures left { IfStatus (call_of words.now) (λ tags.
+        result ≡ 2
+        → IsLeftAgain (D.known terminal.old.outputs.disk) (D.known terminal.new.outputs.disk) tags
+        (terminal.new.output ≡ terminal.old.output)) }
     ensures status_refused { IfStatus (call_of words.now) (λ tags.
         terminal.old.is_asked ≡ false → result ≡ 2
         → (lines : List (List ℕ))

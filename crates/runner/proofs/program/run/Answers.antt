@@ -37,6 +37,12 @@ returns-in_default-clause-standin_refused g c = no_standin c.call_of.result _ _ 
 pub returns-in_default-clause-status_refused : goal.returns-in_default-clause-status_refused
 returns-in_default-clause-status_refused g c = no_status c.call_of.result _ _ c.in_default.not-Status c.call_of.ensures.call
 
+pub returns-in_default-clause-left : goal.returns-in_default-clause-left
+returns-in_default-clause-left g c = no_status c.call_of.result _ _ c.in_default.not-Status c.call_of.ensures.call
+
+pub returns-in-Status-clause-left : goal.returns-in-Status-clause-left
+returns-in-Status-clause-left g c = is_status c.call_of.result _ _ c.in-Status.tags c.in-Status.is c.call_of.ensures.call c.run_status.ensures.left
+
 pub returns-in-Filter-clause-filter_refused : goal.returns-in-Filter-clause-filter_refused
 returns-in-Filter-clause-filter_refused g c = is_filter c.call_of.result _ _ c.in-Filter.is c.call_of.ensures.call c.run_filter.ensures.refused
 
