@@ -1,5 +1,5 @@
 -- What is said of words that are no command.
-use Rattle.std.specs.Prelude.{◌≡◌, ◌⊎◌, ℕ, Bool, List, Option}
+use Rattle.std.specs.Prelude.{ℕ, Bool, List, Option}
 use Rattle.std.proofs.Common.{inl}
 use Rattle.cmd_call.specs.Calls.{ProgramCall, Lint, Port, Why, Help, Version}
 use Rattle.tools_runner.specs.Refusals.{IsUsageTold, TellsWhy}
