@@ -1,6 +1,6 @@
 //! The commands of the tools, over their streams and their files.
 
-ghost use Rattle.std.specs.Prelude.{◌≡◌, true, ◌≢◌, ◌⊎◌, ◌≤◌, ◌<◌, ℕ, List, [], length, None, IfSome, codes, option_map};
+ghost use Rattle.std.specs.Prelude.{◌≡◌, true, false, ◌≢◌, ◌⊎◌, ◌≤◌, ◌<◌, ℕ, List, [], length, None, IfSome, codes, option_map};
 ghost use Rattle.std.specs.Io.KnownBytes.{Appends};
 ghost use Rattle.std.specs.List.{list_any};
 ghost use Rattle.cmd_call.specs.Calls.{call_of, Version, IfWhy, IfHelp, IfLint, HasNoInput};
