@@ -52,6 +52,7 @@ pub const NOTHING: Around<'static> = Around {
 
 /// In place of the program of the tools: its status is the number of its words, and it can't be
 /// started with fewer than two.
+#[derive(Drop)]
 struct Counting {
     alloc: Global,
 }
