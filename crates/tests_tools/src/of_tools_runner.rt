@@ -1,9 +1,11 @@
 //! The commands of the tools, over files in a directory.
 
 use cmd_call::{Heard, Terminal};
+use deftable::Bytes;
 use file_disk::Host;
 use file_texts::FileOutputs;
 use std::fs;
+use std::io::{Read, Write};
 use std::test::Fail;
 use test_crews::texts::words_of;
 use test_rows::{Page, RowCall, cut, try_rows_in};
@@ -48,22 +50,34 @@ why,a.h => 0[checking for a.h... yes^Jchild 2:^J$ cc -c conftest2.c^Jstatus 0^J]
 #[derive(Drop)]
 struct Commands<'a>(&'a HostRuntime);
 
+/// Returns the exit status of the commands on these streams. It promises nothing, so that its callers
+/// don't see the long contract of the commands.
+fn status_over<R: Read, W: Write, E: Write>(
+    rt: &HostRuntime,
+    words: &[Bytes],
+    input: &mut R,
+    output: &mut W,
+    errors: &mut E,
+) -> u8 {
+    let mut terminal = Terminal {
+        alloc: rt.alloc(),
+        is_asked: false,
+        env: &[],
+        outputs: FileOutputs::new(rt.alloc(), Host::new(rt)),
+        input,
+        output,
+        errors: Heard::new(errors),
+    };
+    run(&mut terminal, words, false)
+}
+
 /// Puts what the commands do with these words and this input.
 fn put_run(page: &mut Page, rt: &HostRuntime, words: &[u8], input: &[u8]) {
     let words = words_of(page, words);
     let mut output = Vec::new(page.alloc());
     let mut errors = Vec::new(page.alloc());
     let mut input = input;
-    let mut terminal = Terminal {
-        alloc: rt.alloc(),
-        is_asked: false,
-        env: &[],
-        outputs: FileOutputs::new(rt.alloc(), Host::new(rt)),
-        input: &mut input,
-        output: &mut output,
-        errors: Heard::new(&mut errors),
-    };
-    let status = run(&mut terminal, words.as_slice(), false);
+    let status = status_over(rt, words.as_slice(), &mut input, &mut output, &mut errors);
     page.put_number(usize::from(status));
     page.put_text(output.as_slice());
     page.put_text(errors.as_slice());
