@@ -4,6 +4,7 @@ pub mod Guards
 pub mod Listing
 pub mod Lines
 pub mod Logs
+pub mod Pages
 pub mod Quiet
 pub mod Runs
 pub mod Templates

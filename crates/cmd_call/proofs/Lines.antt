@@ -47,6 +47,31 @@ part_cut start mid now failed has_failed before part more is b = record {
   failed = λ e. is;
 }
 
+-- A text that the stream took whole.
+pub whole_begun : (start now : Option (List ℕ)) (has_failed : Bool) (text : List ℕ) → Appends start now text → IsBegun start now has_failed false text
+whole_begun start now has_failed text all = record {
+  front = (length text, subst (Appends start now) (sym (take_all (length text) text (omega arith))) all);
+  whole = λ e. all;
+  failed = λ e. absurd cc;
+}
+
+-- A text of which the stream took a front.
+pub front_begun : (start now : Option (List ℕ)) (has_failed : Bool) (text : List ℕ) → (n : ℕ) × Appends start now (take n text) → has_failed ≡ true → IsBegun start now has_failed true text
+front_begun start now has_failed text front is = record { front = front; whole = λ e. absurd cc; failed = λ e. is }
+
+-- A text that is empty.
+pub blank_begun : (start : Option (List ℕ)) (has_failed : Bool) (text : List ℕ) → text ≡ [] → IsBegun start start has_failed false text
+blank_begun start has_failed text is = whole_begun start start has_failed text (subst (Appends start start) (sym is) (nothing_appended start))
+
+-- A text, and then a text that was begun.
+pub begun_then : (start mid now : Option (List ℕ)) (failed has_failed is_cut : Bool) (before part : List ℕ)
+    → IsBegun start mid failed false before → IsBegun mid now has_failed is_cut part → IsBegun start now has_failed is_cut (before ++ part)
+begun_then start mid now failed has_failed is_cut before part b next = record {
+  front = let m = front_after before part next.front.0 in (m.0, appends_more start mid now before (take next.front.0 part) _ (b.whole refl) next.front.1 m.1);
+  whole = λ e. appends_more start mid now before part (before ++ part) (b.whole refl) (next.whole e) refl;
+  failed = next.failed;
+}
+
 -- A text that was written whole unless the stream failed.
 pub taken_whole : {E A : Type 0} (r : Result A E) (old new : Option (List ℕ)) (has_failed : Bool) (text : List ℕ)
     → OnOk r (Appends old new text) → OnErr r (has_failed ≡ true) → has_failed ≡ false → Appends old new text

@@ -41,3 +41,16 @@ pub record IsBegun (start now : Option (List ℕ)) (has_failed is_cut : Bool) (t
   pub front : (n : ℕ) × Appends start now (take n text)
   pub whole : is_cut ≡ false → Appends start now text
   pub failed : is_cut ≡ true → has_failed ≡ true
+
+-- These texts are said, in order. If it is asked why, pages may be said before, between and after them, and otherwise none. (own)
+pub data WithPages (is_asked : Bool) : List (List ℕ) → List (List ℕ) → Type 0 where
+  nothing : WithPages is_asked [] []
+  line : (text : List ℕ) {lines all : List (List ℕ)} → WithPages is_asked lines all → WithPages is_asked (text ∷ lines) (text ∷ all)
+  page : (text : List ℕ) {lines all : List (List ℕ)} → is_asked ≡ true → WithPages is_asked lines all → WithPages is_asked lines (text ∷ all)
+
+-- A stream took a front of each of these lines, in order, and of the pages with them if it is asked why, and nothing else. It took
+-- all of them unless it has failed. (own)
+pub record SaysLines {E : Type 0} (contents : E → Option (List ℕ)) (has_failed : E → Bool) (old new : E) (is_asked : Bool) (lines : List (List ℕ)) : Type 0 where
+  pub all : List (List ℕ)
+  pub among : WithPages is_asked lines all
+  pub said : AreSaid contents has_failed old new all

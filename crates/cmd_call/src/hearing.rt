@@ -1,23 +1,24 @@
-//! Standard error, as its lines are written to it.
+//! A stream that remembers whether it took all that was written to it.
 
-ghost use Rattle.std.specs.Prelude.{◌≡◌, ℕ, Bool, true, false, take, OnErr, OnOk};
+ghost use Rattle.std.specs.Prelude.{◌≡◌, ◌||◌, ℕ, Bool, true, false, take, is_err, OnErr, OnOk};
 ghost use Rattle.std.specs.Io.KnownBytes.{Appends};
 
 use crate::writes::{Stopped, write_front};
 use std::io::{self, Write};
 
-/// A stream for the lines of errors, which remembers whether it took all that it was to take.
+/// A stream for lines, which remembers whether it took all that it was to take.
 pub trait Hears: Write {
     // Whether it failed to take the whole of a text.
     ghost has_failed: { Self → Bool };
 
     /// Writes a text, as far as the stream takes it: all of it, unless no more of it can be
-    /// written.
+    /// written. The stream has failed from then on, and never otherwise.
     fn say(&mut self, text: &[u8]) -> Result<(), Stopped>
         ensures whole { OnOk result (Appends (Self.contents self.old) (Self.contents self.new) text.now) }
         ensures front { (n : ℕ)
             × Appends (Self.contents self.old) (Self.contents self.new) (take n text.now) }
         ensures cut { OnErr result (has_failed self.new ≡ true) }
+        ensures risen { has_failed self.new ≡ (has_failed self.old || is_err result) }
         ensures kept { has_failed self.new ≡ false → has_failed self.old ≡ false };
 }
 
@@ -65,9 +66,7 @@ impl<E: Write> Hears for Heard<E> {
 
     fn say(&mut self, text: &[u8]) -> Result<(), Stopped> {
         let said = write_front(text, &mut self.stream);
-        if said.is_err() {
-            self.has_failed = true;
-        }
+        self.has_failed = self.has_failed || said.is_err();
         said
     }
 }

@@ -3,7 +3,7 @@
 //!
 //! [`words`] and [`environment`] are what the process is given, and [`call_of`] says which command
 //! the words name. [`read_supplies`] and [`record_templates`] read what a command needs besides its
-//! source or its record. [`print_all`], [`print_lines`] and [`write_log`] leave what a run has for
+//! source or its record. [`print_all`], [`print_text`] and [`write_log`] leave what a run has for
 //! its user. Each error is one line on standard error, by a function `tell_..`, which returns
 //! [`FAULT`].
 //!
@@ -39,7 +39,7 @@ pub use error_lines::{
     tell_usage,
 };
 pub use hearing::{Heard, Hears};
-pub use printing::{LOG, print_all, print_lines, write_errors, write_log};
+pub use printing::{LOG, print_all, print_text, write_errors, write_log};
 pub use process::{Listed, ProcessTexts, Texts, environment, words};
 pub use progress::{Showing, showing_of};
 pub use spot::{Spot, record_spot};

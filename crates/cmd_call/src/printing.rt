@@ -1,12 +1,13 @@
 //! What the program prints and writes of a run: its messages, the lines of its outputs, and its
 //! log.
 
-ghost use Rattle.std.specs.Prelude.{◌≡◌, true, false, [], ◌∷◌, ◌++◌, Ok, OnOk, OnErr, IfOk, IsTrue, if◌then◌else◌};
+ghost use Rattle.std.specs.Prelude.{◌≡◌, ℕ, true, false, List, [], ◌∷◌, ◌++◌, Option, OnOk, OnErr, IfOk, IsTrue, is_err, if◌then◌else◌};
 ghost use Rattle.std.specs.List.{concat};
 ghost use Rattle.std.specs.Io.KnownBytes.{Appends};
 ghost use Rattle.cfglog.specs.Texts.{is_shown, log_of, messages_of, note_text};
 ghost use Rattle.deftable.specs.declared.note.Stream.TheVariants as streams;
 ghost use Rattle.cmd_call.specs.Errors.{AreTold, error_of, errors_of};
+ghost use Rattle.cmd_call.specs.Lines.{IsBegun};
 ghost use Rattle.cmd_call.specs.Logged.{HasLogged, HasNoLog};
 
 use crate::hearing::Hears;
@@ -16,20 +17,10 @@ use deftable::{Note, Stream};
 use file_disk::Disk;
 use file_texts::FileOutputs;
 use std::alloc::{AllocError, Global};
-use std::io::{self, ErrorKind, Write};
+use std::io::{self, ErrorKind};
 
 /// The name of the log.
 pub const LOG: &str = "config.log";
-
-/// Writes a text, unless it is empty.
-fn write_some<W: Write>(text: &[u8], output: &mut W) -> io::Result<()>
-    ensures { OnOk result (Appends (W.contents output.old) (W.contents output.new) text.now) }
-{
-    if text.is_empty() {
-        return Ok(());
-    }
-    output.write_all(text)
-}
 
 /// Returns what is printed on standard output of these pieces and then of the lines of the outputs.
 /// Quiet drops both.
@@ -49,50 +40,106 @@ fn printed_text(
     Ok(text)
 }
 
-/// Prints a piece for standard output. Quiet drops it, and so it does one for standard error.
-fn print_piece<W: Write>(note: &Note, quiet: bool, output: &mut W) -> io::Result<()>
-    ensures { OnOk result (
-        Appends (W.contents output.old) (W.contents output.new)
-        (note_text streams.Out quiet note.now)) }
+/// Prints a text, unless it is empty.
+///
+/// # Errors
+///
+/// Fails if the stream doesn't take all of it, with the error of the last write. Then the stream
+/// has a front of it.
+#[tactic(auto, using(crate::proofs::Lines::blank_begun, crate::proofs::Lines::whole_begun, crate::proofs::Lines::front_begun))]
+pub fn print_text<W: Hears>(text: &[u8], output: &mut W) -> io::Result<()>
+    ensures begun { IsBegun (W.contents output.old) (W.contents output.new)
+        (W.has_failed output.new) (is_err result) text.now }
+    ensures kept { W.has_failed output.new ≡ false → W.has_failed output.old ≡ false }
+    ensures nothing { text.now ≡ [] → output.new ≡ output.old }
 {
-    match note.stream {
-        Stream::Out if !quiet => output.write_all(note.text.as_slice()),
-        _ => Ok(()),
+    if text.is_empty() {
+        return Ok(());
+    }
+    match output.say(text) {
+        Ok(()) => Ok(()),
+        Err(stopped) => Err(stopped.error()),
     }
 }
 
-/// Prints the pieces for standard output, one by one. Quiet drops them.
-fn print_each<W: Write>(notes: &[Note], quiet: bool, output: &mut W) -> io::Result<()>
-    ensures { OnOk result (
-        Appends (W.contents output.old) (W.contents output.new)
-        (messages_of streams.Out quiet notes.now)) }
+/// Prints the next part of a text, unless a write failed before.
+fn print_part<W: Hears>(done: io::Result<()>, part: &[u8], output: &mut W) -> io::Result<()>
+    ensures begun { (start : Option (List ℕ)) (before : List ℕ)
+        → IsBegun start (W.contents output.old) (W.has_failed output.old) (is_err done) before
+        → IsBegun start (W.contents output.new) (W.has_failed output.new) (is_err result)
+        (before ++ part.now) }
+    ensures kept { W.has_failed output.new ≡ false → W.has_failed output.old ≡ false }
 {
-    'notes: for note in notes {
-        print_piece(note, quiet, output)?;
+    match done {
+        Ok(()) => print_text(part, output),
+        Err(e) => Err(e),
     }
-    Ok(())
+}
+
+/// Returns what is printed on standard output of a piece. Quiet drops it, and so it does one for
+/// standard error.
+fn printed_piece(note: &Note, quiet: bool) -> &[u8]
+    ensures { result.now ≡ note_text streams.Out quiet note.now }
+{
+    match note.stream {
+        Stream::Out if !quiet => note.text.as_slice(),
+        _ => b"",
+    }
+}
+
+/// Prints the pieces for standard output, one by one, as far as it takes them. Quiet drops them.
+fn print_each<W: Hears>(notes: &[Note], quiet: bool, output: &mut W) -> io::Result<()>
+    ensures begun { IsBegun (W.contents output.old) (W.contents output.new)
+        (W.has_failed output.new) (is_err result) (messages_of streams.Out quiet notes.now) }
+    ensures kept { W.has_failed output.new ≡ false → W.has_failed output.old ≡ false }
+{
+    let mut done = Ok(());
+    'notes: for note in notes {
+        done = print_part(done, printed_piece(note, quiet), output);
+    }
+    done
 }
 
 /// Prints the pieces for standard output one by one, and then the lines of the outputs. Quiet drops
 /// both.
-fn print_parts<W: Write>(
+fn print_parts<W: Hears>(
     notes: &[Note],
     lines: &[u8],
     quiet: bool,
     output: &mut W,
 ) -> io::Result<()>
-    ensures { OnOk result (
-        Appends (W.contents output.old) (W.contents output.new)
-        (messages_of streams.Out quiet notes.now ++ (if quiet then [] else lines.now))) }
+    ensures begun { IsBegun (W.contents output.old) (W.contents output.new)
+        (W.has_failed output.new) (is_err result)
+        (messages_of streams.Out quiet notes.now ++ (if quiet then [] else lines.now)) }
+    ensures kept { W.has_failed output.new ≡ false → W.has_failed output.old ≡ false }
 {
-    print_each(notes, quiet, output)?;
-    print_lines(lines, quiet, output)
+    let done = print_each(notes, quiet, output);
+    print_part(done, if quiet { b"" } else { lines }, output)
 }
 
-/// Prints the pieces for standard output, and then the lines of the outputs, in one write, unless
-/// what is before them could not be written. Quiet drops both. If there is no memory for the whole
-/// text, each part is a write of its own.
-fn print_next<W: Write>(
+/// Prints the pieces for standard output, and then the lines of the outputs, in one write. Quiet
+/// drops both. If there is no memory for the whole text, each part is a write of its own.
+fn print_run<W: Hears>(
+    alloc: Global,
+    notes: &[Note],
+    lines: &[u8],
+    quiet: bool,
+    output: &mut W,
+) -> io::Result<()>
+    ensures begun { IsBegun (W.contents output.old) (W.contents output.new)
+        (W.has_failed output.new) (is_err result)
+        (messages_of streams.Out quiet notes.now ++ (if quiet then [] else lines.now)) }
+    ensures kept { W.has_failed output.new ≡ false → W.has_failed output.old ≡ false }
+{
+    match printed_text(alloc, notes, lines, quiet) {
+        Ok(text) => print_text(text.as_slice(), output),
+        Err(_) => print_parts(notes, lines, quiet, output),
+    }
+}
+
+/// Prints the pieces for standard output, and then the lines of the outputs, unless what is before
+/// them could not be written. Quiet drops both.
+fn print_next<W: Hears>(
     alloc: Global,
     done: io::Result<()>,
     notes: &[Note],
@@ -100,16 +147,14 @@ fn print_next<W: Write>(
     quiet: bool,
     output: &mut W,
 ) -> io::Result<()>
-    ensures before { OnOk result (done ≡ Ok tt) }
-    ensures run { OnOk result (
-        Appends (W.contents output.old) (W.contents output.new)
-        (messages_of streams.Out quiet notes.now ++ (if quiet then [] else lines.now))) }
+    ensures begun { (start : Option (List ℕ)) (before : List ℕ)
+        → IsBegun start (W.contents output.old) (W.has_failed output.old) (is_err done) before
+        → IsBegun start (W.contents output.new) (W.has_failed output.new) (is_err result)
+        (before ++ (messages_of streams.Out quiet notes.now ++ (if quiet then [] else lines.now))) }
+    ensures kept { W.has_failed output.new ≡ false → W.has_failed output.old ≡ false }
 {
     match done {
-        Ok(()) => match printed_text(alloc, notes, lines, quiet) {
-            Ok(text) => write_some(text.as_slice(), output),
-            Err(_) => print_parts(notes, lines, quiet, output),
-        },
+        Ok(()) => print_run(alloc, notes, lines, quiet, output),
         Err(e) => Err(e),
     }
 }
@@ -156,7 +201,7 @@ fn print_error<E: Hears>(note: &Note, errors: &mut E)
 /// Fails if standard output doesn't take all of it. If a write fails there, what follows it there
 /// is dropped, and the pieces for standard error are printed all the same. That standard error
 /// can't be written is not reported.
-pub fn print_all<W: Write, E: Hears>(
+pub fn print_all<W: Hears, E: Hears>(
     alloc: Global,
     notes: &[Note],
     lines: &[u8],
@@ -164,9 +209,11 @@ pub fn print_all<W: Write, E: Hears>(
     output: &mut W,
     errors: &mut E,
 ) -> io::Result<()>
-    ensures run { OnOk result (
-        Appends (W.contents output.old) (W.contents output.new)
-        (messages_of streams.Out quiet notes.now ++ (if quiet then [] else lines.now))) }
+    // Standard output has all of its text, or a front of it, if it has failed.
+    ensures begun { IsBegun (W.contents output.old) (W.contents output.new)
+        (W.has_failed output.new) (is_err result)
+        (messages_of streams.Out quiet notes.now ++ (if quiet then [] else lines.now)) }
+    ensures heard { W.has_failed output.new ≡ false → W.has_failed output.old ≡ false }
     ensures told { AreTold (E.contents errors.old) (E.contents errors.new) (errors_of notes.now) }
     // Standard error has all of its messages, unless it has failed.
     ensures whole { E.has_failed errors.new ≡ false
@@ -184,17 +231,6 @@ pub fn print_all<W: Write, E: Hears>(
         print_error(&notes[i], errors);
     }
     print_next(alloc, done, &notes[start..], lines, quiet, output)
-}
-
-/// Prints the lines of the outputs. Quiet drops them.
-pub fn print_lines<W: Write>(lines: &[u8], quiet: bool, output: &mut W) -> io::Result<()>
-    ensures { OnOk result (
-        Appends (W.contents output.old) (W.contents output.new) (if quiet then [] else lines.now)) }
-{
-    if quiet {
-        return Ok(());
-    }
-    output.write_all(lines)
 }
 
 /// Writes the log of a run, as the last file that these outputs write.

@@ -3,17 +3,31 @@
 ghost use Rattle.std.specs.Prelude.{◌≡◌, ◌<◌, ◌≤◌, ℕ, [], length, take, IfErr, IfOk, OnErr, OnOk};
 ghost use Rattle.std.specs.Io.KnownBytes.{Appends};
 
-use std::io::{ErrorKind, Write};
+use std::io::{self, ErrorKind, Write};
 use std::marker::Model;
 
 /// The largest number of writes of one text.
 const MOST_WRITES: u64 = 1 << 32;
 
-/// Says that a text isn't written further: a write failed or took nothing, or there were too many
-/// of them. Only this module makes one.
+/// Says that a text isn't written further, and why: a write failed or took nothing, or there were
+/// too many of them. Only this module makes one.
 #[derive(Drop)]
 pub struct Stopped {
-    _private: (),
+    error: io::Error,
+}
+
+impl Stopped {
+    /// Returns the error of the last write.
+    pub fn error(self) -> io::Error {
+        self.error
+    }
+
+    /// Returns what is said of a write that took nothing.
+    fn nothing_taken() -> Stopped {
+        Stopped {
+            error: io::Error::new(ErrorKind::WriteZero, "nothing more can be written"),
+        }
+    }
 }
 
 /// Counts the writes of one text.
@@ -48,14 +62,14 @@ impl Writes {
             Appends (E.contents errors.old) (E.contents errors.new) []) }
     {
         if self.left == 0 {
-            return Err(Stopped { _private: () });
+            return Err(Stopped::nothing_taken());
         }
         self.left -= 1;
         match errors.write(text) {
-            Ok(0) => Err(Stopped { _private: () }),
+            Ok(0) => Err(Stopped::nothing_taken()),
             Ok(n) => Ok(n),
             Err(e) if e.kind() == ErrorKind::Interrupted => Ok(0),
-            Err(_) => Err(Stopped { _private: () }),
+            Err(error) => Err(Stopped { error }),
         }
     }
 }

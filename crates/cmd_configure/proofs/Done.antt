@@ -39,7 +39,8 @@ use Rattle.ac_tree.specs.Script.{Script}
 use Rattle.cmd_status.specs.Printed.{printed}
 use Rattle.cmd_configure.specs.Configures.{IsAsked, IsConfigured, IsRun, ReadsSource, shown, ran}
 use Rattle.cmd_call.specs.Errors.{errors_of}
-use Rattle.cmd_call.specs.Lines.{AreSaid}
+use Rattle.cmd_call.specs.Lines.{SaysLines}
+use Rattle.cmd_status.specs.Reasons.{unwritten}
 use Rattle.cmd_call.specs.Guarded.{AreGuarded, inputs_of}
 use Rattle.cmd_call.specs.Supplies.{AreGiven}
 
@@ -61,11 +62,24 @@ shows_silent a e script found report is kind =
     ap (λ (r : Report). errors_of r.messages) s.is ∙ shown_silent script s.settings
 
 -- So only what standard output didn't take is said.
-pub shown_said : {E : Type 0} (contents : E → Option (List ℕ)) (has_failed : E → Bool) (old new : E) (a : List (List ℕ)) (e : List (List ℕ × List ℕ)) (script : Script) (found : Found) (report : Report) (lines : List (List ℕ))
+pub shown_said : {E : Type 0} (contents : E → Option (List ℕ)) (has_failed : E → Bool) (old new : E) (is_asked : Bool) (a : List (List ℕ)) (e : List (List ℕ × List ℕ)) (script : Script) (found : Found) (report : Report) (lines : List (List ℕ))
     → judgement a e script ≡ Ok (judged_of found) → found ≡ founds.Shows report
-    → AreSaid contents has_failed old new (errors_of report.messages ++ lines) → AreSaid contents has_failed old new lines
-shown_said contents has_failed old new a e script found report lines is kind said =
-    subst (λ ms. AreSaid contents has_failed old new (ms ++ lines)) (shows_silent a e script found report is kind) said
+    → SaysLines contents has_failed old new is_asked (errors_of report.messages ++ lines) → SaysLines contents has_failed old new is_asked lines
+shown_said contents has_failed old new is_asked a e script found report lines is kind said =
+    subst (λ ms. SaysLines contents has_failed old new is_asked (ms ++ lines)) (shows_silent a e script found report is kind) said
+
+-- If standard output took the text, only the messages are said, of which there are none.
+pub shown_alone : {E : Type 0} (contents : E → Option (List ℕ)) (has_failed : E → Bool) (old new : E) (is_asked is_printed : Bool) (messages : List (List ℕ)) → is_printed ≡ true
+    → SaysLines contents has_failed old new is_asked (messages ++ unwritten (codes "standard output") is_printed) → SaysLines contents has_failed old new is_asked messages
+shown_alone contents has_failed old new is_asked is_printed messages is said =
+    subst (SaysLines contents has_failed old new is_asked) (ap (λ b. messages ++ unwritten (codes "standard output") b) is ∙ append-nil messages) said
+
+-- What is printed of a text that is shown.
+pub shown_printed : (a : List (List ℕ)) (e : List (List ℕ × List ℕ)) (script : Script) (found : Found) (report : Report) (is : judgement a e script ≡ Ok (judged_of found)) (kind : found ≡ founds.Shows report)
+    → printed false report.messages [] ≡ shown_text script (shows_as a e script found report is kind).settings
+shown_printed a e script found report is kind =
+    let s = shows_as a e script found report is kind in
+    ap (λ (r : Report). printed false r.messages []) s.is ∙ shown_out script s.settings
 
 -- What was shown, by what was judged.
 pub is_shown : (window : ℕ) (a : List (List ℕ)) (e : List (List ℕ × List ℕ)) (now : Account) (old new : Option Known) (source : List ℕ) (script : Script) (found : Found) (report : Report) (status : ℕ)

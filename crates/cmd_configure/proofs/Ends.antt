@@ -12,7 +12,8 @@ use Rattle.options.specs.declared.settings.Settings.{Settings}
 use Rattle.cmd_status.proofs.Remakes.{guarded_before}
 use Rattle.cmd_status.specs.Happened.{after_fault}
 use Rattle.cmd_status.specs.Left.{AreSameFiles, IsFinished, IsReported}
-use Rattle.cmd_status.specs.Reasons.{lines_after, memory_line, run_line}
+use Rattle.cmd_status.specs.Printed.{Written, only_lines}
+use Rattle.cmd_status.specs.Reasons.{memory_line, run_line, written_after}
 use Rattle.cmd_status.specs.declared.happened.Happened.{Happened}
 use Rattle.cmd_status.specs.declared.happened.Happened.TheVariants.{OutOfMemory, Ran, Refused}
 use Rattle.cmd_status.specs.declared.happened.RunLeft.{RunLeft}
@@ -105,12 +106,12 @@ same_left old mid fin log true kept wrote began = same_by old mid fin (Writes lo
 same_left old mid fin log false kept wrote began = same_by old mid fin Begins kept (began refl)
 
 -- What is left of a run that has this report.
-run_left : {D : Type 0} (known : D → Option Known) (d : D) (before_puts mid fin : Held D) (window : ℕ) (a : List (List ℕ)) (script : Script) (settings : Settings) (c : Option (List ℕ)) (t : List (List ℕ × List ℕ)) (start : Start) (before now : Account) (report : Report) (number : Option ℕ) (left : RunLeft) (said : List (List ℕ))
+run_left : {D : Type 0} (known : D → Option Known) (d : D) (before_puts mid fin : Held D) (window : ℕ) (a : List (List ℕ)) (script : Script) (settings : Settings) (c : Option (List ℕ)) (t : List (List ℕ × List ℕ)) (start : Start) (before now : Account) (report : Report) (number : Option ℕ) (left : RunLeft) (written : Written)
     → before_puts.disk ≡ d → mid.closed ≡ false → AreGuarded (known before_puts.disk) before_puts.guards (inputs_of settings.srcdir t) → mid.guards ≡ before_puts.guards → option_map (λ k. k.files) (known mid.disk) ≡ option_map (λ k. k.files) (known before_puts.disk)
     → AreGiven (known d) script settings.cache_name settings.srcdir settings.no_create c t → started a c t script settings ≡ Ok start
-    → IsMeant window script start before now report → Took (artifacts script start t report) mid number → IfCompleted report.outcome (Remakes script start t report) → IsReported known mid fin report number left → said ≡ lines_after report left
-    → IsRunLeft window a script settings before now (known d) (known fin.disk) left said
-run_left known d before_puts mid fin window a script settings c t start before now report number left said disk opened guarded same_guards same_files given is meant took again told says =
+    → IsMeant window script start before now report → Took (artifacts script start t report) mid number → IfCompleted report.outcome (Remakes script start t report) → IsReported known mid fin report number left → written ≡ written_after settings.quiet report mid.lines left
+    → IsRunLeft window a script settings before now (known d) (known fin.disk) left written
+run_left known d before_puts mid fin window a script settings c t start before now report number left written disk opened guarded same_guards same_files given is meant took again told writes =
     record {
       cache = c;
       templates = t;
@@ -121,11 +122,11 @@ run_left known d before_puts mid fin window a script settings c t start before n
       meant = meant;
       remakes = again;
       exits = told.exits;
-      says = says;
       taken = mid.handed;
       are_taken = subst (λ (o : Option ℕ). AreTaken (artifacts script start t report) mid.handed o) (sym told.refuses) took.are_taken;
       lines = mid.lines;
       are_lines = told.held.lines;
+      writes = writes;
       guards = before_puts.guards;
       guarded = guarded_before known d before_puts.disk before_puts.guards (inputs_of settings.srcdir t) disk guarded;
       unguarded = subst (λ (gs : List Guard). AreUnguarded gs mid.handed) same_guards told.held.unguarded;
@@ -223,32 +224,32 @@ same_fault : (a b : Fault) → IsFault (Err a) b → a ≡ b
 same_fault a b e = cc
 
 -- The same end, by what is equal.
-ends_as : (window : ℕ) (a : List (List ℕ)) (script : Script) (settings : Settings) (before now : Account) (old new : Option Known) (happened other : Happened) (said lines : List (List ℕ))
+ends_as : (window : ℕ) (a : List (List ℕ)) (script : Script) (settings : Settings) (before now : Account) (old new : Option Known) (happened other : Happened) (said lines : Written)
     → happened ≡ other → said ≡ lines → IsRunEnd window a script settings before now old new other lines → IsRunEnd window a script settings before now old new happened said
 ends_as window a script settings before now old new happened other said lines is says h =
     subst (λ x. IsRunEnd window a script settings before now old new x said) (sym is) (subst (λ ls. IsRunEnd window a script settings before now old new other ls) (sym says) h)
 
-pub run_ended : {D : Type 0} (known : D → Option Known) (d : D) (before_puts mid fin : Held D) (r : Result Start Fault) (window : ℕ) (a : List (List ℕ)) (script : Script) (settings : Settings) (c : Option (List ℕ)) (t : List (List ℕ × List ℕ)) (before now : Account) (precious : List (List ℕ)) (answer : Result Report Fault) (happened : Happened) (said : List (List ℕ))
-    → IsGone known d before_puts mid fin r window a script settings c t before now answer → precious ≡ (lists_of script).precious → IsFinished known mid fin precious answer happened said
+pub run_ended : {D : Type 0} (known : D → Option Known) (d : D) (before_puts mid fin : Held D) (r : Result Start Fault) (window : ℕ) (a : List (List ℕ)) (script : Script) (settings : Settings) (c : Option (List ℕ)) (t : List (List ℕ × List ℕ)) (before now : Account) (precious : List (List ℕ)) (quiet : Settings) (answer : Result Report Fault) (happened : Happened) (said : Written)
+    → IsGone known d before_puts mid fin r window a script settings c t before now answer → precious ≡ (lists_of script).precious → quiet ≡ settings → IsFinished known quiet.quiet mid fin precious answer happened said
     → IsRunEnd window a script settings before now (known d) (known fin.disk) happened said
-run_ended known d before_puts mid fin (Ok start) window a script settings c t before now precious (Ok report) happened said g names f =
+run_ended known d before_puts mid fin (Ok start) window a script settings c t before now precious quiet (Ok report) happened said g names same f =
     subst (λ h. IsRunEnd window a script settings before now (known d) (known fin.disk) h said) (sym f.1)
     (ran (run_left known d before_puts mid fin window a script settings c t start before now report None f.0 said g.disk (g.same_closed ∙ g.new.opened) g.guarded g.same_guards g.same_files g.given g.is
-    g.meaning (took_all before_puts mid (artifacts script start t report) g.new g.handed) g.remakes f.2 f.3))
-run_ended known d before_puts mid fin (Ok start) window a script settings c t before now precious (Err (faults.PutRefused number report)) happened said g names f =
+    g.meaning (took_all before_puts mid (artifacts script start t report) g.new g.handed) g.remakes f.2 (f.3 ∙ ap (λ (s : Settings). written_after s.quiet report mid.lines f.0) same)))
+run_ended known d before_puts mid fin (Ok start) window a script settings c t before now precious quiet (Err (faults.PutRefused number report)) happened said g names same f =
     subst (λ h. IsRunEnd window a script settings before now (known d) (known fin.disk) h said) (sym f.1)
     (ran (run_left known d before_puts mid fin window a script settings c t start before now report (Some number) f.0 said g.disk (g.same_closed ∙ g.new.opened) g.guarded g.same_guards g.same_files g.given g.is
-    g.meaning (took_first before_puts mid (artifacts script start t report) number report g.new g.cut) g.remakes f.2 f.3))
-run_ended known d before_puts mid fin (Ok start) window a script settings c t before now precious (Err faults.OutOfMemory) happened said g names f =
-    ends_as window a script settings before now (known d) (known fin.disk) happened OutOfMemory said (memory_line ∷ []) f.0 f.2
+    g.meaning (took_first before_puts mid (artifacts script start t report) number report g.new g.cut) g.remakes f.2 (f.3 ∙ ap (λ (s : Settings). written_after s.quiet report mid.lines f.0) same)))
+run_ended known d before_puts mid fin (Ok start) window a script settings c t before now precious quiet (Err faults.OutOfMemory) happened said g names same f =
+    ends_as window a script settings before now (known d) (known fin.disk) happened OutOfMemory said (only_lines (memory_line ∷ [])) f.0 f.2
     (cut_off c t start g.given g.is (g.begun refl) (nothing_done known d before_puts mid fin g.disk (g.memory refl) f.1))
-run_ended known d before_puts mid fin (Ok start) window a script settings c t before now precious (Err other) happened said g names f = absurd g.accepted
-run_ended known d before_puts mid fin (Err first) window a script settings c t before now precious (Ok report) happened said g names f = let e : Ok report ≡ Err first = g.accepted in absurd (cc)
-run_ended known d before_puts mid fin (Err first) window a script settings c t before now precious (Err faults.OutOfMemory) happened said g names f =
-    ends_as window a script settings before now (known d) (known fin.disk) happened OutOfMemory said (memory_line ∷ []) f.0 f.2
+run_ended known d before_puts mid fin (Ok start) window a script settings c t before now precious quiet (Err other) happened said g names same f = absurd g.accepted
+run_ended known d before_puts mid fin (Err first) window a script settings c t before now precious quiet (Ok report) happened said g names same f = let e : Ok report ≡ Err first = g.accepted in absurd (cc)
+run_ended known d before_puts mid fin (Err first) window a script settings c t before now precious quiet (Err faults.OutOfMemory) happened said g names same f =
+    ends_as window a script settings before now (known d) (known fin.disk) happened OutOfMemory said (only_lines (memory_line ∷ [])) f.0 f.2
     (unstarted (g.untouched tt).0 (nothing_done known d before_puts mid fin g.disk (g.untouched tt).1 f.1))
-run_ended known d before_puts mid fin (Err first) window a script settings c t before now precious (Err (faults.PutRefused number report)) happened said g names f =
+run_ended known d before_puts mid fin (Err first) window a script settings c t before now precious quiet (Err (faults.PutRefused number report)) happened said g names same f =
     absurd (no_put_of (faults.PutRefused number report) (subst HasNoPut (g.is ∙ ap Err (sym (same_fault _ _ g.accepted))) (started_no_put a c t script settings)))
-run_ended known d before_puts mid fin (Err first) window a script settings c t before now precious (Err other) happened said g names f =
-    ends_as window a script settings before now (known d) (known fin.disk) happened _ said _ f.0 (f.2 ∙ ap (λ p. run_line (Some p) other ∷ []) names)
+run_ended known d before_puts mid fin (Err first) window a script settings c t before now precious quiet (Err other) happened said g names same f =
+    ends_as window a script settings before now (known d) (known fin.disk) happened _ said _ f.0 (f.2 ∙ ap (λ p. only_lines (run_line (Some p) other ∷ [])) names)
     (refused c t g.given (g.is ∙ ap Err (sym (same_fault _ _ g.accepted))) (g.untouched tt).0 (nothing_done known d before_puts mid fin g.disk (g.untouched tt).1 f.1))

@@ -3,8 +3,8 @@
 ghost use Rattle.std.specs.Prelude.{◌≡◌, true, false, Some, codes};
 ghost use Rattle.cmd_configure.specs.Configures.{IsRechecked};
 ghost use Rattle.cmd_configure.specs.Ended.{HasHappenedAgain, Prints};
-ghost use Rattle.cmd_status.specs.Happened.{is_all_done, status_after};
-ghost use Rattle.cmd_status.specs.Reasons.{SaysOf};
+ghost use Rattle.cmd_status.specs.Happened.{is_all_done, is_output_cut, status_after};
+ghost use Rattle.cmd_status.specs.Printed.{WritesSo};
 ghost use Rattle.crew_trait.specs.Events.{IsIdle};
 ghost use Rattle.file_texts.specs.Held.{fresh};
 ghost use Rattle.cmd_call.specs.Supplies.{ReadsWhole};
@@ -19,7 +19,7 @@ use crew_trait::Crew;
 use engine_frame::recheck_args;
 use file_disk::Disk;
 use file_texts::read_text;
-use std::io::{Read, Write};
+use std::io::Read;
 
 /// Returns what the faults of a record with this text are explained by.
 fn why_of(is_asked: bool, text: &[u8]) -> Why<'_>
@@ -36,7 +36,7 @@ fn why_of(is_asked: bool, text: &[u8]) -> Why<'_>
 
 /// Runs a configure.ac again with the arguments of the record that has this text, and returns
 /// what happened.
-fn run_again<D: Disk, C: Crew + Causes, R: Read, W: Write, E: Hears>(
+fn run_again<D: Disk, C: Crew + Causes, R: Read, W: Hears, E: Hears>(
     terminal: &mut Terminal<'_, D, R, W, E>,
     text: &[u8],
     crew: &mut C,
@@ -47,14 +47,14 @@ fn run_again<D: Disk, C: Crew + Causes, R: Read, W: Write, E: Hears>(
     requires fresh { terminal.old.outputs ≡ fresh terminal.old.outputs.disk }
     ensures idle { IsIdle (C.account crew.new).events }
     ensures run { is_all_done result ≡ true
-        → Prints terminal.old.is_asked (W.contents terminal.old.output)
-        (W.contents terminal.new.output) (E.contents terminal.old.errors)
-        (E.contents terminal.new.errors) (λ out said.
+        → Prints (W.contents terminal.old.output) (W.contents terminal.new.output) E.contents
+        E.has_failed terminal.old.errors terminal.new.errors terminal.old.is_asked (λ out said.
         IsRechecked terminal.old.env.now (C.account crew.old) (C.account crew.new)
         (D.known terminal.old.outputs.disk) (D.known terminal.new.outputs.disk) out said
         (status_after result)) }
-    ensures ended { SaysOf E.contents E.has_failed terminal.old.errors terminal.new.errors
-        (terminal.old.is_asked ≡ false) (
+    ensures ended { WritesSo W.contents W.has_failed E.contents E.has_failed terminal.old.output
+        terminal.new.output terminal.old.errors terminal.new.errors terminal.old.is_asked
+        (is_output_cut result) (
         HasHappenedAgain terminal.old.env.now (C.account crew.old) (C.account crew.new)
         (D.known terminal.old.outputs.disk) (D.known terminal.new.outputs.disk) result) }
     ensures input { terminal.new.input ≡ terminal.old.input }
@@ -79,7 +79,7 @@ fn run_again<D: Disk, C: Crew + Causes, R: Read, W: Write, E: Hears>(
 /// The environment is that of now, and at most one child runs at once. The record and the log are
 /// written again, and the cache if one is named, but no file and no header. If anything is wrong,
 /// standard error has a line for it (own). If it is asked, further lines may say why.
-pub fn run_recheck<D: Disk, C: Crew + Causes, R: Read, W: Write, E: Hears>(
+pub fn run_recheck<D: Disk, C: Crew + Causes, R: Read, W: Hears, E: Hears>(
     terminal: &mut Terminal<'_, D, R, W, E>,
     crew: &mut C,
 ) -> Happened
@@ -87,14 +87,14 @@ pub fn run_recheck<D: Disk, C: Crew + Causes, R: Read, W: Write, E: Hears>(
     requires fresh { terminal.old.outputs ≡ fresh terminal.old.outputs.disk }
     ensures idle { IsIdle (C.account crew.new).events }
     ensures run { is_all_done result ≡ true
-        → Prints terminal.old.is_asked (W.contents terminal.old.output)
-        (W.contents terminal.new.output) (E.contents terminal.old.errors)
-        (E.contents terminal.new.errors) (λ out said.
+        → Prints (W.contents terminal.old.output) (W.contents terminal.new.output) E.contents
+        E.has_failed terminal.old.errors terminal.new.errors terminal.old.is_asked (λ out said.
         IsRechecked terminal.old.env.now (C.account crew.old) (C.account crew.new)
         (D.known terminal.old.outputs.disk) (D.known terminal.new.outputs.disk) out said
         (status_after result)) }
-    ensures ended { SaysOf E.contents E.has_failed terminal.old.errors terminal.new.errors
-        (terminal.old.is_asked ≡ false) (
+    ensures ended { WritesSo W.contents W.has_failed E.contents E.has_failed terminal.old.output
+        terminal.new.output terminal.old.errors terminal.new.errors terminal.old.is_asked
+        (is_output_cut result) (
         HasHappenedAgain terminal.old.env.now (C.account crew.old) (C.account crew.new)
         (D.known terminal.old.outputs.disk) (D.known terminal.new.outputs.disk) result) }
     ensures input { terminal.new.input ≡ terminal.old.input }

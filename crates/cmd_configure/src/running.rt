@@ -4,8 +4,8 @@ ghost use Rattle.std.specs.Prelude.{◌≡◌, true, false, Ok, option_copied};
 ghost use Rattle.acparse.specs.Profile.{source_of};
 ghost use Rattle.cmd_configure.specs.Configures.{IsConfigured, IsRun, ReadsSource};
 ghost use Rattle.cmd_configure.specs.Ended.{HasHappened, IsRunEnd, Prints};
-ghost use Rattle.cmd_status.specs.Happened.{is_all_done, status_after};
-ghost use Rattle.cmd_status.specs.Reasons.{SaysOf};
+ghost use Rattle.cmd_status.specs.Happened.{is_all_done, is_output_cut, status_after};
+ghost use Rattle.cmd_status.specs.Printed.{WritesSo};
 ghost use Rattle.crew_trait.specs.Events.{IsIdle};
 ghost use Rattle.file_texts.specs.Held.{fresh};
 ghost use Rattle.engine.specs.Judged.{IsRead};
@@ -28,7 +28,7 @@ use engine::{Fault, Judged, Needs, go, judge};
 use file_disk::Disk;
 use file_texts::{path_in, read_limited};
 use options::srcdir_of;
-use std::io::{Read, Write};
+use std::io::Read;
 use std::mem::ManuallyDrop;
 
 /// Returns the text of the cache, if there is one.
@@ -55,7 +55,7 @@ fn given_of<'a>(needs: &'a Needs<'_>, cache: Option<&'a [u8]>) -> Given<'a>
 
 /// Runs a source that was judged, with what was read for it, and returns what happened.
 #[tactic(auto, using(file_texts::proofs::Unused::fresh_unused))]
-fn run_supplied<D: Disk, C: Crew + Causes, R: Read, W: Write, E: Hears>(
+fn run_supplied<D: Disk, C: Crew + Causes, R: Read, W: Hears, E: Hears>(
     terminal: &mut Terminal<'_, D, R, W, E>,
     window: usize,
     why: &Why<'_>,
@@ -65,6 +65,7 @@ fn run_supplied<D: Disk, C: Crew + Causes, R: Read, W: Write, E: Hears>(
 ) -> Happened
     requires window { IsWindow window }
     requires may_run { MayRun (C.account crew.old) }
+    requires asked { why.now.is_asked ≡ terminal.old.is_asked }
     requires source { IsRead (script_in needs.now) }
     requires given { AreGiven (D.known terminal.old.outputs.disk) (script_in needs.now)
         needs.now.settings.cache_name needs.now.settings.srcdir needs.now.settings.no_create
@@ -72,14 +73,14 @@ fn run_supplied<D: Disk, C: Crew + Causes, R: Read, W: Write, E: Hears>(
     requires fresh { terminal.old.outputs ≡ fresh terminal.old.outputs.disk }
     ensures idle { IsIdle (C.account crew.new).events }
     ensures run { is_all_done result ≡ true
-        → Prints terminal.old.is_asked (W.contents terminal.old.output)
-        (W.contents terminal.new.output) (E.contents terminal.old.errors)
-        (E.contents terminal.new.errors) (λ out said.
+        → Prints (W.contents terminal.old.output) (W.contents terminal.new.output) E.contents
+        E.has_failed terminal.old.errors terminal.new.errors terminal.old.is_asked (λ out said.
         IsRun window needs.now.arguments (script_in needs.now) needs.now.settings
         (C.account crew.old) (C.account crew.new) (D.known terminal.old.outputs.disk)
         (D.known terminal.new.outputs.disk) out said (status_after result)) }
-    ensures ended { SaysOf E.contents E.has_failed terminal.old.errors terminal.new.errors
-        ((why.now.is_asked ≡ false) × (terminal.old.is_asked ≡ false)) (
+    ensures ended { WritesSo W.contents W.has_failed E.contents E.has_failed terminal.old.output
+        terminal.new.output terminal.old.errors terminal.new.errors terminal.old.is_asked
+        (is_output_cut result) (
         IsRunEnd window needs.now.arguments (script_in needs.now) needs.now.settings
         (C.account crew.old) (C.account crew.new) (D.known terminal.old.outputs.disk)
         (D.known terminal.new.outputs.disk) result) }
@@ -99,7 +100,7 @@ fn run_supplied<D: Disk, C: Crew + Causes, R: Read, W: Write, E: Hears>(
 }
 
 /// Reads what a source that was judged needs, runs it, and returns what happened.
-fn run_needs<D: Disk, C: Crew + Causes, R: Read, W: Write, E: Hears>(
+fn run_needs<D: Disk, C: Crew + Causes, R: Read, W: Hears, E: Hears>(
     terminal: &mut Terminal<'_, D, R, W, E>,
     window: usize,
     why: &Why<'_>,
@@ -108,18 +109,19 @@ fn run_needs<D: Disk, C: Crew + Causes, R: Read, W: Write, E: Hears>(
 ) -> Happened
     requires window { IsWindow window }
     requires may_run { MayRun (C.account crew.old) }
+    requires asked { why.now.is_asked ≡ terminal.old.is_asked }
     requires source { IsRead (script_in needs.now) }
     requires fresh { terminal.old.outputs ≡ fresh terminal.old.outputs.disk }
     ensures idle { IsIdle (C.account crew.new).events }
     ensures run { is_all_done result ≡ true
-        → Prints terminal.old.is_asked (W.contents terminal.old.output)
-        (W.contents terminal.new.output) (E.contents terminal.old.errors)
-        (E.contents terminal.new.errors) (λ out said.
+        → Prints (W.contents terminal.old.output) (W.contents terminal.new.output) E.contents
+        E.has_failed terminal.old.errors terminal.new.errors terminal.old.is_asked (λ out said.
         IsRun window needs.now.arguments (script_in needs.now) needs.now.settings
         (C.account crew.old) (C.account crew.new) (D.known terminal.old.outputs.disk)
         (D.known terminal.new.outputs.disk) out said (status_after result)) }
-    ensures ended { SaysOf E.contents E.has_failed terminal.old.errors terminal.new.errors
-        ((why.now.is_asked ≡ false) × (terminal.old.is_asked ≡ false)) (
+    ensures ended { WritesSo W.contents W.has_failed E.contents E.has_failed terminal.old.output
+        terminal.new.output terminal.old.errors terminal.new.errors terminal.old.is_asked
+        (is_output_cut result) (
         IsRunEnd window needs.now.arguments (script_in needs.now) needs.now.settings
         (C.account crew.old) (C.account crew.new) (D.known terminal.old.outputs.disk)
         (D.known terminal.new.outputs.disk) result) }
@@ -138,7 +140,7 @@ fn run_needs<D: Disk, C: Crew + Causes, R: Read, W: Write, E: Hears>(
 }
 
 /// Judges a source, runs it or shows a text, and returns what happened.
-fn run_source<D: Disk, C: Crew + Causes, R: Read, W: Write, E: Hears>(
+fn run_source<D: Disk, C: Crew + Causes, R: Read, W: Hears, E: Hears>(
     terminal: &mut Terminal<'_, D, R, W, E>,
     window: usize,
     why: &Why<'_>,
@@ -147,6 +149,7 @@ fn run_source<D: Disk, C: Crew + Causes, R: Read, W: Write, E: Hears>(
 ) -> Happened
     requires window { IsWindow window }
     requires may_run { MayRun (C.account crew.old) }
+    requires asked { why.now.is_asked ≡ terminal.old.is_asked }
     requires found { ReadsSource (D.known terminal.old.outputs.disk) why.now.args.now
         why.now.text.now }
     requires source { source_of why.now.text.now ≡ Ok (script_of source.now) }
@@ -155,14 +158,14 @@ fn run_source<D: Disk, C: Crew + Causes, R: Read, W: Write, E: Hears>(
     requires fresh { terminal.old.outputs ≡ fresh terminal.old.outputs.disk }
     ensures idle { IsIdle (C.account crew.new).events }
     ensures run { is_all_done result ≡ true
-        → Prints terminal.old.is_asked (W.contents terminal.old.output)
-        (W.contents terminal.new.output) (E.contents terminal.old.errors)
-        (E.contents terminal.new.errors) (λ out said.
+        → Prints (W.contents terminal.old.output) (W.contents terminal.new.output) E.contents
+        E.has_failed terminal.old.errors terminal.new.errors terminal.old.is_asked (λ out said.
         IsConfigured window why.now.args.now terminal.old.env.now (C.account crew.old)
         (C.account crew.new) (D.known terminal.old.outputs.disk)
         (D.known terminal.new.outputs.disk) out said (status_after result)) }
-    ensures ended { SaysOf E.contents E.has_failed terminal.old.errors terminal.new.errors
-        ((why.now.is_asked ≡ false) × (terminal.old.is_asked ≡ false)) (
+    ensures ended { WritesSo W.contents W.has_failed E.contents E.has_failed terminal.old.output
+        terminal.new.output terminal.old.errors terminal.new.errors terminal.old.is_asked
+        (is_output_cut result) (
         HasHappened window why.now.args.now terminal.old.env.now (C.account crew.old)
         (C.account crew.new) (D.known terminal.old.outputs.disk)
         (D.known terminal.new.outputs.disk) result) }
@@ -183,7 +186,7 @@ fn run_source<D: Disk, C: Crew + Causes, R: Read, W: Write, E: Hears>(
 }
 
 /// Reads a source, runs it, and returns what happened.
-fn run_text<D: Disk, C: Crew + Causes, R: Read, W: Write, E: Hears>(
+fn run_text<D: Disk, C: Crew + Causes, R: Read, W: Hears, E: Hears>(
     terminal: &mut Terminal<'_, D, R, W, E>,
     window: usize,
     why: &Why<'_>,
@@ -191,19 +194,20 @@ fn run_text<D: Disk, C: Crew + Causes, R: Read, W: Write, E: Hears>(
 ) -> Happened
     requires window { IsWindow window }
     requires may_run { MayRun (C.account crew.old) }
+    requires asked { why.now.is_asked ≡ terminal.old.is_asked }
     requires found { ReadsSource (D.known terminal.old.outputs.disk) why.now.args.now
         why.now.text.now }
     requires fresh { terminal.old.outputs ≡ fresh terminal.old.outputs.disk }
     ensures idle { IsIdle (C.account crew.new).events }
     ensures run { is_all_done result ≡ true
-        → Prints terminal.old.is_asked (W.contents terminal.old.output)
-        (W.contents terminal.new.output) (E.contents terminal.old.errors)
-        (E.contents terminal.new.errors) (λ out said.
+        → Prints (W.contents terminal.old.output) (W.contents terminal.new.output) E.contents
+        E.has_failed terminal.old.errors terminal.new.errors terminal.old.is_asked (λ out said.
         IsConfigured window why.now.args.now terminal.old.env.now (C.account crew.old)
         (C.account crew.new) (D.known terminal.old.outputs.disk)
         (D.known terminal.new.outputs.disk) out said (status_after result)) }
-    ensures ended { SaysOf E.contents E.has_failed terminal.old.errors terminal.new.errors
-        ((why.now.is_asked ≡ false) × (terminal.old.is_asked ≡ false)) (
+    ensures ended { WritesSo W.contents W.has_failed E.contents E.has_failed terminal.old.output
+        terminal.new.output terminal.old.errors terminal.new.errors terminal.old.is_asked
+        (is_output_cut result) (
         HasHappened window why.now.args.now terminal.old.env.now (C.account crew.old)
         (C.account crew.new) (D.known terminal.old.outputs.disk)
         (D.known terminal.new.outputs.disk) result) }
@@ -247,7 +251,7 @@ fn why_of<'a>(is_asked: bool, path: &'a [u8], text: &'a [u8], args: &'a [Bytes])
 /// shown, nothing is written. If anything is wrong, standard error has a line for it (own). If it
 /// is found before the run, nothing is started or written; if a put is refused, or the log can't be
 /// written, outputs may have been written before that. If it is asked, further lines may say why.
-pub fn run_configure<D: Disk, C: Crew + Causes, R: Read, W: Write, E: Hears>(
+pub fn run_configure<D: Disk, C: Crew + Causes, R: Read, W: Hears, E: Hears>(
     terminal: &mut Terminal<'_, D, R, W, E>,
     window: usize,
     args: &[Bytes],
@@ -258,17 +262,17 @@ pub fn run_configure<D: Disk, C: Crew + Causes, R: Read, W: Write, E: Hears>(
     requires fresh { terminal.old.outputs ≡ fresh terminal.old.outputs.disk }
     ensures idle { IsIdle (C.account crew.new).events }
     ensures run { is_all_done result ≡ true
-        → Prints terminal.old.is_asked (W.contents terminal.old.output)
-        (W.contents terminal.new.output) (E.contents terminal.old.errors)
-        (E.contents terminal.new.errors) (λ out said.
+        → Prints (W.contents terminal.old.output) (W.contents terminal.new.output) E.contents
+        E.has_failed terminal.old.errors terminal.new.errors terminal.old.is_asked (λ out said.
         IsConfigured window args.now terminal.old.env.now (C.account crew.old)
         (C.account crew.new) (D.known terminal.old.outputs.disk)
         (D.known terminal.new.outputs.disk) out said (status_after result)) }
-    // If it isn't asked why, standard error has the messages of the run and the lines of what could
-    // not be written, or the line that says why there was no run, and nothing more, unless it has
-    // failed.
-    ensures ended { SaysOf E.contents E.has_failed terminal.old.errors terminal.new.errors
-        (terminal.old.is_asked ≡ false) (
+    // Standard output has what the run prints, or a front of it. Standard error has the messages of
+    // the run and the lines of what could not be written, or the line that says why there was no
+    // run. If it is asked why, it has pages among them, and otherwise nothing more.
+    ensures ended { WritesSo W.contents W.has_failed E.contents E.has_failed terminal.old.output
+        terminal.new.output terminal.old.errors terminal.new.errors terminal.old.is_asked
+        (is_output_cut result) (
         HasHappened window args.now terminal.old.env.now (C.account crew.old)
         (C.account crew.new) (D.known terminal.old.outputs.disk)
         (D.known terminal.new.outputs.disk) result) }

@@ -1,1 +1,2 @@
 pub mod BarredLines
+pub mod Meetings

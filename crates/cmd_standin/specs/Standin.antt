@@ -1,5 +1,5 @@
 -- The stand-in for a compiler (own): its answer, from its words, its list and the conftest.
-use Rattle.std.specs.Prelude.{◌≡◌, ℕ, ◌<◌, nat_eq, Bool, true, false, List, [], ◌∷◌, Option, Some, None, length, reverse, find, bytes_eq, codes, slice_get, slice_index_or, unwrap_or, IfSome, All}
+use Rattle.std.specs.Prelude.{◌≡◌, ◌⊎◌, ◌++◌, ℕ, ◌<◌, nat_eq, Bool, true, false, List, [], ◌∷◌, Option, Some, None, length, reverse, find, bytes_eq, codes, slice_get, slice_index_or, unwrap_or, IfSome, All}
 use Rattle.std.specs.List.{ends_with}
 use Rattle.bstr.specs.Text.{Contains}
 use Rattle.file_disk.specs.Known.{Known}
@@ -69,3 +69,12 @@ pub record IsAnswered (files : Option Known) (words : List (List ℕ)) (status :
   pub list : List ℕ
   pub read : ReadsText files list_name list
   pub answers : Answers files words list status
+
+-- If the files that were made are known, one of this name was made, or none. (own)
+abbrev pub IsMade : Option (List (List ℕ)) → Option (List (List ℕ)) → List ℕ → Type 0
+IsMade old new name = IfSome old (λ before. IfSome new (λ now. (now ≡ before) ⊎ (now ≡ before ++ name ∷ [])))
+
+-- No file was made; or at most one, by which the conftest of these words is seen: its name, and `.seen` after it. (own)
+pub data Meets (old new : Option (List (List ℕ))) (words : List (List ℕ)) : Type 0 where
+  apart : new ≡ old → Meets old new words
+  seen : (name : List ℕ) → conftest_name words ≡ Some name → IsMade old new (name ++ codes ".seen") → Meets old new words

@@ -6,21 +6,20 @@
 //! other one is accepted. A list with `!meet` as its first line tests that children run at the same
 //! time: each makes a file, and one of them waits for the file of another.
 
-ghost use Rattle.std.specs.Prelude.{◌≡◌, ◌↔◌, ◌⊎◌, ℕ, List, [], ◌∷◌, ◌++◌, Some, IsTrue, IfOk, OnErr, OnOk, IfSome, IfNone};
+ghost use Rattle.std.specs.Prelude.{◌≡◌, ◌↔◌, ◌⊎◌, ℕ, List, [], ◌∷◌, ◌++◌, Some, IsTrue, codes, IfOk, OnErr, OnOk, IfSome, IfNone};
 ghost use Rattle.std.specs.Option.{option_copied};
 ghost use Rattle.std.specs.Io.KnownBytes.{Appends};
 ghost use Rattle.cmd_standin.specs.Standin as meant;
-ghost use Rattle.cmd_standin.specs.Standin.{conftest_name, is_meeting, waiting, IsBarred, IsFirstBarred, HasNoBarred, IsAnswered};
+ghost use Rattle.cmd_standin.specs.Standin.{conftest_name, is_meeting, waiting, IsBarred, IsFirstBarred, HasNoBarred, IsAnswered, IsMade, Meets};
 
+use crate::meeting::Meeting;
 use crate::texts::{text_of, text_of_conftest};
 use bstr::ByteSlice;
 use deftable::Bytes;
 use file_disk::Disk;
 use file_texts::line_len;
 use std::alloc::{AllocError, Global};
-use std::fs;
 use std::io::Write;
-use std::rt::Files;
 use text_cut::parts;
 
 /// The name of the list.
@@ -53,9 +52,9 @@ const MOST_LOOKS: u32 = 200_000;
 /// # Errors
 ///
 /// Fails only if memory runs out.
-pub fn standin<F: Files, D: Disk, E: Write>(
+pub fn standin<M: Meeting, D: Disk, E: Write>(
     alloc: Global,
-    files: &F,
+    meeting: &mut M,
     disk: &D,
     words: &[Bytes],
     errors: &mut E,
@@ -68,11 +67,13 @@ pub fn standin<F: Files, D: Disk, E: Write>(
     ensures status { IfOk result (λ status. (status ≡ 0) ⊎ (status ≡ 1)) }
     // If memory runs out, it has written nothing.
     ensures unsaid { OnErr result (errors.new ≡ errors.old) }
+    // It makes no file but the one that shows that the conftest was seen.
+    ensures meets { Meets (M.made meeting.old) (M.made meeting.new) words.now }
 {
     let list = text_of(alloc, disk, LIST)?;
     let name = name_of_conftest(words);
     if asks_to_meet(list.as_slice()) {
-        return meet(alloc, files, name);
+        return meet(alloc, meeting, name);
     }
     let conftest = text_of_conftest(alloc, disk, name)?;
     judge(alloc, list.as_slice(), conftest.as_slice(), errors)
@@ -163,35 +164,40 @@ fn write_line<E: Write>(errors: &mut E, line: &[u8]) -> std::io::Result<()>
 
 /// Makes the file that shows that the conftest was seen. The conftest that waits then looks for the
 /// file of the other.
-fn meet<F: Files>(alloc: Global, files: &F, name: Option<&Bytes>) -> Result<u8, AllocError>
+fn meet<M: Meeting>(alloc: Global, meeting: &mut M, name: Option<&Bytes>) -> Result<u8, AllocError>
     ensures status { IfOk result (λ status. (status ≡ 0) ⊎ (status ≡ 1)) }
     ensures waited { IfOk result (λ status. status ≡ 1 → option_copied name.entry ≡ Some waiting) }
+    ensures meets { (words : List (List ℕ)) → option_copied name.entry ≡ conftest_name words
+        → Meets (M.made meeting.old) (M.made meeting.new) words }
 {
     let Some(name) = name else {
         return Ok(0);
     };
     let name = name.as_slice();
-    make_seen(alloc, files, name)?;
-    if name != WAITING || is_seen(files) {
+    make_seen(alloc, meeting, name)?;
+    if name != WAITING || is_seen(meeting) {
         return Ok(0);
     }
     Ok(1)
 }
 
 /// Makes the file that shows that the conftest was seen, if that is possible.
-fn make_seen<F: Files>(alloc: Global, files: &F, name: &[u8]) -> Result<(), AllocError> {
+#[tactic(auto, using(crate::proofs::Meetings::none_made))]
+fn make_seen<M: Meeting>(alloc: Global, meeting: &mut M, name: &[u8]) -> Result<(), AllocError>
+    ensures { IsMade (M.made meeting.old) (M.made meeting.new) (name.now ++ codes ".seen") }
+{
     let Ok(name) = std::str::from_utf8(name) else {
         return Ok(());
     };
     let seen = format!(in alloc; "{name}.seen")?;
-    let _ = fs::write(files, seen.as_str(), b"");
+    meeting.make(seen.as_str());
     Ok(())
 }
 
 /// Looks for the file that is waited for.
-fn is_seen<F: Files>(files: &F) -> bool {
+fn is_seen<M: Meeting>(meeting: &M) -> bool {
     for _ in 0..MOST_LOOKS {
-        if matches!(fs::exists(files, AWAITED), Ok(true)) {
+        if meeting.is_there(AWAITED) {
             return true;
         }
     }

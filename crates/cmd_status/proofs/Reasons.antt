@@ -1,11 +1,12 @@
 -- The lines of what happened, by what was told.
-use Rattle.std.proofs.Common.{◌≡◌, ℕ, Bool, false, List, [], ◌++◌, Option, Some, None, Result, Ok, Err, sym, subst, refl}
-use Rattle.std.specs.Prelude.{codes, decimal}
+use Rattle.std.proofs.Common.{◌≡◌, ℕ, Bool, false, List, [], ◌∷◌, ◌++◌, Option, Some, None, Result, Ok, Err, sym, subst, refl}
+use Rattle.std.specs.Prelude.{codes, decimal, not}
 use Rattle.std.specs.List.{concat}
 use Rattle.std.specs.Io.KnownBytes.{Appends}
 use Rattle.cmd_call.specs.Errors.{AreTold, errors_of}
-use Rattle.cmd_call.specs.Lines.{AreSaid, IsTold, error_line}
-use Rattle.cmd_call.proofs.Lines.{said_after, said_line, said_nothing}
+use Rattle.cmd_call.specs.Lines.{IsBegun, IsTold, SaysLines, error_line}
+use Rattle.cmd_call.proofs.Pages.{line_paged, says_lines, says_nothing, says_then}
+use Rattle.cmd_status.specs.Printed.{printed}
 use Rattle.cmd_status.specs.Reasons.{answer_line, put_line, run_line}
 use Rattle.deftable.specs.declared.note.Note.{Note}
 use Rattle.engine_frame.specs.declared.fault.Fault.{Fault}
@@ -22,32 +23,44 @@ other_line (Some ns) f other = refl
 
 -- ---- what a run leaves
 
--- The messages of a run were printed, and then lines were said.
-pub report_said : {E : Type 0} (contents : E → Option (List ℕ)) (has_failed : E → Bool) (old mid same new : E) (lent messages : List Note) (lines : List (List ℕ)) → lent ≡ messages
+-- The text was taken whole if this is so, and otherwise a front of it.
+pub taken_unless : (start now : Option (List ℕ)) (has_failed is_cut is_taken : Bool) (text : List ℕ)
+    → is_cut ≡ not is_taken → IsBegun start now has_failed is_cut text → IsBegun start now has_failed (not is_taken) text
+taken_unless start now has_failed is_cut is_taken text is begun = subst (λ b. IsBegun start now has_failed b text) is begun
+
+-- What is printed of a run.
+pub printed_unless : (start now : Option (List ℕ)) (has_failed is_cut is_taken quiet : Bool) (lent messages : List Note) (lines : List ℕ)
+    → lent ≡ messages → is_cut ≡ not is_taken → IsBegun start now has_failed is_cut (printed quiet lent lines) → IsBegun start now has_failed (not is_taken) (printed quiet messages lines)
+printed_unless start now has_failed is_cut is_taken quiet lent messages lines same is begun =
+    subst (λ ms. IsBegun start now has_failed (not is_taken) (printed quiet ms lines)) same (taken_unless start now has_failed is_cut is_taken (printed quiet lent lines) is begun)
+
+-- The messages of a run were printed, and pages, and then lines were said.
+pub report_said : {E : Type 0} (contents : E → Option (List ℕ)) (has_failed : E → Bool) (old mid paged new : E) (is_asked : Bool) (lent messages : List Note) (lines : List (List ℕ)) → lent ≡ messages
     → AreTold (contents old) (contents mid) (errors_of lent) → (has_failed mid ≡ false → Appends (contents old) (contents mid) (concat (errors_of lent))) → (has_failed mid ≡ false → has_failed old ≡ false)
-    → same ≡ mid → AreSaid contents has_failed same new lines → AreSaid contents has_failed old new (errors_of messages ++ lines)
-report_said contents has_failed old mid same new lent messages lines is told whole kept silent more =
-    subst (λ ms. AreSaid contents has_failed old new (errors_of ms ++ lines)) is
-    (said_after contents has_failed old mid same new (errors_of lent) lines (record { told = told; whole = whole; kept = kept }) silent more)
+    → SaysLines contents has_failed mid paged is_asked [] → SaysLines contents has_failed paged new is_asked lines → SaysLines contents has_failed old new is_asked (errors_of messages ++ lines)
+report_said contents has_failed old mid paged new is_asked lent messages lines is told whole kept pages more =
+    subst (λ ms. SaysLines contents has_failed old new is_asked (errors_of ms ++ lines)) is
+    (says_then contents has_failed old mid new is_asked (errors_of lent) lines
+    (says_lines contents has_failed old mid is_asked (errors_of lent) (record { told = told; whole = whole; kept = kept }))
+    (says_then contents has_failed mid paged new is_asked [] lines pages more))
 
 -- No put was refused.
-pub no_put_said : {E : Type 0} (contents : E → Option (List ℕ)) (has_failed : E → Bool) (e : E) (refused : Option ℕ) → refused ≡ None → AreSaid contents has_failed e e (put_line refused)
-no_put_said contents has_failed e refused is = subst (λ r. AreSaid contents has_failed e e (put_line r)) (sym is) (said_nothing contents has_failed e)
+pub no_put_said : {E : Type 0} (contents : E → Option (List ℕ)) (has_failed : E → Bool) (e : E) (is_asked : Bool) (refused : Option ℕ) → refused ≡ None → SaysLines contents has_failed e e is_asked (put_line refused)
+no_put_said contents has_failed e is_asked refused is = subst (λ r. SaysLines contents has_failed e e is_asked (put_line r)) (sym is) (says_nothing contents has_failed e is_asked)
 
--- The line of a refused put was told.
-pub put_said : {E : Type 0} (contents : E → Option (List ℕ)) (has_failed : E → Bool) (old mid new : E) (refused : Option ℕ) (number : ℕ) → refused ≡ Some number
-    → IsTold contents has_failed old mid (error_line (codes "put " ++ decimal number) []) → new ≡ mid → AreSaid contents has_failed old new (put_line refused)
-put_said contents has_failed old mid new refused number is told silent =
-    subst (λ r. AreSaid contents has_failed old new (put_line r)) (sym is)
-    (subst (λ e. AreSaid contents has_failed old e (put_line (Some number))) (sym silent) (said_line contents has_failed old mid _ told))
+-- The line of a refused put was told, and pages.
+pub put_said : {E : Type 0} (contents : E → Option (List ℕ)) (has_failed : E → Bool) (old mid new : E) (is_asked : Bool) (refused : Option ℕ) (number : ℕ) → refused ≡ Some number
+    → IsTold contents has_failed old mid (error_line (codes "put " ++ decimal number) []) → SaysLines contents has_failed mid new is_asked [] → SaysLines contents has_failed old new is_asked (put_line refused)
+put_said contents has_failed old mid new is_asked refused number is told pages =
+    subst (λ r. SaysLines contents has_failed old new is_asked (put_line r)) (sym is) (line_paged contents has_failed old mid new is_asked _ told pages)
 
 -- ---- outputs that are made again
 
 -- They have no fault.
-pub no_fault_said : {E : Type 0} (contents : E → Option (List ℕ)) (has_failed : E → Bool) (e : E) (answer : Result ℕ RemakeFault) (n : ℕ) → answer ≡ Ok n → AreSaid contents has_failed e e (answer_line answer)
-no_fault_said contents has_failed e answer n is = subst (λ a. AreSaid contents has_failed e e (answer_line a)) (sym is) (said_nothing contents has_failed e)
+pub no_fault_said : {E : Type 0} (contents : E → Option (List ℕ)) (has_failed : E → Bool) (e : E) (is_asked : Bool) (answer : Result ℕ RemakeFault) (n : ℕ) → answer ≡ Ok n → SaysLines contents has_failed e e is_asked (answer_line answer)
+no_fault_said contents has_failed e is_asked answer n is = subst (λ a. SaysLines contents has_failed e e is_asked (answer_line a)) (sym is) (says_nothing contents has_failed e is_asked)
 
 -- The line of their fault was told.
-pub fault_said : {E : Type 0} (contents : E → Option (List ℕ)) (has_failed : E → Bool) (old new : E) (answer : Result ℕ RemakeFault) (f : RemakeFault) → answer ≡ Err f
-    → IsTold contents has_failed old new (remake_line f) → AreSaid contents has_failed old new (answer_line answer)
-fault_said contents has_failed old new answer f is told = subst (λ a. AreSaid contents has_failed old new (answer_line a)) (sym is) (said_line contents has_failed old new _ told)
+pub fault_said : {E : Type 0} (contents : E → Option (List ℕ)) (has_failed : E → Bool) (old new : E) (is_asked : Bool) (answer : Result ℕ RemakeFault) (f : RemakeFault) → answer ≡ Err f
+    → SaysLines contents has_failed old new is_asked (remake_line f ∷ []) → SaysLines contents has_failed old new is_asked (answer_line answer)
+fault_said contents has_failed old new is_asked answer f is told = subst (λ a. SaysLines contents has_failed old new is_asked (answer_line a)) (sym is) told

@@ -104,14 +104,14 @@ made_again known d before now recorded templates tags same (Ok m) n lines new fo
     }
 
 -- What is left if the first of these artifacts were taken.
-left_in_part : {D : Type 0} (known : D → Option Known) (d : D) (before now : Held D) (recorded : Record) (templates : List (List ℕ × List ℕ)) (tags : List (List ℕ)) (silent : Type 0) (wanted : List Artifact) (count : ℕ)
+left_in_part : {D : Type 0} (known : D → Option Known) (d : D) (before now : Held D) (recorded : Record) (templates : List (List ℕ × List ℕ)) (tags : List (List ℕ)) (silent : Type 0) (prints : List ℕ → Type 0) (wanted : List Artifact) (count : ℕ)
     → IsRecordFound (known d) recorded → AreTemplates (known d) recorded.srcdir (recorded.files ++ recorded.headers) templates
     → again.made_again recorded templates tags ≡ Ok wanted → now.handed ≡ take count wanted → now.failures ≤ 1 → AreLines now.handed now.lines
     → AreUnguarded now.guards now.handed → IfSome (known now.disk) (λ k. IsDoneApart k now.guards now.handed now.failures now.lines now.places)
-    → now.guards ≡ before.guards → option_map (λ k. k.files) (known now.disk) ≡ option_map (λ k. k.files) (known before.disk) → before.disk ≡ d → AreGuarded (known before.disk) before.guards (codes "config.status" ∷ inputs_of recorded.srcdir templates)
-    → IsLeftAgain (known d) (known now.disk) tags silent
-left_in_part known d before now recorded templates tags silent wanted count found given is handed once are free done same_guards same_names disk guarded =
-    part (record {
+    → now.guards ≡ before.guards → option_map (λ k. k.files) (known now.disk) ≡ option_map (λ k. k.files) (known before.disk) → before.disk ≡ d → AreGuarded (known before.disk) before.guards (codes "config.status" ∷ inputs_of recorded.srcdir templates) → prints now.lines
+    → IsLeftAgain (known d) (known now.disk) tags silent prints
+left_in_part known d before now recorded templates tags silent prints wanted count found given is handed once are free done same_guards same_names disk guarded shown =
+    part now.lines (record {
       text = found.text;
       templates = templates;
       wanted = wanted;
@@ -125,11 +125,10 @@ left_in_part known d before now recorded templates tags silent wanted count foun
       same = same_files (known d) (known now.disk) (same_names ∙ ap (λ x. option_map (λ k. k.files) (known x)) disk);
       refusals = now.failures;
       once = once;
-      out = now.lines;
       lines = subst (λ xs. AreLines xs now.lines) handed are;
       places = now.places;
       written = subst (λ xs. IfSome (known now.disk) (λ k. IsDoneApart k now.guards xs now.failures now.lines now.places)) handed done;
-    })
+    }) shown
 
 -- The number of refusals of a receiver that isn't closed.
 refusals_counted : (failures : ℕ) (closed : Bool) (n : ℕ) → closed ≡ false → failures + closings closed ≡ n → failures ≡ n
@@ -143,28 +142,28 @@ one_at_most_one : (n : ℕ) → n ≡ 1 → n ≤ 1
 one_at_most_one n is = omega (arith, is)
 
 -- What a call of `remake_record` left, whatever it returned.
-pub left_again : {D : Type 0} (known : D → Option Known) (d : D) (before now : Held D) (recorded : Record) (templates : List (List ℕ × List ℕ)) (tags : List (List ℕ)) (silent : Type 0) (answer : Result ℕ RemakeFault) (lines : List ℕ)
+pub left_again : {D : Type 0} (known : D → Option Known) (d : D) (before now : Held D) (recorded : Record) (templates : List (List ℕ × List ℕ)) (tags : List (List ℕ)) (silent : Type 0) (prints : List ℕ → Type 0) (answer : Result ℕ RemakeFault) (lines : List ℕ)
     → IsUnused before → IsRecordFound (known d) recorded → AreTemplates (known d) recorded.srcdir (recorded.files ++ recorded.headers) templates
     → IsRemade (again.made_again recorded templates tags) (now ≡ before) (receipt_of before) (receipt_of now) answer → lines ≡ now.lines → (lines ≡ [] → silent) → AreLines now.handed lines
     → AreUnguarded now.guards now.handed
     → (now.closed ≡ false → IfSome (known now.disk) (λ k. IsDoneApart k now.guards now.handed now.failures now.lines now.places))
-    → now.guards ≡ before.guards → now.closed ≡ before.closed → option_map (λ k. k.files) (known now.disk) ≡ option_map (λ k. k.files) (known before.disk) → before.disk ≡ d → AreGuarded (known before.disk) before.guards (codes "config.status" ∷ inputs_of recorded.srcdir templates)
-    → IsLeftAgain (known d) (known now.disk) tags silent
-left_again known d before now recorded templates tags silent (Err f) lines new found given (refused is s) shown quiet are free done same_guards same_closed same_names disk guarded =
+    → now.guards ≡ before.guards → now.closed ≡ before.closed → option_map (λ k. k.files) (known now.disk) ≡ option_map (λ k. k.files) (known before.disk) → before.disk ≡ d → AreGuarded (known before.disk) before.guards (codes "config.status" ∷ inputs_of recorded.srcdir templates) → prints lines
+    → IsLeftAgain (known d) (known now.disk) tags silent prints
+left_again known d before now recorded templates tags silent prints (Err f) lines new found given (refused is s) shown quiet are free done same_guards same_closed same_names disk guarded printed =
     nothing (ap (λ h. known h.disk) s ∙ ap known disk) (quiet (shown ∙ ap (λ h. h.lines) s ∙ new.silent))
-left_again known d before now recorded templates tags silent (Err f) lines new found given (memory s) shown quiet are free done same_guards same_closed same_names disk guarded =
+left_again known d before now recorded templates tags silent prints (Err f) lines new found given (memory s) shown quiet are free done same_guards same_closed same_names disk guarded printed =
     nothing (ap (λ h. known h.disk) s ∙ ap known disk) (quiet (shown ∙ ap (λ h. h.lines) s ∙ new.silent))
-left_again known d before now recorded templates tags silent (Ok m) lines new found given (all {artifacts = made} is handed) shown quiet are free done same_guards same_closed same_names disk guarded =
+left_again known d before now recorded templates tags silent prints (Ok m) lines new found given (all {artifacts = made} is handed) shown quiet are free done same_guards same_closed same_names disk guarded printed =
     let empty : receipt_of before ≡ record { handed = []; failures = 0 } = unused_receipt before new in
     let opened : now.closed ≡ false = same_closed ∙ new.opened in
     let made_all : now.handed ≡ made = ap (λ (r : Receipt). r.handed) handed ∙ ap (λ (r : Receipt). r.handed ++ made) empty in
     let counted : now.failures + closings now.closed ≡ 0 = ap (λ (r : Receipt). r.failures) handed ∙ ap (λ (r : Receipt). r.failures) empty in
-    left_in_part known d before now recorded templates tags silent made (length made) found given is (made_all ∙ sym (take-length made))
-    (none_at_most_one now.failures (refusals_counted now.failures now.closed 0 opened counted)) (subst (AreLines now.handed) shown are) free (done opened) same_guards same_names disk guarded
-left_again known d before now recorded templates tags silent (Err f) lines new found given (cut {artifacts = made} is at) shown quiet are free done same_guards same_closed same_names disk guarded =
+    left_in_part known d before now recorded templates tags silent prints made (length made) found given is (made_all ∙ sym (take-length made))
+    (none_at_most_one now.failures (refusals_counted now.failures now.closed 0 opened counted)) (subst (AreLines now.handed) shown are) free (done opened) same_guards same_names disk guarded (subst prints shown printed)
+left_again known d before now recorded templates tags silent prints (Err f) lines new found given (cut {artifacts = made} is at) shown quiet are free done same_guards same_closed same_names disk guarded printed =
     let empty : receipt_of before ≡ record { handed = []; failures = 0 } = unused_receipt before new in
     let opened : now.closed ≡ false = same_closed ∙ new.opened in
     let made_first : now.handed ≡ take at.first made = ap (λ (r : Receipt). r.handed) at.receipt ∙ ap (λ (r : Receipt). r.handed ++ take at.first made) empty in
     let counted : now.failures + closings now.closed ≡ 1 = ap (λ (r : Receipt). r.failures) at.receipt ∙ ap (λ (r : Receipt). r.failures + 1) empty in
-    left_in_part known d before now recorded templates tags silent made at.first found given is made_first
-    (one_at_most_one now.failures (refusals_counted now.failures now.closed 1 opened counted)) (subst (AreLines now.handed) shown are) free (done opened) same_guards same_names disk guarded
+    left_in_part known d before now recorded templates tags silent prints made at.first found given is made_first
+    (one_at_most_one now.failures (refusals_counted now.failures now.closed 1 opened counted)) (subst (AreLines now.handed) shown are) free (done opened) same_guards same_names disk guarded (subst prints shown printed)

@@ -1,9 +1,9 @@
 -- Why outputs are not made again, from what is known of a record.
 use Rattle.std.proofs.Common.{◌≡◌, ℕ, Bool, true, false, List, [], ◌∷◌, ◌++◌, Option, Some, None, Result, Ok, Err, refl, sym, subst, ap, arith}
-use Rattle.std.specs.Prelude.{codes}
-use Rattle.cmd_call.specs.Lines.{AreSaid, IsTold, error_line}
+use Rattle.std.specs.Prelude.{codes, not}
+use Rattle.cmd_call.specs.Lines.{IsTold, SaysLines, error_line}
 use Rattle.cmd_call.specs.Supplies.{AreTemplates, GivenAgain, ReadsWhole}
-use Rattle.cmd_call.proofs.Lines.{said_line, said_then}
+use Rattle.cmd_call.proofs.Pages.{says_line, says_then}
 use Rattle.cmd_status.specs.MadeAgain.{IsRecordFound}
 use Rattle.cmd_status.specs.Reasons.{answer_line, unwritten}
 use Rattle.cmd_status.specs.Unmade.{HasFault, IsUnmade, SaysUnmade, first, no_memory, put, unread, memory, unmade, unprinted, neither}
@@ -42,31 +42,31 @@ not_made known d recorded templates tags same old new answer f found given remad
 }
 
 -- What was said, by what standard output took and by the answer, if not all was done.
-pub said_by : {E : Type 0} (contents : E → Option (List ℕ)) (has_failed : E → Bool) (old mid new : E) (files : Option Known) (tags : List (List ℕ)) (is_printed : Bool) (answer : Result ℕ RemakeFault)
-    → (is_printed ≡ true → (f : RemakeFault) × (answer ≡ Err f)) → ((f : RemakeFault) → answer ≡ Err f → IsUnmade files tags f)
-    → AreSaid contents has_failed old mid (unwritten (codes "standard output") is_printed) → AreSaid contents has_failed mid new (answer_line answer)
-    → (lines : List (List ℕ)) × SaysUnmade files tags lines × AreSaid contents has_failed old new lines
-said_by contents has_failed old mid new files tags true (Ok n) fails faulty one two = let f = fails refl in absurd (let e = f.1 in cc)
-said_by contents has_failed old mid new files tags true (Err f) fails faulty one two =
-    (remake_line f ∷ [], unmade f (faulty f refl), said_then contents has_failed old mid new [] (remake_line f ∷ []) one two)
-said_by contents has_failed old mid new files tags false (Ok n) fails faulty one two =
-    (error_line (codes "file") (codes "standard output") ∷ [], unprinted, said_then contents has_failed old mid new (error_line (codes "file") (codes "standard output") ∷ []) [] one two)
-said_by contents has_failed old mid new files tags false (Err f) fails faulty one two =
-    (error_line (codes "file") (codes "standard output") ∷ remake_line f ∷ [], neither f (faulty f refl), said_then contents has_failed old mid new (error_line (codes "file") (codes "standard output") ∷ []) (remake_line f ∷ []) one two)
+pub said_by : {E : Type 0} (contents : E → Option (List ℕ)) (has_failed : E → Bool) (old mid new : E) (is_asked : Bool) (files : Option Known) (tags : List (List ℕ)) (is_full is_printed : Bool) (answer : Result ℕ RemakeFault)
+    → (not is_printed ≡ true → is_full ≡ true) → (is_printed ≡ true → (f : RemakeFault) × (answer ≡ Err f)) → ((f : RemakeFault) → answer ≡ Err f → IsUnmade files tags f)
+    → SaysLines contents has_failed old mid is_asked (unwritten (codes "standard output") is_printed) → SaysLines contents has_failed mid new is_asked (answer_line answer)
+    → (lines : List (List ℕ)) × SaysUnmade files tags is_full lines × SaysLines contents has_failed old new is_asked lines
+said_by contents has_failed old mid new is_asked files tags is_full true (Ok n) full fails faulty one two = let f = fails refl in absurd (let e = f.1 in cc)
+said_by contents has_failed old mid new is_asked files tags is_full true (Err f) full fails faulty one two =
+    (remake_line f ∷ [], unmade f (faulty f refl), says_then contents has_failed old mid new is_asked [] (remake_line f ∷ []) one two)
+said_by contents has_failed old mid new is_asked files tags is_full false (Ok n) full fails faulty one two =
+    (error_line (codes "file") (codes "standard output") ∷ [], unprinted (full refl), says_then contents has_failed old mid new is_asked (error_line (codes "file") (codes "standard output") ∷ []) [] one two)
+said_by contents has_failed old mid new is_asked files tags is_full false (Err f) full fails faulty one two =
+    (error_line (codes "file") (codes "standard output") ∷ remake_line f ∷ [], neither f (full refl) (faulty f refl), says_then contents has_failed old mid new is_asked (error_line (codes "file") (codes "standard output") ∷ []) (remake_line f ∷ []) one two)
 
 -- Memory ran out.
-pub said_memory : {E : Type 0} (contents : E → Option (List ℕ)) (has_failed : E → Bool) (old new : E) (files : Option Known) (tags : List (List ℕ))
-    → IsTold contents has_failed old new (error_line (codes "memory") []) → (lines : List (List ℕ)) × SaysUnmade files tags lines × AreSaid contents has_failed old new lines
-said_memory contents has_failed old new files tags told = (_, memory, said_line contents has_failed old new _ told)
+pub said_memory : {E : Type 0} (contents : E → Option (List ℕ)) (has_failed : E → Bool) (old new : E) (is_asked : Bool) (files : Option Known) (tags : List (List ℕ)) (is_full : Bool)
+    → IsTold contents has_failed old new (error_line (codes "memory") []) → (lines : List (List ℕ)) × SaysUnmade files tags is_full lines × SaysLines contents has_failed old new is_asked lines
+said_memory contents has_failed old new is_asked files tags is_full told = (_, memory, says_line contents has_failed old new is_asked _ told)
 
 -- config.status was not read.
-pub said_unread : {D E : Type 0} (contents : E → Option (List ℕ)) (has_failed : E → Bool) (old new : E) (known : D → Option Known) (d lent : D) (tags : List (List ℕ)) (read : Option (List ℕ))
+pub said_unread : {D E : Type 0} (contents : E → Option (List ℕ)) (has_failed : E → Bool) (old new : E) (is_asked : Bool) (known : D → Option Known) (d lent : D) (tags : List (List ℕ)) (is_full : Bool) (read : Option (List ℕ))
     → lent ≡ d → read ≡ None → ReadsWhole (known lent) (codes "config.status") read
-    → IsTold contents has_failed old new (error_line (codes "file") (codes "config.status")) → (lines : List (List ℕ)) × SaysUnmade (known d) tags lines × AreSaid contents has_failed old new lines
-said_unread contents has_failed old new known d lent tags read same is h told = (
+    → SaysLines contents has_failed old new is_asked (error_line (codes "file") (codes "config.status") ∷ []) → (lines : List (List ℕ)) × SaysUnmade (known d) tags is_full lines × SaysLines contents has_failed old new is_asked lines
+said_unread contents has_failed old new is_asked known d lent tags is_full read same is h told = (
   _,
   unread (subst (λ x. ReadsWhole (known x) (codes "config.status") None) same (subst (λ o. ReadsWhole (known lent) (codes "config.status") o) is h)),
-  said_line contents has_failed old new _ told,
+  told,
 )
 
 fails_first : (text : List ℕ) (r : RecordFault) (templates : List (List ℕ × List ℕ)) (tags : List (List ℕ)) → record_in text ≡ Err r → remade text templates tags ≡ Err (of_record r)
@@ -74,9 +74,9 @@ unfolding remade
 fails_first text r templates tags is = ap (λ x. named of_record x >>= λ y. again.made_again y templates tags) is
 
 -- The text is no record.
-says_record : (files : Option Known) (tags : List (List ℕ)) (text : List ℕ) (r : RecordFault) → ReadsWhole files (codes "config.status") (Some text) → record_in text ≡ Err r
-    → SaysUnmade files tags (remake_line (of_record r) ∷ [])
-says_record files tags text r found is = unmade (of_record r) (record {
+says_record : (files : Option Known) (tags : List (List ℕ)) (is_full : Bool) (text : List ℕ) (r : RecordFault) → ReadsWhole files (codes "config.status") (Some text) → record_in text ≡ Err r
+    → SaysUnmade files tags is_full (remake_line (of_record r) ∷ [])
+says_record files tags is_full text r found is = unmade (of_record r) (record {
   text = text;
   templates = [];
   found = found;
@@ -84,13 +84,13 @@ says_record files tags text r found is = unmade (of_record r) (record {
   faulty = first (fails_first text r [] tags is);
 })
 
-says_fault : (files : Option Known) (tags : List (List ℕ)) (text : List ℕ) (r : RecordFault) → ReadsWhole files (codes "config.status") (Some text) → reading.Fails r (record_in text)
-    → SaysUnmade files tags (remake_line (of_record r) ∷ [])
-says_fault files tags text records.OutOfMemory found fails = memory
-says_fault files tags text r found fails = says_record files tags text _ found fails
+says_fault : (files : Option Known) (tags : List (List ℕ)) (is_full : Bool) (text : List ℕ) (r : RecordFault) → ReadsWhole files (codes "config.status") (Some text) → reading.Fails r (record_in text)
+    → SaysUnmade files tags is_full (remake_line (of_record r) ∷ [])
+says_fault files tags is_full text records.OutOfMemory found fails = memory
+says_fault files tags is_full text r found fails = says_record files tags is_full text _ found fails
 
-pub said_record : {E : Type 0} (contents : E → Option (List ℕ)) (has_failed : E → Bool) (old new : E) (files : Option Known) (tags : List (List ℕ)) (text : List ℕ) (r : RecordFault) (f : RemakeFault)
-    → ReadsWhole files (codes "config.status") (Some text) → reading.Fails r (record_in text) → f ≡ of_record r
-    → IsTold contents has_failed old new (remake_line f) → (lines : List (List ℕ)) × SaysUnmade files tags lines × AreSaid contents has_failed old new lines
-said_record contents has_failed old new files tags text r f found fails is told =
-    (_, subst (λ x. SaysUnmade files tags (remake_line x ∷ [])) (sym is) (says_fault files tags text r found fails), said_line contents has_failed old new _ told)
+pub said_record : {E : Type 0} (contents : E → Option (List ℕ)) (has_failed : E → Bool) (old new : E) (is_asked asked : Bool) (files : Option Known) (tags : List (List ℕ)) (is_full : Bool) (text : List ℕ) (r : RecordFault) (f : RemakeFault)
+    → ReadsWhole files (codes "config.status") (Some text) → reading.Fails r (record_in text) → f ≡ of_record r → asked ≡ is_asked
+    → SaysLines contents has_failed old new asked (remake_line f ∷ []) → (lines : List (List ℕ)) × SaysUnmade files tags is_full lines × SaysLines contents has_failed old new is_asked lines
+said_record contents has_failed old new is_asked asked files tags is_full text r f found fails is same told =
+    (_, subst (λ x. SaysUnmade files tags is_full (remake_line x ∷ [])) (sym is) (says_fault files tags is_full text r found fails), subst (λ b. SaysLines contents has_failed old new b (remake_line f ∷ [])) same told)

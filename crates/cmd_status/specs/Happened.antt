@@ -1,5 +1,5 @@
 -- What happened if the program was asked to run a configure.ac, and its exit status.
-use Rattle.std.specs.Prelude.{◌≡◌, ℕ, Bool, true, false, ◌&&◌, Option, Some, None, is_none, if◌then◌else◌}
+use Rattle.std.specs.Prelude.{◌≡◌, ℕ, Bool, true, false, ◌&&◌, not, Option, Some, None, is_none, if◌then◌else◌}
 use Rattle.cmd_status.specs.declared.happened.Happened.{Happened}
 use Rattle.cmd_status.specs.declared.happened.Happened.TheVariants.{NotRead, NotRecorded, Refused, OutOfMemory, Shown, Ran}
 use Rattle.cmd_status.specs.declared.happened.RunLeft.{RunLeft}
@@ -22,6 +22,15 @@ after_record f = NotRecorded f
 -- written. (own)
 abbrev pub is_whole : RunLeft → Bool
 is_whole left = (is_none left.refused && left.is_printed) && left.is_logged
+
+-- Standard output did not take all that was to be printed. (own)
+abbrev pub is_output_cut : Happened → Bool
+is_output_cut NotRead = false
+is_output_cut (NotRecorded f) = false
+is_output_cut (Refused f) = false
+is_output_cut OutOfMemory = false
+is_output_cut (Shown is_printed) = not is_printed
+is_output_cut (Ran left) = not left.is_printed
 
 -- The exit status of a run that left this: that of its outcome, or 2 if something is missing. (own)
 abbrev pub left_status : RunLeft → ℕ

@@ -1,8 +1,9 @@
 -- What a run leaves in files.
-use Rattle.std.specs.Prelude.{◌≡◌, ℕ, true, false, List, [], ◌∷◌, ◌++◌, Option, Some, None, Result, Ok, Err, IfSome, codes}
+use Rattle.std.specs.Prelude.{◌≡◌, ℕ, Bool, true, false, List, [], ◌∷◌, ◌++◌, Option, Some, None, Result, Ok, Err, IfSome, codes}
 use Rattle.cfglog.specs.Texts.{log_of}
 use Rattle.cmd_status.specs.Happened.{after_fault}
-use Rattle.cmd_status.specs.Reasons.{lines_after, run_line}
+use Rattle.cmd_status.specs.Printed.{Written, only_lines}
+use Rattle.cmd_status.specs.Reasons.{run_line, written_after}
 use Rattle.cmd_status.specs.declared.happened.Happened.{Happened}
 use Rattle.cmd_status.specs.declared.happened.Happened.TheVariants.{Ran}
 use Rattle.cmd_status.specs.declared.happened.RunLeft.{RunLeft}
@@ -50,9 +51,9 @@ pub record IsReported {D : Type 0} (known : D → Option Known) (old new : Held 
   pub unlogged : left.is_logged ≡ false → HasNoLog known old new
 
 -- What happened if a run was to be made of a source with these precious variables, and this was
--- returned of it, and the lines for standard error: it left this, also if a put was refused; or it has
--- a fault, or memory ran out, and nothing more was done. (own)
-abbrev pub IsFinished : {D : Type 0} → (D → Option Known) → Held D → Held D → List (List ℕ) → Result Report Fault → Happened → List (List ℕ) → Type 0
-IsFinished known old new precious (Ok report) happened said = (left : RunLeft) × (happened ≡ Ran left) × IsReported known old new report None left × (said ≡ lines_after report left)
-IsFinished known old new precious (Err (PutRefused number report)) happened said = (left : RunLeft) × (happened ≡ Ran left) × IsReported known old new report (Some number) left × (said ≡ lines_after report left)
-IsFinished known old new precious (Err f) happened said = (happened ≡ after_fault f) × (new ≡ old) × (said ≡ run_line (Some precious) f ∷ [])
+-- returned of it, and what is written: it left this, also if a put was refused; or it has a fault, or
+-- memory ran out, and nothing more was done. (own)
+abbrev pub IsFinished : {D : Type 0} → (D → Option Known) → Bool → Held D → Held D → List (List ℕ) → Result Report Fault → Happened → Written → Type 0
+IsFinished known quiet old new precious (Ok report) happened written = (left : RunLeft) × (happened ≡ Ran left) × IsReported known old new report None left × (written ≡ written_after quiet report old.lines left)
+IsFinished known quiet old new precious (Err (PutRefused number report)) happened written = (left : RunLeft) × (happened ≡ Ran left) × IsReported known old new report (Some number) left × (written ≡ written_after quiet report old.lines left)
+IsFinished known quiet old new precious (Err f) happened written = (happened ≡ after_fault f) × (new ≡ old) × (written ≡ only_lines (run_line (Some precious) f ∷ []))

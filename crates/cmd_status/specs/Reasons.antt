@@ -1,8 +1,9 @@
 -- The lines for standard error of what happened, if the program was asked to run a configure.ac.
 use Rattle.std.specs.Prelude.{ℕ, Bool, true, false, List, [], ◌∷◌, ◌++◌, Option, Some, None, Result, Ok, Err, codes, decimal}
 use Rattle.cmd_call.specs.Errors.{errors_of}
-use Rattle.cmd_call.specs.Lines.{AreSaid, error_line}
+use Rattle.cmd_call.specs.Lines.{error_line}
 use Rattle.cmd_call.specs.Precious.{precious_line}
+use Rattle.cmd_status.specs.Printed.{Written, printed}
 use Rattle.cmd_status.specs.declared.happened.RunLeft.{RunLeft}
 use Rattle.engine_frame.specs.declared.fault.Fault.{Fault}
 use Rattle.engine_frame.specs.declared.fault.Fault.TheVariants.{Precious}
@@ -43,6 +44,6 @@ memory_line = error_line (codes "memory") []
 abbrev pub lines_after : Report → RunLeft → List (List ℕ)
 lines_after report left = errors_of report.messages ++ left_lines left
 
--- These lines are all that is said on standard error, as far as it takes them, if nobody asks why; and this is so of them. (own)
-abbrev pub SaysOf : {E : Type 0} → (E → Option (List ℕ)) → (E → Bool) → E → E → (is_unasked : Type 0) → (List (List ℕ) → Type 0) → Type 0
-SaysOf contents has_failed old new is_unasked is_so = (said : List (List ℕ)) × is_so said × (is_unasked → AreSaid contents has_failed old new said)
+-- What is written of a run with this report and these lines on its outputs that left this. (own)
+abbrev pub written_after : Bool → Report → List ℕ → RunLeft → Written
+written_after quiet report lines left = record { out = printed quiet report.messages lines; lines = lines_after report left }

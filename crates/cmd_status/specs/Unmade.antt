@@ -1,5 +1,5 @@
 -- Why the outputs of a record are not made again, and the lines that say so.
-use Rattle.std.specs.Prelude.{◌≡◌, ℕ, ◌≤◌, List, [], ◌∷◌, Option, Some, None, Result, Ok, Err, length, codes}
+use Rattle.std.specs.Prelude.{◌≡◌, ℕ, ◌≤◌, Bool, true, List, [], ◌∷◌, Option, Some, None, Result, Ok, Err, length, codes}
 use Rattle.cmd_call.specs.Lines.{error_line}
 use Rattle.cmd_call.specs.Supplies.{GivenAgain, ReadsWhole}
 use Rattle.engine_frame.specs.Remade.{remade}
@@ -27,11 +27,11 @@ pub record IsUnmade (files : Option Known) (tags : List (List ℕ)) (f : RemakeF
   pub faulty : HasFault (remade text templates tags) f
 
 -- The lines that say why not all was done: config.status can't be read, memory ran out, the outputs have a fault, or standard output
--- doesn't take their lines. (own)
-pub data SaysUnmade (files : Option Known) (tags : List (List ℕ)) : List (List ℕ) → Type 0 where
-  unread : ReadsWhole files (codes "config.status") None → SaysUnmade files tags (error_line (codes "file") (codes "config.status") ∷ [])
-  memory : SaysUnmade files tags (error_line (codes "memory") [] ∷ [])
-  unmade : (f : RemakeFault) → IsUnmade files tags f → SaysUnmade files tags (remake_line f ∷ [])
-  unprinted : SaysUnmade files tags (error_line (codes "file") (codes "standard output") ∷ [])
-  neither : (f : RemakeFault) → IsUnmade files tags f
-      → SaysUnmade files tags (error_line (codes "file") (codes "standard output") ∷ remake_line f ∷ [])
+-- has failed, so that it doesn't take their lines. (own)
+pub data SaysUnmade (files : Option Known) (tags : List (List ℕ)) (is_full : Bool) : List (List ℕ) → Type 0 where
+  unread : ReadsWhole files (codes "config.status") None → SaysUnmade files tags is_full (error_line (codes "file") (codes "config.status") ∷ [])
+  memory : SaysUnmade files tags is_full (error_line (codes "memory") [] ∷ [])
+  unmade : (f : RemakeFault) → IsUnmade files tags f → SaysUnmade files tags is_full (remake_line f ∷ [])
+  unprinted : is_full ≡ true → SaysUnmade files tags is_full (error_line (codes "file") (codes "standard output") ∷ [])
+  neither : (f : RemakeFault) → is_full ≡ true → IsUnmade files tags f
+      → SaysUnmade files tags is_full (error_line (codes "file") (codes "standard output") ∷ remake_line f ∷ [])

@@ -2,20 +2,19 @@
 
 ghost use Rattle.std.specs.Prelude.{◌≡◌, ◌⊎◌, [], codes};
 ghost use Rattle.cmd_call.specs.Lines.{IsTold, error_line};
-ghost use Rattle.cmd_standin.specs.Standin.{IsAnswered};
+ghost use Rattle.cmd_standin.specs.Standin.{IsAnswered, Meets};
 
 use cmd_call::{Hears, tell_memory};
-use cmd_standin::standin;
+use cmd_standin::{Meeting, standin};
 use deftable::Bytes;
 use file_disk::Disk;
 use std::alloc::Global;
-use std::rt::Files;
 
 /// Answers as the stand-in for a compiler with this command line, and returns the exit status
 /// (own).
-pub fn run_standin<F: Files, D: Disk, E: Hears>(
+pub fn run_standin<M: Meeting, D: Disk, E: Hears>(
     alloc: Global,
-    files: &F,
+    meeting: &mut M,
     disk: &D,
     words: &[Bytes],
     errors: &mut E,
@@ -25,8 +24,9 @@ pub fn run_standin<F: Files, D: Disk, E: Hears>(
     // If memory runs out, standard error has the line for that.
     ensures refused { result ≡ 2
         → IsTold E.contents E.has_failed errors.old errors.new (error_line (codes "memory") []) }
+    ensures meets { Meets (M.made meeting.old) (M.made meeting.new) words.now }
 {
-    match standin(alloc, files, disk, words, errors) {
+    match standin(alloc, meeting, disk, words, errors) {
         Ok(status) => status,
         Err(_) => tell_memory(errors),
     }

@@ -1,8 +1,8 @@
 //! The lines of the faults of a run, of outputs that are not made again, and of files that can't be
 //! read or written.
 
-ghost use Rattle.std.specs.Prelude.{◌≡◌, false, [], Ok, IsTrue, codes, option_map};
-ghost use Rattle.cmd_call.specs.Lines.{AreSaid, IsTold, error_line};
+ghost use Rattle.std.specs.Prelude.{◌≡◌, [], ◌∷◌, IsTrue, codes, is_err, not, option_map};
+ghost use Rattle.cmd_call.specs.Lines.{IsTold, SaysLines, error_line};
 ghost use Rattle.cmd_call.specs.Precious.{precious_in};
 ghost use Rattle.cmd_status.specs.Reasons.{run_line, unwritten};
 ghost use Rattle.fault_spots.specs.FaultLines.{remake_line};
@@ -38,7 +38,7 @@ fn tell_line<E: Hears>(given: Option<&Given<'_>>, errors: &mut E, fault: &Fault)
 /// Reports what is wrong with what a run is given, and says more of it if it is asked. Returns what
 /// happened. If the source was judged before the fault was found, `given` is what the run was given
 /// then.
-#[tactic(auto, using(cmd_call::proofs::Lines::told_unasked, cmd_call::proofs::Lines::still_told))]
+#[tactic(auto, using(cmd_call::proofs::Pages::line_paged))]
 pub fn tell_run<D: Disk, E: Hears>(
     alloc: Global,
     disk: &D,
@@ -48,10 +48,8 @@ pub fn tell_run<D: Disk, E: Hears>(
     fault: Fault,
 ) -> Happened
     ensures happened { result ≡ after_fault fault }
-    ensures told { why.now.is_asked ≡ false
-        → IsTold E.contents E.has_failed errors.old errors.new (
-        run_line (option_map (λ g. precious_in g.now.source.now) given.entry)
-        fault) }
+    ensures told { SaysLines E.contents E.has_failed errors.old errors.new why.now.is_asked (
+        run_line (option_map (λ g. precious_in g.now.source.now) given.entry) fault ∷ []) }
 {
     let _ = tell_line(given, errors, &fault);
     explain_fault(alloc, disk, why, given, errors, &fault);
@@ -71,7 +69,7 @@ pub fn no_memory<E: Hears>(errors: &mut E) -> Happened
 /// Reports why outputs are not made again, or a run is not done again, and returns the exit status.
 /// Says more of it if it is asked. `recorded` is the record, if it was read. If a put was refused,
 /// `cause` says why, and it is empty if that is not known.
-#[tactic(auto, using(cmd_call::proofs::Lines::told_unasked, cmd_call::proofs::Lines::still_told))]
+#[tactic(auto, using(cmd_call::proofs::Pages::line_paged))]
 pub fn tell_remake<D: Disk, E: Hears>(
     alloc: Global,
     disk: &D,
@@ -82,8 +80,8 @@ pub fn tell_remake<D: Disk, E: Hears>(
     fault: &RemakeFault,
 ) -> u8
     ensures status { result ≡ 2 }
-    ensures told { why.now.is_asked ≡ false
-        → IsTold E.contents E.has_failed errors.old errors.new (remake_line fault.now) }
+    ensures told { SaysLines E.contents E.has_failed errors.old errors.new why.now.is_asked (
+        remake_line fault.now ∷ []) }
 {
     let _ = tell_remake_fault(errors, fault);
     explain_remake(alloc, disk, why, recorded, cause, errors, fault);
@@ -100,8 +98,8 @@ pub fn no_record<D: Disk, E: Hears>(
     fault: RemakeFault,
 ) -> Happened
     ensures happened { result ≡ after_record fault }
-    ensures told { why.now.is_asked ≡ false
-        → IsTold E.contents E.has_failed errors.old errors.new (remake_line fault) }
+    ensures told { SaysLines E.contents E.has_failed errors.old errors.new why.now.is_asked (
+        remake_line fault ∷ []) }
 {
     let _ = tell_remake(alloc, disk, why, None, b"", errors, &fault);
     not_recorded(fault)
@@ -109,7 +107,7 @@ pub fn no_record<D: Disk, E: Hears>(
 
 /// Reports that the file at this path can't be read, and says why if it is asked. Returns the exit
 /// status.
-#[tactic(auto, using(cmd_call::proofs::Lines::told_unasked, cmd_call::proofs::Lines::still_told))]
+#[tactic(auto, using(cmd_call::proofs::Pages::line_paged))]
 pub fn tell_unread<D: Disk, E: Hears>(
     alloc: Global,
     disk: &D,
@@ -118,8 +116,8 @@ pub fn tell_unread<D: Disk, E: Hears>(
     errors: &mut E,
 ) -> u8
     ensures status { result ≡ 2 }
-    ensures told { is_asked ≡ false
-        → IsTold E.contents E.has_failed errors.old errors.new (error_line (codes "file") path.now) }
+    ensures told { SaysLines E.contents E.has_failed errors.old errors.new is_asked (
+        error_line (codes "file") path.now ∷ []) }
 {
     let _ = tell_file(errors, path);
     explain_file(alloc, disk, is_asked, path, path, errors);
@@ -127,7 +125,7 @@ pub fn tell_unread<D: Disk, E: Hears>(
 }
 
 /// Reports that the file of this name can't be written, and says why if it is asked.
-#[tactic(auto, using(cmd_call::proofs::Lines::told_unasked, cmd_call::proofs::Lines::still_told))]
+#[tactic(auto, using(cmd_call::proofs::Pages::line_paged))]
 pub(crate) fn tell_unwritten<E: Hears>(
     alloc: Global,
     is_asked: bool,
@@ -135,8 +133,8 @@ pub(crate) fn tell_unwritten<E: Hears>(
     cause: &io::Error,
     errors: &mut E,
 )
-    ensures told { is_asked ≡ false
-        → IsTold E.contents E.has_failed errors.old errors.new (error_line (codes "file") name.now) }
+    ensures told { SaysLines E.contents E.has_failed errors.old errors.new is_asked (
+        error_line (codes "file") name.now ∷ []) }
 {
     let _ = tell_file(errors, name);
     explain_error(alloc, is_asked, name, cause, errors);
@@ -151,10 +149,10 @@ pub(crate) fn tell_written<E: Hears>(
     done: io::Result<()>,
     errors: &mut E,
 ) -> bool
-    ensures done { IsTrue result → done ≡ Ok tt }
+    ensures done { is_err done ≡ not result }
     ensures silent { IsTrue result → errors.new ≡ errors.old }
-    ensures said { is_asked ≡ false
-        → AreSaid E.contents E.has_failed errors.old errors.new (unwritten name.now result) }
+    ensures said { SaysLines E.contents E.has_failed errors.old errors.new is_asked (
+        unwritten name.now result) }
 {
     match done {
         Ok(()) => true,

@@ -1,19 +1,19 @@
 //! The command that makes the outputs of a record again.
 
-ghost use Rattle.std.specs.Prelude.{◌≡◌, ◌≢◌, ℕ, List, ◌∷◌, ◌++◌, [], false, Some, Ok, Err, OnOk, IsTrue, codes};
+ghost use Rattle.std.specs.Prelude.{◌≡◌, ◌≢◌, ℕ, List, ◌∷◌, ◌++◌, [], false, not, Some, Ok, Err, OnOk, IsTrue, codes};
 ghost use Rattle.std.specs.Io.KnownBytes.{Appends};
-ghost use Rattle.cmd_status.specs.LeftAgain.{IsLeftAgain};
+ghost use Rattle.cmd_status.specs.LeftAgain.{IsLeftAgain, PrintsPart};
 ghost use Rattle.cmd_status.specs.MadeAgain.{IsMadeAgain, IsRecordFound};
 ghost use Rattle.cmd_status.specs.Reasons.{answer_line, unwritten};
 ghost use Rattle.cmd_status.specs.Unmade.{SaysUnmade};
 ghost use Rattle.file_texts.specs.Held.{GuardsMore, IsUnused, fresh};
 ghost use Rattle.cmd_call.specs.Guarded.{AreGuarded, inputs_of};
-ghost use Rattle.cmd_call.specs.Lines.{AreSaid};
+ghost use Rattle.cmd_call.specs.Lines.{IsBegun, SaysLines};
 ghost use Rattle.cmd_call.specs.Supplies.{AreTemplates, ReadsWhole};
 ghost use Rattle.engine_frame.specs.declared.fault.RemakeFault.{RemakeFault as FaultValue};
 
 use crate::fault_lines::{tell_remake, tell_unread, tell_written};
-use cmd_call::{FAULT, Hears, Terminal, keep_inputs, print_lines, record_templates, tell_memory};
+use cmd_call::{FAULT, Hears, Terminal, keep_inputs, print_text, record_templates, tell_memory};
 use cmd_explain::Why;
 use deftable::Bytes;
 use engine_frame::{RemakeFault, remake_record};
@@ -21,7 +21,7 @@ use file_disk::Disk;
 use file_texts::{FileOutputs, read_text};
 use status_record::{Record, read_record};
 use std::alloc::{AllocError, Global};
-use std::io::{self, Read, Write};
+use std::io::Read;
 
 /// The name of the record.
 pub const RECORD: &[u8] = b"config.status";
@@ -29,36 +29,24 @@ pub const RECORD: &[u8] = b"config.status";
 /// The name of standard output in the line of a fault.
 pub(crate) const OUTPUT: &[u8] = b"standard output";
 
-/// Prints lines, unless there are none.
-#[tactic(auto, using(cmd_call::proofs::Lines::blank_whole))]
-fn print_some<W: Write>(lines: &[u8], output: &mut W) -> io::Result<()>
-    ensures printed { OnOk result (
-        Appends (W.contents output.old) (W.contents output.new) lines.now) }
-    ensures nothing { lines.now ≡ [] → output.new ≡ output.old }
-{
-    if lines.is_empty() {
-        return Ok(());
-    }
-    print_lines(lines, false, output)
-}
-
-/// Prints the lines of the outputs. Returns whether standard output took them.
-fn print_made<W: Write, E: Hears>(
+/// Prints the lines of the outputs, unless there are none. Returns whether standard output took
+/// them.
+#[tactic(auto, using(crate::proofs::Reasons::taken_unless))]
+fn print_made<W: Hears, E: Hears>(
     alloc: Global,
     why: &Why<'_>,
     lines: &[u8],
     output: &mut W,
     errors: &mut E,
 ) -> bool
-    ensures prints { IsTrue result
-        → Appends (W.contents output.old) (W.contents output.new) lines.now }
+    ensures prints { IsBegun (W.contents output.old) (W.contents output.new)
+        (W.has_failed output.new) (not result) lines.now }
     ensures nothing { lines.now ≡ [] → output.new ≡ output.old }
     ensures silent { IsTrue result → errors.new ≡ errors.old }
-    ensures said { why.now.is_asked ≡ false
-        → AreSaid E.contents E.has_failed errors.old errors.new
+    ensures said { SaysLines E.contents E.has_failed errors.old errors.new why.now.is_asked
         (unwritten (codes "standard output") result) }
 {
-    let done = print_some(lines, output);
+    let done = print_text(lines, output);
     tell_written(alloc, why.is_asked, OUTPUT, done, errors)
 }
 
@@ -75,8 +63,8 @@ fn tell_answer<D: Disk, E: Hears>(
     ensures made { IsTrue result → (n : ℕ) × (answer.now ≡ Ok n) }
     ensures unmade { result ≡ false → (f : FaultValue) × (answer.now ≡ Err f) }
     ensures silent { IsTrue result → errors.new ≡ errors.old }
-    ensures said { why.now.is_asked ≡ false
-        → AreSaid E.contents E.has_failed errors.old errors.new (answer_line answer.now) }
+    ensures said { SaysLines E.contents E.has_failed errors.old errors.new why.now.is_asked
+        (answer_line answer.now) }
 {
     match answer {
         Ok(_) => true,
@@ -122,7 +110,7 @@ fn why_of<'a>(is_asked: bool, text: &'a [u8], srcdir: &'a [u8], tags: &'a [Bytes
 
 /// Makes the outputs of a record with these templates, and returns the exit status.
 #[tactic(auto, using(file_texts::proofs::Unused::fresh_unused))]
-fn make_with<D: Disk, R: Read, W: Write, E: Hears>(
+fn make_with<D: Disk, R: Read, W: Hears, E: Hears>(
     terminal: &mut Terminal<'_, D, R, W, E>,
     why: &Why<'_>,
     recorded: &Record,
@@ -138,13 +126,16 @@ fn make_with<D: Disk, R: Read, W: Write, E: Hears>(
         why.now.args.now out
         × Appends (W.contents terminal.old.output) (W.contents terminal.new.output) out }
     ensures silent { result ≢ 2 → terminal.new.errors ≡ terminal.old.errors }
-    ensures refused { why.now.is_asked ≡ false → result ≡ 2
+    ensures refused { result ≡ 2
         → (lines : List (List ℕ))
-        × SaysUnmade (D.known terminal.old.outputs.disk) why.now.args.now lines
-        × AreSaid E.contents E.has_failed terminal.old.errors terminal.new.errors lines }
+        × SaysUnmade (D.known terminal.old.outputs.disk) why.now.args.now
+        (W.has_failed terminal.new.output) lines
+        × SaysLines E.contents E.has_failed terminal.old.errors terminal.new.errors
+        why.now.is_asked lines }
     ensures left { result ≡ 2
         → IsLeftAgain (D.known terminal.old.outputs.disk) (D.known terminal.new.outputs.disk)
-        why.now.args.now (terminal.new.output ≡ terminal.old.output) }
+        why.now.args.now (terminal.new.output ≡ terminal.old.output)
+        (PrintsPart W.contents W.has_failed terminal.old.output terminal.new.output) }
     ensures input { terminal.new.input ≡ terminal.old.input }
 {
     let alloc = terminal.alloc;
@@ -167,7 +158,7 @@ fn make_with<D: Disk, R: Read, W: Write, E: Hears>(
 }
 
 /// Reads the templates of a record, makes its outputs, and returns the exit status.
-fn make_record<D: Disk, R: Read, W: Write, E: Hears>(
+fn make_record<D: Disk, R: Read, W: Hears, E: Hears>(
     terminal: &mut Terminal<'_, D, R, W, E>,
     text: &[u8],
     recorded: &Record,
@@ -181,13 +172,16 @@ fn make_record<D: Disk, R: Read, W: Write, E: Hears>(
         tags.now out
         × Appends (W.contents terminal.old.output) (W.contents terminal.new.output) out }
     ensures silent { result ≢ 2 → terminal.new.errors ≡ terminal.old.errors }
-    ensures refused { terminal.old.is_asked ≡ false → result ≡ 2
+    ensures refused { result ≡ 2
         → (lines : List (List ℕ))
-        × SaysUnmade (D.known terminal.old.outputs.disk) tags.now lines
-        × AreSaid E.contents E.has_failed terminal.old.errors terminal.new.errors lines }
+        × SaysUnmade (D.known terminal.old.outputs.disk) tags.now
+        (W.has_failed terminal.new.output) lines
+        × SaysLines E.contents E.has_failed terminal.old.errors terminal.new.errors
+        terminal.old.is_asked lines }
     ensures left { result ≡ 2
         → IsLeftAgain (D.known terminal.old.outputs.disk) (D.known terminal.new.outputs.disk)
-        tags.now (terminal.new.output ≡ terminal.old.output) }
+        tags.now (terminal.new.output ≡ terminal.old.output)
+        (PrintsPart W.contents W.has_failed terminal.old.output terminal.new.output) }
     ensures input { terminal.new.input ≡ terminal.old.input }
 {
     match record_templates(terminal.alloc, terminal.outputs.disk(), recorded) {
@@ -200,7 +194,7 @@ fn make_record<D: Disk, R: Read, W: Write, E: Hears>(
 }
 
 /// Reads a record, makes its outputs, and returns the exit status.
-fn make_text<D: Disk, R: Read, W: Write, E: Hears>(
+fn make_text<D: Disk, R: Read, W: Hears, E: Hears>(
     terminal: &mut Terminal<'_, D, R, W, E>,
     text: &[u8],
     tags: &[Bytes],
@@ -214,13 +208,16 @@ fn make_text<D: Disk, R: Read, W: Write, E: Hears>(
         tags.now out
         × Appends (W.contents terminal.old.output) (W.contents terminal.new.output) out }
     ensures silent { result ≢ 2 → terminal.new.errors ≡ terminal.old.errors }
-    ensures refused { terminal.old.is_asked ≡ false → result ≡ 2
+    ensures refused { result ≡ 2
         → (lines : List (List ℕ))
-        × SaysUnmade (D.known terminal.old.outputs.disk) tags.now lines
-        × AreSaid E.contents E.has_failed terminal.old.errors terminal.new.errors lines }
+        × SaysUnmade (D.known terminal.old.outputs.disk) tags.now
+        (W.has_failed terminal.new.output) lines
+        × SaysLines E.contents E.has_failed terminal.old.errors terminal.new.errors
+        terminal.old.is_asked lines }
     ensures left { result ≡ 2
         → IsLeftAgain (D.known terminal.old.outputs.disk) (D.known terminal.new.outputs.disk)
-        tags.now (terminal.new.output ≡ terminal.old.output) }
+        tags.now (terminal.new.output ≡ terminal.old.output)
+        (PrintsPart W.contents W.has_failed terminal.old.output terminal.new.output) }
     ensures input { terminal.new.input ≡ terminal.old.input }
 {
     match read_record(terminal.alloc, text) {
@@ -248,7 +245,7 @@ fn make_text<D: Disk, R: Read, W: Write, E: Hears>(
 /// If anything is wrong, the status is 2, and standard error has a line for it (own); outputs may
 /// have been made before that. If it is asked, further lines may say why. Nothing else is written
 /// there.
-pub fn run_status<D: Disk, R: Read, W: Write, E: Hears>(
+pub fn run_status<D: Disk, R: Read, W: Hears, E: Hears>(
     terminal: &mut Terminal<'_, D, R, W, E>,
     tags: &[Bytes],
 ) -> u8
@@ -259,17 +256,21 @@ pub fn run_status<D: Disk, R: Read, W: Write, E: Hears>(
         tags.now out
         × Appends (W.contents terminal.old.output) (W.contents terminal.new.output) out }
     ensures silent { result ≢ 2 → terminal.new.errors ≡ terminal.old.errors }
-    // If it isn't asked why, standard error has the lines that say so, and nothing more, unless it has
-    // failed.
-    ensures refused { terminal.old.is_asked ≡ false → result ≡ 2
+    // Standard error has the lines that say so, with pages among them if it is asked why, and
+    // otherwise nothing more.
+    ensures refused { result ≡ 2
         → (lines : List (List ℕ))
-        × SaysUnmade (D.known terminal.old.outputs.disk) tags.now lines
-        × AreSaid E.contents E.has_failed terminal.old.errors terminal.new.errors lines }
+        × SaysUnmade (D.known terminal.old.outputs.disk) tags.now
+        (W.has_failed terminal.new.output) lines
+        × SaysLines E.contents E.has_failed terminal.old.errors terminal.new.errors
+        terminal.old.is_asked lines }
     // If the status is 2, nothing was done to files and nothing was printed, or the outputs up to one
-    // that was refused are made, or all are, and nothing else was done to files.
+    // that was refused are made, or all are, and their lines are printed, as far as standard output
+    // takes them. Nothing else was done to files.
     ensures left { result ≡ 2
         → IsLeftAgain (D.known terminal.old.outputs.disk) (D.known terminal.new.outputs.disk)
-        tags.now (terminal.new.output ≡ terminal.old.output) }
+        tags.now (terminal.new.output ≡ terminal.old.output)
+        (PrintsPart W.contents W.has_failed terminal.old.output terminal.new.output) }
     ensures input { terminal.new.input ≡ terminal.old.input }
 {
     match read_text(terminal.alloc, terminal.outputs.disk(), RECORD) {

@@ -1,16 +1,16 @@
 //! What a run leaves for its user: its messages, the lines on its outputs, and its log.
 
-ghost use Rattle.std.specs.Prelude.{◌≡◌, [], ◌++◌, true, false, None, Ok, Err, IsTrue, codes};
+ghost use Rattle.std.specs.Prelude.{◌≡◌, [], ◌++◌, true, false, not, None, Ok, Err, codes};
 ghost use Rattle.std.specs.Io.KnownBytes.{Appends};
 ghost use Rattle.cfglog.specs.Texts.{log_of};
-ghost use Rattle.cmd_status.specs.Happened.{is_all_done, is_whole, status_after};
+ghost use Rattle.cmd_status.specs.Happened.{is_all_done, is_output_cut, status_after};
 ghost use Rattle.cmd_status.specs.Left.{IsFinished, IsReported, Logs};
-ghost use Rattle.cmd_status.specs.Printed.{printed};
-ghost use Rattle.cmd_status.specs.Reasons.{SaysOf, lines_after, put_line, unwritten};
+ghost use Rattle.cmd_status.specs.Printed.{IsWritten, WritesSo, printed};
+ghost use Rattle.cmd_status.specs.Reasons.{put_line, unwritten, written_after};
 ghost use Rattle.engine_frame.specs.declared.report.Report.{Report};
 ghost use Rattle.engine_frame.specs.Told as words;
-ghost use Rattle.cmd_call.specs.Errors.{AreTold, errors_of};
-ghost use Rattle.cmd_call.specs.Lines.{AreSaid};
+ghost use Rattle.cmd_call.specs.Errors.{errors_of};
+ghost use Rattle.cmd_call.specs.Lines.{IsBegun, SaysLines};
 ghost use Rattle.cmd_call.specs.Logged.{HasLogged, HasNoLog, IsHeld};
 ghost use Rattle.cmd_call.specs.Precious.{precious_in};
 
@@ -28,7 +28,7 @@ use file_disk::Disk;
 use file_texts::FileOutputs;
 use options::Settings;
 use std::alloc::Global;
-use std::io::{Read, Write};
+use std::io::Read;
 use std::mem::ManuallyDrop;
 
 /// Returns the name of the cache, or an empty text if none is named.
@@ -40,7 +40,8 @@ fn cache_name(settings: &Settings) -> &[u8] {
 }
 
 /// Says why a run was cut, if it was, and if it is asked.
-fn explain_short<D: Disk, C: Causes, E: Write>(
+#[tactic(auto, using(cmd_call::proofs::Pages::says_nothing))]
+fn explain_short<D: Disk, C: Causes, E: Hears>(
     alloc: Global,
     disk: &D,
     is_asked: bool,
@@ -50,6 +51,7 @@ fn explain_short<D: Disk, C: Causes, E: Write>(
     errors: &mut E,
 )
     ensures silent { is_asked ≡ false → errors.new ≡ errors.old }
+    ensures paged { SaysLines E.contents E.has_failed errors.old errors.new is_asked [] }
 {
     if let Outcome::CutShort(number) = report.outcome {
         explain_cut(
@@ -66,7 +68,8 @@ fn explain_short<D: Disk, C: Causes, E: Write>(
 }
 
 /// Says what may be wrong with the answers of a run, if it completed, and if it is asked.
-fn explain_completed<E: Write>(
+#[tactic(auto, using(cmd_call::proofs::Pages::says_nothing))]
+fn explain_completed<E: Hears>(
     alloc: Global,
     is_asked: bool,
     report: &Report,
@@ -74,6 +77,7 @@ fn explain_completed<E: Write>(
     errors: &mut E,
 )
     ensures silent { is_asked ≡ false → errors.new ≡ errors.old }
+    ensures paged { SaysLines E.contents E.has_failed errors.old errors.new is_asked [] }
 {
     if let Outcome::Completed = report.outcome {
         explain_doubts(alloc, is_asked, report.log.as_slice(), cache, errors);
@@ -82,20 +86,17 @@ fn explain_completed<E: Write>(
 
 /// Prints the messages of a run and the lines of its outputs, and says why it was cut, or what may
 /// be wrong with it, if it is asked. Returns whether standard output took them.
-fn print_report<D: Disk, C: Causes, R: Read, W: Write, E: Hears>(
+fn print_report<D: Disk, C: Causes, R: Read, W: Hears, E: Hears>(
     terminal: &mut Terminal<'_, D, R, W, E>,
     settings: &Settings,
     report: &Report,
     crew: &C,
 ) -> bool
-    ensures run { IsTrue result
-        → Appends (W.contents terminal.old.output) (W.contents terminal.new.output)
+    ensures printed { IsBegun (W.contents terminal.old.output) (W.contents terminal.new.output)
+        (W.has_failed terminal.new.output) (not result)
         (printed settings.now.quiet report.now.messages terminal.old.outputs.lines) }
-    ensures told { terminal.old.is_asked ≡ false → IsTrue result
-        → AreTold (E.contents terminal.old.errors) (E.contents terminal.new.errors)
-        (errors_of report.now.messages) }
-    ensures said { terminal.old.is_asked ≡ false
-        → AreSaid E.contents E.has_failed terminal.old.errors terminal.new.errors
+    ensures said { SaysLines E.contents E.has_failed terminal.old.errors terminal.new.errors
+        terminal.old.is_asked
         (errors_of report.now.messages ++ unwritten (codes "standard output") result) }
     ensures held { IsHeld D.known terminal.old.outputs }
     ensures outputs { terminal.new.outputs ≡ terminal.old.outputs }
@@ -137,8 +138,8 @@ fn tell_refused<D: Disk, E: Hears>(
     errors: &mut E,
 )
     ensures silent { refused ≡ None → errors.new ≡ errors.old }
-    ensures said { is_asked ≡ false
-        → AreSaid E.contents E.has_failed errors.old errors.new (put_line refused) }
+    ensures said { SaysLines E.contents E.has_failed errors.old errors.new is_asked (
+        put_line refused) }
 {
     if let Some(number) = refused {
         let _ = tell_put(errors, number);
@@ -158,9 +159,8 @@ fn log_report<D: Disk, E: Hears>(
         → HasLogged D.known outputs.old outputs.new (log_of report.now.log) }
     ensures no_log { result ≡ false → HasNoLog D.known outputs.old outputs.new }
     ensures silent { result ≡ true → errors.new ≡ errors.old }
-    ensures said { is_asked ≡ false
-        → AreSaid E.contents E.has_failed errors.old errors.new
-        (unwritten (codes "config.log") result) }
+    ensures said { SaysLines E.contents E.has_failed errors.old errors.new is_asked (
+        unwritten (codes "config.log") result) }
 {
     match write_log(alloc, outputs, report.log.as_slice()) {
         Ok(()) => true,
@@ -172,24 +172,20 @@ fn log_report<D: Disk, E: Hears>(
 }
 
 /// Prints and writes what a run leaves for its user, and returns what it left.
-fn finish_report<D: Disk, C: Causes, R: Read, W: Write, E: Hears>(
+fn finish_report<D: Disk, C: Causes, R: Read, W: Hears, E: Hears>(
     terminal: &mut Terminal<'_, D, R, W, E>,
     given: &Given<'_>,
     report: &Report,
     refused: Option<u64>,
     crew: &C,
 ) -> RunLeft
-    ensures run { is_whole result ≡ true
-        → Appends (W.contents terminal.old.output) (W.contents terminal.new.output)
-        (printed given.now.settings.now.quiet report.now.messages terminal.old.outputs.lines)
-        × (terminal.old.is_asked ≡ false
-        → AreTold (E.contents terminal.old.errors) (E.contents terminal.new.errors)
-        (errors_of report.now.messages)) }
+    ensures written { IsWritten W.contents W.has_failed E.contents E.has_failed
+        terminal.old.output terminal.new.output terminal.old.errors terminal.new.errors
+        terminal.old.is_asked (not result.is_printed)
+        (written_after given.now.settings.now.quiet report.now terminal.old.outputs.lines
+        result) }
     ensures left { IsReported D.known terminal.old.outputs terminal.new.outputs report.now refused
         result }
-    ensures said { terminal.old.is_asked ≡ false
-        → AreSaid E.contents E.has_failed terminal.old.errors terminal.new.errors
-        (lines_after report.now result) }
     ensures input { terminal.new.input ≡ terminal.old.input }
 {
     let alloc = terminal.alloc;
@@ -218,18 +214,20 @@ fn finish_report<D: Disk, C: Causes, R: Read, W: Write, E: Hears>(
 
 /// Reports a fault of a run, or prints and writes what the run leaves if it is a refused put, and
 /// returns what happened.
-fn finish_fault<D: Disk, C: Causes, R: Read, W: Write, E: Hears>(
+fn finish_fault<D: Disk, C: Causes, R: Read, W: Hears, E: Hears>(
     terminal: &mut Terminal<'_, D, R, W, E>,
     why: &Why<'_>,
     given: &Given<'_>,
     fault: Fault,
     crew: &C,
 ) -> Happened
+    requires asked { why.now.is_asked ≡ terminal.old.is_asked }
     ensures unfinished { is_all_done result ≡ false }
-    ensures finished { SaysOf E.contents E.has_failed terminal.old.errors terminal.new.errors
-        ((why.now.is_asked ≡ false) × (terminal.old.is_asked ≡ false)) (
-        IsFinished D.known terminal.old.outputs terminal.new.outputs
-        (precious_in given.now.source.now) (Err fault) result) }
+    ensures finished { WritesSo W.contents W.has_failed E.contents E.has_failed
+        terminal.old.output terminal.new.output terminal.old.errors terminal.new.errors
+        terminal.old.is_asked (is_output_cut result) (
+        IsFinished D.known given.now.settings.now.quiet terminal.old.outputs
+        terminal.new.outputs (precious_in given.now.source.now) (Err fault) result) }
     ensures input { terminal.new.input ≡ terminal.old.input }
 {
     match fault {
@@ -252,28 +250,30 @@ fn finish_fault<D: Disk, C: Causes, R: Read, W: Write, E: Hears>(
 /// which is told then. Any other fault is told alone, and nothing else is done. If it is asked, it
 /// also says why: of a cut run by what the crew knows, and of a refused put by what the outputs
 /// know.
-pub fn finish_run<D: Disk, C: Causes, R: Read, W: Write, E: Hears>(
+pub fn finish_run<D: Disk, C: Causes, R: Read, W: Hears, E: Hears>(
     terminal: &mut Terminal<'_, D, R, W, E>,
     why: &Why<'_>,
     given: &Given<'_>,
     answer: Result<Report, Fault>,
     crew: &C,
 ) -> Happened
+    requires asked { why.now.is_asked ≡ terminal.old.is_asked }
     ensures run { is_all_done result ≡ true
         → (report : Report) × (answer ≡ Ok report)
         × (status_after result ≡ words.status_of report.outcome)
         × Appends (W.contents terminal.old.output) (W.contents terminal.new.output)
         (printed given.now.settings.now.quiet report.messages terminal.old.outputs.lines)
         × Logs D.known terminal.old.outputs terminal.new.outputs report
-        × (terminal.old.is_asked ≡ false
-        → AreTold (E.contents terminal.old.errors) (E.contents terminal.new.errors)
-        (errors_of report.messages)) }
-    // If it isn't asked why, standard error has the messages of a run and the lines of what is
-    // missing, or the line of a fault that is told alone, and nothing more, unless it has failed.
-    ensures finished { SaysOf E.contents E.has_failed terminal.old.errors terminal.new.errors
-        ((why.now.is_asked ≡ false) × (terminal.old.is_asked ≡ false)) (
-        IsFinished D.known terminal.old.outputs terminal.new.outputs
-        (precious_in given.now.source.now) answer result) }
+        × SaysLines E.contents E.has_failed terminal.old.errors terminal.new.errors
+        terminal.old.is_asked (errors_of report.messages) }
+    // Standard output has what the run prints, or a front of it. Standard error has the messages of
+    // a run and the lines of what is missing, or the line of a fault that is told alone. If it is
+    // asked why, it has pages among them, and otherwise nothing more.
+    ensures finished { WritesSo W.contents W.has_failed E.contents E.has_failed
+        terminal.old.output terminal.new.output terminal.old.errors terminal.new.errors
+        terminal.old.is_asked (is_output_cut result) (
+        IsFinished D.known given.now.settings.now.quiet terminal.old.outputs
+        terminal.new.outputs (precious_in given.now.source.now) answer result) }
     ensures input { terminal.new.input ≡ terminal.old.input }
 {
     match answer {
@@ -288,17 +288,15 @@ pub fn finish_run<D: Disk, C: Causes, R: Read, W: Write, E: Hears>(
 }
 
 /// Prints the text of a report that shows one. Returns whether standard output took it.
-pub fn print_shown<D: Disk, R: Read, W: Write, E: Hears>(
+pub fn print_shown<D: Disk, R: Read, W: Hears, E: Hears>(
     terminal: &mut Terminal<'_, D, R, W, E>,
     report: &Report,
 ) -> bool
-    ensures run { result ≡ true
-        → Appends (W.contents terminal.old.output) (W.contents terminal.new.output)
-        (printed false report.now.messages [])
-        × AreTold (E.contents terminal.old.errors) (E.contents terminal.new.errors)
-        (errors_of report.now.messages) }
-    ensures said { terminal.old.is_asked ≡ false
-        → AreSaid E.contents E.has_failed terminal.old.errors terminal.new.errors
+    ensures printed { IsBegun (W.contents terminal.old.output) (W.contents terminal.new.output)
+        (W.has_failed terminal.new.output) (not result)
+        (printed false report.now.messages []) }
+    ensures said { SaysLines E.contents E.has_failed terminal.old.errors terminal.new.errors
+        terminal.old.is_asked
         (errors_of report.now.messages ++ unwritten (codes "standard output") result) }
     ensures outputs { terminal.new.outputs ≡ terminal.old.outputs }
     ensures input { terminal.new.input ≡ terminal.old.input }

@@ -3,8 +3,8 @@ use Rattle.std.proofs.Common.{◌≡◌, ◌≢◌, ℕ, Bool, true, List, Optio
 use Rattle.cmd_call.specs.Calls.{ProgramCall, Configure, Recheck, IfConfigure, IfRecheck}
 use Rattle.cmd_configure.specs.Ended.{Exits, Prints}
 use Rattle.cmd_status.proofs.Happenings.{done_unless}
-use Rattle.cmd_status.specs.Happened.{is_all_done, status_after}
-use Rattle.cmd_status.specs.Reasons.{SaysOf}
+use Rattle.cmd_status.specs.Happened.{is_all_done, is_output_cut, status_after}
+use Rattle.cmd_status.specs.Printed.{WritesSo, Written}
 use Rattle.cmd_status.specs.declared.happened.Happened.{Happened}
 
 -- What holds if all was done, unless the status is 2.
@@ -14,25 +14,29 @@ unless_fault P status happened is done ne = subst P (sym is) (done (done_unless 
 pub exits_so : (P : ℕ → Type 0) (is_so : Happened → Type 0) (status : ℕ) (happened : Happened) → status ≡ status_after happened → is_so happened → (is_all_done happened ≡ true → P (status_after happened)) → Exits status is_so (P status)
 exits_so P is_so status happened is so done = (happened, is, so, λ all. subst P (sym is) (done all))
 
--- What is printed, and what is said of it, is left out.
-unprinted : {E : Type 0} (contents : E → Option (List ℕ)) (has_failed : E → Bool) (old new : E) (unasked : Type 0) (status : ℕ) (is_so : Happened → List (List ℕ) → Type 0) (P : List ℕ → List (List ℕ) → Type 0) (is_asked : Bool) (output printed errors told : Option (List ℕ))
-    → Exits status (λ happened. SaysOf contents has_failed old new unasked (is_so happened)) (Prints is_asked output printed errors told P)
-    → Exits status (λ happened. (said : List (List ℕ)) × is_so happened said) ((out : List ℕ) × (said : List (List ℕ)) × P out said)
-unprinted contents has_failed old new unasked status is_so P is_asked output printed errors told h = (h.0, h.1, (h.2.0, h.2.1), λ all. let p = h.3 all in (p.0, p.1, p.2))
+-- What is written is left out.
+unprinted : {E : Type 0} (status : ℕ) (Put : Happened → (Written → Type 0) → Type 0) (is_so : Happened → Written → Type 0) (P : List ℕ → List (List ℕ) → Type 0) (output printed : Option (List ℕ)) (contents : E → Option (List ℕ)) (has_failed : E → Bool) (old new : E) (is_asked : Bool)
+    → ((happened : Happened) → Put happened (is_so happened) → (written : Written) × is_so happened written)
+    → Exits status (λ happened. Put happened (is_so happened)) (Prints output printed contents has_failed old new is_asked P)
+    → Exits status (λ happened. (written : Written) × is_so happened written) ((out : List ℕ) × (said : List (List ℕ)) × P out said)
+unprinted status Put is_so P output printed contents has_failed old new is_asked of_put h = (h.0, h.1, of_put h.0 h.2, λ all. let p = h.3 all in (p.0, p.1, p.2))
 
-pub configure_unprinted : {E : Type 0} (contents : E → Option (List ℕ)) (has_failed : E → Bool) (old new : E) (unasked : Type 0) (call : ProgramCall) (status : ℕ) (is_so : ℕ → List (List ℕ) → Happened → List (List ℕ) → Type 0) (P : ℕ → List (List ℕ) → List ℕ → List (List ℕ) → Type 0) (is_asked : Bool) (output printed errors told : Option (List ℕ))
-    → IfConfigure call (λ window args. Exits status (λ happened. SaysOf contents has_failed old new unasked (is_so window args happened)) (Prints is_asked output printed errors told (P window args)))
-    → IfConfigure call (λ window args. Exits status (λ happened. (said : List (List ℕ)) × is_so window args happened said) ((out : List ℕ) × (said : List (List ℕ)) × P window args out said))
-configure_unprinted contents has_failed old new unasked (Configure window args) status is_so P is_asked output printed errors told h =
-    unprinted contents has_failed old new unasked status (is_so window args) (P window args) is_asked output printed errors told h
-configure_unprinted contents has_failed old new unasked call status is_so P is_asked output printed errors told h = tt
+abbrev pub Puts : {W E : Type 0} → (W → Option (List ℕ)) → (W → Bool) → (E → Option (List ℕ)) → (E → Bool) → W → W → E → E → Bool → Happened → (Written → Type 0) → Type 0
+Puts taken is_full contents has_failed output now old new is_asked happened is_so = WritesSo taken is_full contents has_failed output now old new is_asked (is_output_cut happened) is_so
 
-pub recheck_unprinted : {E : Type 0} (contents : E → Option (List ℕ)) (has_failed : E → Bool) (old new : E) (unasked : Type 0) (call : ProgramCall) (status : ℕ) (is_so : Happened → List (List ℕ) → Type 0) (P : List ℕ → List (List ℕ) → Type 0) (is_asked : Bool) (output printed errors told : Option (List ℕ))
-    → IfRecheck call (Exits status (λ happened. SaysOf contents has_failed old new unasked (is_so happened)) (Prints is_asked output printed errors told P))
-    → IfRecheck call (Exits status (λ happened. (said : List (List ℕ)) × is_so happened said) ((out : List ℕ) × (said : List (List ℕ)) × P out said))
-recheck_unprinted contents has_failed old new unasked Recheck status is_so P is_asked output printed errors told h =
-    unprinted contents has_failed old new unasked status is_so P is_asked output printed errors told h
-recheck_unprinted contents has_failed old new unasked call status is_so P is_asked output printed errors told h = tt
+pub configure_unprinted : {W E : Type 0} (taken : W → Option (List ℕ)) (is_full : W → Bool) (contents : E → Option (List ℕ)) (has_failed : E → Bool) (output now : W) (old new : E) (is_asked : Bool) (call : ProgramCall) (status : ℕ) (is_so : ℕ → List (List ℕ) → Happened → Written → Type 0) (P : ℕ → List (List ℕ) → List ℕ → List (List ℕ) → Type 0)
+    → IfConfigure call (λ window args. Exits status (λ happened. WritesSo taken is_full contents has_failed output now old new is_asked (is_output_cut happened) (is_so window args happened)) (Prints (taken output) (taken now) contents has_failed old new is_asked (P window args)))
+    → IfConfigure call (λ window args. Exits status (λ happened. (written : Written) × is_so window args happened written) ((out : List ℕ) × (said : List (List ℕ)) × P window args out said))
+configure_unprinted taken is_full contents has_failed output now old new is_asked (Configure window args) status is_so P h =
+    unprinted status (Puts taken is_full contents has_failed output now old new is_asked) (is_so window args) (P window args) (taken output) (taken now) contents has_failed old new is_asked (λ happened put. (put.0, put.1)) h
+configure_unprinted taken is_full contents has_failed output now old new is_asked call status is_so P h = tt
+
+pub recheck_unprinted : {W E : Type 0} (taken : W → Option (List ℕ)) (is_full : W → Bool) (contents : E → Option (List ℕ)) (has_failed : E → Bool) (output now : W) (old new : E) (is_asked : Bool) (call : ProgramCall) (status : ℕ) (is_so : Happened → Written → Type 0) (P : List ℕ → List (List ℕ) → Type 0)
+    → IfRecheck call (Exits status (λ happened. WritesSo taken is_full contents has_failed output now old new is_asked (is_output_cut happened) (is_so happened)) (Prints (taken output) (taken now) contents has_failed old new is_asked P))
+    → IfRecheck call (Exits status (λ happened. (written : Written) × is_so happened written) ((out : List ℕ) × (said : List (List ℕ)) × P out said))
+recheck_unprinted taken is_full contents has_failed output now old new is_asked Recheck status is_so P h =
+    unprinted status (Puts taken is_full contents has_failed output now old new is_asked) is_so P (taken output) (taken now) contents has_failed old new is_asked (λ happened put. (put.0, put.1)) h
+recheck_unprinted taken is_full contents has_failed output now old new is_asked call status is_so P h = tt
 
 -- The same, unless the status is 2.
 pub configure_told : (call : ProgramCall) (status : ℕ) (P : ℕ → List (List ℕ) → List ℕ → List (List ℕ) → Type 0) (Put : List ℕ → Type 0) (Told : List (List ℕ) → Type 0)

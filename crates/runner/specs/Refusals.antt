@@ -1,20 +1,20 @@
 -- What a command that explains the program says if it refuses what it is asked.
-use Rattle.std.specs.Prelude.{◌⊎◌, ℕ, Bool, List, [], Option, codes}
+use Rattle.std.specs.Prelude.{◌⊎◌, ℕ, Bool, List, [], ◌∷◌, Option, codes}
 use Rattle.cmd_call.specs.Calls.{ProgramCall, Help, Version, Unknown}
-use Rattle.cmd_call.specs.Lines.{IsTold, error_line}
+use Rattle.cmd_call.specs.Lines.{SaysLines, error_line}
 
--- The line of words that the program doesn't know was written. (own)
-abbrev pub IsUsageTold : {E : Type 0} → (E → Option (List ℕ)) → (E → Bool) → E → E → Type 0
-IsUsageTold contents has_failed old new = IsTold contents has_failed old new (error_line (codes "usage") [])
+-- The line of words that the program doesn't know was written, with pages if it is asked why. (own)
+abbrev pub IsUsageTold : {E : Type 0} → (E → Option (List ℕ)) → (E → Bool) → E → E → Bool → Type 0
+IsUsageTold contents has_failed old new is_asked = SaysLines contents has_failed old new is_asked (error_line (codes "usage") [] ∷ [])
 
--- The line of standard output was written, which didn't take the text. (own)
-abbrev pub IsOutputTold : {E : Type 0} → (E → Option (List ℕ)) → (E → Bool) → E → E → Type 0
-IsOutputTold contents has_failed old new = IsTold contents has_failed old new (error_line (codes "file") (codes "standard output"))
+-- The line of standard output was written, which didn't take the text, with pages if it is asked why. (own)
+abbrev pub IsOutputTold : {E : Type 0} → (E → Option (List ℕ)) → (E → Bool) → E → E → Bool → Type 0
+IsOutputTold contents has_failed old new is_asked = SaysLines contents has_failed old new is_asked (error_line (codes "file") (codes "standard output") ∷ [])
 
 -- What was said after a status of 2: for help and the version, the line of the words or of standard output; for words that are no
 -- command, the line of the words. (own)
-abbrev pub TellsWhy : {E : Type 0} → (E → Option (List ℕ)) → (E → Bool) → E → E → ProgramCall → Type 0
-TellsWhy contents has_failed old new (Help words) = IsUsageTold contents has_failed old new ⊎ IsOutputTold contents has_failed old new
-TellsWhy contents has_failed old new Version = IsUsageTold contents has_failed old new ⊎ IsOutputTold contents has_failed old new
-TellsWhy contents has_failed old new Unknown = IsUsageTold contents has_failed old new
-TellsWhy contents has_failed old new call = Unit {0}
+abbrev pub TellsWhy : {E : Type 0} → (E → Option (List ℕ)) → (E → Bool) → E → E → Bool → ProgramCall → Type 0
+TellsWhy contents has_failed old new is_asked (Help words) = IsUsageTold contents has_failed old new is_asked ⊎ IsOutputTold contents has_failed old new is_asked
+TellsWhy contents has_failed old new is_asked Version = IsUsageTold contents has_failed old new is_asked ⊎ IsOutputTold contents has_failed old new is_asked
+TellsWhy contents has_failed old new is_asked Unknown = IsUsageTold contents has_failed old new is_asked
+TellsWhy contents has_failed old new is_asked call = Unit {0}

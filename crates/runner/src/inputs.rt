@@ -5,7 +5,7 @@ ghost use Rattle.std.specs.Io.KnownBytes.{Appends};
 ghost use Rattle.cmd_filter.specs.Filtered.{IsFiltered};
 ghost use Rattle.cmd_filter.specs.FaultText.{filter_line};
 ghost use Rattle.cmd_call.specs.Errors.{AreTold};
-ghost use Rattle.cmd_call.specs.Lines.{IsTold};
+ghost use Rattle.cmd_call.specs.Lines.{SaysLines};
 ghost use Rattle.runner.specs.Filters.{FilterSays, FiltersSo};
 
 use cmd_call::{FAULT, Hears, write_errors};
@@ -28,7 +28,8 @@ fn why_of(is_asked: bool, text: &[u8]) -> Why<'_>
 }
 
 /// Says more of an error of the filter over this input, if it is asked.
-fn explain_filter<E: Write>(
+#[tactic(auto, using(cmd_call::proofs::Pages::says_nothing))]
+fn explain_filter<E: Hears>(
     alloc: Global,
     is_asked: bool,
     input: &[u8],
@@ -36,6 +37,7 @@ fn explain_filter<E: Write>(
     errors: &mut E,
 )
     ensures silent { is_asked ≡ false → errors.new ≡ errors.old }
+    ensures paged { SaysLines E.contents E.has_failed errors.old errors.new is_asked [] }
 {
     match fault {
         FilterFault::Usage => explain_usage(alloc, is_asked, &[], errors),
@@ -49,7 +51,7 @@ fn explain_filter<E: Write>(
 
 /// Reports an error of the filter over this input, and says more of it if it is asked. Returns the
 /// exit status.
-#[tactic(auto, using(cmd_call::proofs::Lines::told_unasked))]
+#[tactic(auto, using(cmd_call::proofs::Pages::line_paged))]
 fn tell_filter<E: Hears>(
     alloc: Global,
     is_asked: bool,
@@ -58,8 +60,8 @@ fn tell_filter<E: Hears>(
     errors: &mut E,
 ) -> u8
     ensures status { result ≡ 2 }
-    ensures told { is_asked ≡ false
-        → IsTold E.contents E.has_failed errors.old errors.new (filter_line fault.now) }
+    ensures told { SaysLines E.contents E.has_failed errors.old errors.new is_asked (
+        filter_line fault.now ∷ []) }
 {
     let _ = tell(errors, fault);
     explain_filter(alloc, is_asked, input, fault, errors);
@@ -99,8 +101,9 @@ pub(crate) fn run_filter<R: Read, W: Write, E: Hears>(
         Appends (W.contents output.old) (W.contents output.new) out
         × (said ≡ [] → errors.new ≡ errors.old)
         × AreTold (E.contents errors.old) (E.contents errors.new) (said ∷ []))) }
-    ensures refused { why ≡ false → result ≡ 2
-        → FilterSays E.contents E.has_failed errors.old errors.new (R.remaining input.old) result }
+    ensures refused { result ≡ 2
+        → FilterSays E.contents E.has_failed errors.old errors.new why (R.remaining input.old)
+        result }
 {
     let mut text = Vec::new(alloc);
     match filter_keeping(alloc, input, output, &mut text) {

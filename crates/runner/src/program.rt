@@ -2,7 +2,8 @@
 
 ghost use Rattle.std.specs.Prelude.{◌≡◌, true, false, ◌∷◌, ◌≢◌, ◌⊎◌, ◌≤◌, ◌<◌, ℕ, List, [], length, None, IfSome, OnOk, codes, option_map, vec_items};
 ghost use Rattle.std.specs.Io.KnownBytes.{Appends};
-ghost use Rattle.cmd_status.specs.LeftAgain.{IsLeftAgain};
+ghost use Rattle.cmd_status.specs.Happened.{is_output_cut};
+ghost use Rattle.cmd_status.specs.LeftAgain.{IsLeftAgain, PrintsPart};
 ghost use Rattle.cmd_status.specs.MadeAgain.{IsMadeAgain};
 ghost use Rattle.cmd_configure.specs.Configures.{IsConfigured, IsRechecked, IsWindow, MayRun};
 ghost use Rattle.cmd_configure.specs.Ended.{Exits, HasHappened, HasHappenedAgain, Prints};
@@ -11,17 +12,17 @@ ghost use Rattle.file_texts.specs.Held.{fresh};
 ghost use Rattle.cmd_filter.specs.Filtered.{IsFiltered};
 ghost use Rattle.cmd_call.specs.Calls.{call_of, Unknown, Version, IfFilter, IfStandIn, IfConfigure, IfStatus, IfRecheck, IfHelp, HasNoRun};
 ghost use Rattle.cmd_call.specs.Errors.{AreTold};
-ghost use Rattle.cmd_call.specs.Lines.{AreSaid, IsTold, error_line};
-ghost use Rattle.cmd_status.specs.Reasons.{SaysOf};
+ghost use Rattle.cmd_call.specs.Lines.{IsTold, SaysLines, error_line};
+ghost use Rattle.cmd_status.specs.Printed.{WritesSo, Written};
 ghost use Rattle.cmd_status.specs.Unmade.{SaysUnmade};
 ghost use Rattle.runner.specs.Refusals.{IsUsageTold, TellsWhy};
 ghost use Rattle.runner.specs.Filters.{FilterSays, FiltersSo};
-ghost use Rattle.runner.specs.Puts.{HasNoPuts};
+ghost use Rattle.runner.specs.Puts.{HasNoPuts, HasNoStandIn};
 ghost use Rattle.crew_tally.specs.Line.{summary};
 ghost use Rattle.runner.specs.Ends as ends;
 ghost use Rattle.runner.specs.Tools.{AreToolsRun, HasNoTools, HasToolStatus, IfTools, IsUnstartedTold, ReadsNothing, WritesNothing};
 ghost use Rattle.runner.specs.Ends.{IsSummed};
-ghost use Rattle.cmd_standin.specs.Standin.{IsAnswered};
+ghost use Rattle.cmd_standin.specs.Standin.{IsAnswered, Meets};
 
 use crate::inputs::run_filter;
 use cmd_call::{
@@ -30,6 +31,7 @@ use cmd_call::{
 use cmd_configure::{run_configure, run_recheck};
 use cmd_explain::{asks_why, explain_help, explain_usage};
 use cmd_help::{run_help, run_version};
+use cmd_standin::{Meeting, MeetingFiles};
 use cmd_status::{exit_status, run_standin, run_status};
 use crew_refusals::{Cause, Causes};
 use crew_tally::{Children, Counted, Tally, summary};
@@ -40,18 +42,16 @@ use file_texts::FileOutputs;
 use patient_writer::Patient;
 use std::alloc::{AllocError, Global};
 use std::io::{self, Input, IsTerminal, Read, Write};
-use std::rt::Files;
 use std::time::Instant;
 use text_controls::Shown;
 use tool_start::Tools;
 
 /// Reports that the words are no command, and says more of it if it is asked. Returns the exit
 /// status.
-#[tactic(auto, using(cmd_call::proofs::Lines::told_unasked))]
+#[tactic(auto, using(cmd_call::proofs::Pages::line_paged))]
 fn tell_unknown<E: Hears>(alloc: Global, is_asked: bool, words: &[Bytes], errors: &mut E) -> u8
     ensures status { result ≡ 2 }
-    ensures told { is_asked ≡ false
-        → IsUsageTold E.contents E.has_failed errors.old errors.new }
+    ensures told { IsUsageTold E.contents E.has_failed errors.old errors.new is_asked }
 {
     let _ = tell_usage(errors);
     explain_usage(alloc, is_asked, words, errors);
@@ -74,9 +74,9 @@ fn explain<D: Disk, R: Read, W: Write, E: Hears>(
     ensures output { WritesNothing (call_of words.now)
         → terminal.new.output ≡ terminal.old.output }
     ensures files { terminal.new.outputs ≡ terminal.old.outputs }
-    ensures refused { terminal.old.is_asked ≡ false → result ≡ 2
+    ensures refused { result ≡ 2
         → TellsWhy E.contents E.has_failed terminal.old.errors terminal.new.errors
-        (call_of words.now) }
+        terminal.old.is_asked (call_of words.now) }
 {
     let alloc = terminal.alloc;
     let output = &mut terminal.output;
@@ -115,7 +115,7 @@ fn start_tools<T: Tools, E: Hears>(words: &[Bytes], tools: &mut T, errors: &mut 
 }
 
 /// Runs the configure.ac that the arguments name, and returns the exit status of what happened.
-fn configure<D: Disk, C: Crew + Causes, R: Read, W: Write, E: Hears>(
+fn configure<D: Disk, C: Crew + Causes, R: Read, W: Hears, E: Hears>(
     terminal: &mut Terminal<'_, D, R, W, E>,
     window: usize,
     args: &[Bytes],
@@ -126,21 +126,20 @@ fn configure<D: Disk, C: Crew + Causes, R: Read, W: Write, E: Hears>(
     requires fresh { terminal.old.outputs ≡ fresh terminal.old.outputs.disk }
     ensures idle { IsIdle (C.account crew.new).events }
     ensures run { result ≢ 2
-        → Prints terminal.old.is_asked (W.contents terminal.old.output)
-        (W.contents terminal.new.output) (E.contents terminal.old.errors)
-        (E.contents terminal.new.errors) (λ out said.
+        → Prints (W.contents terminal.old.output) (W.contents terminal.new.output) E.contents
+        E.has_failed terminal.old.errors terminal.new.errors terminal.old.is_asked (λ out said.
         IsConfigured window args.now terminal.old.env.now (C.account crew.old)
         (C.account crew.new) (D.known terminal.old.outputs.disk)
         (D.known terminal.new.outputs.disk) out said result) }
     ensures ended { Exits result (λ happened.
-        SaysOf E.contents E.has_failed terminal.old.errors terminal.new.errors
-        (terminal.old.is_asked ≡ false) (
+        WritesSo W.contents W.has_failed E.contents E.has_failed terminal.old.output
+        terminal.new.output terminal.old.errors terminal.new.errors terminal.old.is_asked
+        (is_output_cut happened) (
         HasHappened window args.now terminal.old.env.now (C.account crew.old)
         (C.account crew.new) (D.known terminal.old.outputs.disk)
         (D.known terminal.new.outputs.disk) happened))
-        (Prints terminal.old.is_asked (W.contents terminal.old.output)
-        (W.contents terminal.new.output) (E.contents terminal.old.errors)
-        (E.contents terminal.new.errors) (λ out said.
+        (Prints (W.contents terminal.old.output) (W.contents terminal.new.output) E.contents
+        E.has_failed terminal.old.errors terminal.new.errors terminal.old.is_asked (λ out said.
         IsConfigured window args.now terminal.old.env.now (C.account crew.old)
         (C.account crew.new) (D.known terminal.old.outputs.disk)
         (D.known terminal.new.outputs.disk) out said result)) }
@@ -152,7 +151,7 @@ fn configure<D: Disk, C: Crew + Causes, R: Read, W: Write, E: Hears>(
 
 /// Runs a configure.ac again with the arguments of its record, and returns the exit status of what
 /// happened.
-fn recheck<D: Disk, C: Crew + Causes, R: Read, W: Write, E: Hears>(
+fn recheck<D: Disk, C: Crew + Causes, R: Read, W: Hears, E: Hears>(
     terminal: &mut Terminal<'_, D, R, W, E>,
     crew: &mut C,
 ) -> u8
@@ -160,20 +159,19 @@ fn recheck<D: Disk, C: Crew + Causes, R: Read, W: Write, E: Hears>(
     requires fresh { terminal.old.outputs ≡ fresh terminal.old.outputs.disk }
     ensures idle { IsIdle (C.account crew.new).events }
     ensures run { result ≢ 2
-        → Prints terminal.old.is_asked (W.contents terminal.old.output)
-        (W.contents terminal.new.output) (E.contents terminal.old.errors)
-        (E.contents terminal.new.errors) (λ out said.
+        → Prints (W.contents terminal.old.output) (W.contents terminal.new.output) E.contents
+        E.has_failed terminal.old.errors terminal.new.errors terminal.old.is_asked (λ out said.
         IsRechecked terminal.old.env.now (C.account crew.old) (C.account crew.new)
         (D.known terminal.old.outputs.disk) (D.known terminal.new.outputs.disk) out said
         result) }
     ensures ended { Exits result (λ happened.
-        SaysOf E.contents E.has_failed terminal.old.errors terminal.new.errors
-        (terminal.old.is_asked ≡ false) (
+        WritesSo W.contents W.has_failed E.contents E.has_failed terminal.old.output
+        terminal.new.output terminal.old.errors terminal.new.errors terminal.old.is_asked
+        (is_output_cut happened) (
         HasHappenedAgain terminal.old.env.now (C.account crew.old) (C.account crew.new)
         (D.known terminal.old.outputs.disk) (D.known terminal.new.outputs.disk) happened))
-        (Prints terminal.old.is_asked (W.contents terminal.old.output)
-        (W.contents terminal.new.output) (E.contents terminal.old.errors)
-        (E.contents terminal.new.errors) (λ out said.
+        (Prints (W.contents terminal.old.output) (W.contents terminal.new.output) E.contents
+        E.has_failed terminal.old.errors terminal.new.errors terminal.old.is_asked (λ out said.
         IsRechecked terminal.old.env.now (C.account crew.old) (C.account crew.new)
         (D.known terminal.old.outputs.disk) (D.known terminal.new.outputs.disk) out said
         result)) }
@@ -197,9 +195,9 @@ fn recheck<D: Disk, C: Crew + Causes, R: Read, W: Write, E: Hears>(
 /// Each error is reported as one line on standard error. If that can't be written, only the status
 /// reports it. If the terminal's `is_asked` is true, further lines may follow such a line, which
 /// say why; otherwise none do.
-pub fn run<F: Files, D: Disk, C: Crew + Causes, T: Tools, R: Read, W: Write, E: Hears>(
+pub fn run<M: Meeting, D: Disk, C: Crew + Causes, T: Tools, R: Read, W: Hears, E: Hears>(
     terminal: &mut Terminal<'_, D, R, W, E>,
-    files: &F,
+    meeting: &mut M,
     words: &[Bytes],
     crew: &mut C,
     tools: &mut T,
@@ -231,11 +229,16 @@ pub fn run<F: Files, D: Disk, C: Crew + Causes, T: Tools, R: Read, W: Write, E: 
         (result ≡ 2) ⊎ IsAnswered (D.known terminal.old.outputs.disk) others result) }
     ensures silent { IfStandIn (call_of words.now) (λ others.
         result ≡ 0 → terminal.new.errors ≡ terminal.old.errors) }
+    // It makes no file but the one that shows that its conftest was seen, and no other command makes
+    // one in this way.
+    ensures meets { IfStandIn (call_of words.now) (λ others.
+        Meets (M.made meeting.old) (M.made meeting.new) others) }
+    ensures unmet { HasNoStandIn (call_of words.now) → meeting.new ≡ meeting.old }
     // Unless the status is 2, the crew made the run of the source that the arguments name, with
     // these arguments, this environment, its cache and its templates; the status is that of its
     // outcome, its messages and the lines on its outputs are printed, and what it hands over and
-    // its log are written, and nothing else. If it isn't asked why, standard error gets its
-    // messages for standard error, as far as it takes them, and nothing else.
+    // its log are written, and nothing else. Standard error gets its messages for standard error,
+    // as far as it takes them, with pages among them if it is asked why, and nothing else.
     ensures configure { IfConfigure (call_of words.now) (λ window args.
         result ≢ 2
         → (out : List ℕ) × (said : List (List ℕ))
@@ -243,27 +246,27 @@ pub fn run<F: Files, D: Disk, C: Crew + Causes, T: Tools, R: Read, W: Write, E: 
         (C.account crew.new) (D.known terminal.old.outputs.disk)
         (D.known terminal.new.outputs.disk) out said result
         × Appends (W.contents terminal.old.output) (W.contents terminal.new.output) out
-        × (terminal.old.is_asked ≡ false
-        → AreTold (E.contents terminal.old.errors) (E.contents terminal.new.errors)
-        said)) }
+        × SaysLines E.contents E.has_failed terminal.old.errors terminal.new.errors
+        terminal.old.is_asked said) }
     // Whatever the status is, also 2, it is that of what happened, which is one of these. The
     // source can't be read, it or what it is given has a fault, memory ran out before the run, or a
     // text was shown: then no child was started, and nothing was done to files. Or memory ran out in
     // the run, and nothing was done to files. Or the run was made, and what it handed over before a
-    // put was refused is written, and nothing else. If it isn't asked why, standard error gets the
-    // line of the fault, or the messages of the run and a line for all that couldn't be written, and
-    // nothing else. Unless something couldn't be written, also the rest of what is said above holds,
-    // with this status.
+    // put was refused is written, and nothing else. Standard error gets the line of the fault, or
+    // the messages of the run and a line for all that couldn't be written, with pages among them if
+    // it is asked why, and nothing else. Standard output gets what the run or the text prints, or a
+    // front of it if it fails, and nothing else. Unless something couldn't be written, also the rest
+    // of what is said above holds, with this status.
     ensures ended { IfConfigure (call_of words.now) (λ window args.
         Exits result (λ happened.
-        SaysOf E.contents E.has_failed terminal.old.errors terminal.new.errors
-        (terminal.old.is_asked ≡ false) (
+        WritesSo W.contents W.has_failed E.contents E.has_failed terminal.old.output
+        terminal.new.output terminal.old.errors terminal.new.errors terminal.old.is_asked
+        (is_output_cut happened) (
         HasHappened window args terminal.old.env.now (C.account crew.old)
         (C.account crew.new) (D.known terminal.old.outputs.disk)
         (D.known terminal.new.outputs.disk) happened))
-        (Prints terminal.old.is_asked (W.contents terminal.old.output)
-        (W.contents terminal.new.output) (E.contents terminal.old.errors)
-        (E.contents terminal.new.errors) (λ out said.
+        (Prints (W.contents terminal.old.output) (W.contents terminal.new.output) E.contents
+        E.has_failed terminal.old.errors terminal.new.errors terminal.old.is_asked (λ out said.
         IsConfigured window args terminal.old.env.now (C.account crew.old)
         (C.account crew.new) (D.known terminal.old.outputs.disk)
         (D.known terminal.new.outputs.disk) out said result))) }
@@ -287,20 +290,19 @@ pub fn run<F: Files, D: Disk, C: Crew + Causes, T: Tools, R: Read, W: Write, E: 
         (D.known terminal.old.outputs.disk) (D.known terminal.new.outputs.disk) out said
         result
         × Appends (W.contents terminal.old.output) (W.contents terminal.new.output) out
-        × (terminal.old.is_asked ≡ false
-        → AreTold (E.contents terminal.old.errors) (E.contents terminal.new.errors)
-        said)) }
+        × SaysLines E.contents E.has_failed terminal.old.errors terminal.new.errors
+        terminal.old.is_asked said) }
     // Whatever its status is, one of the same cases holds of it, or the record can't be read or run
     // again, and nothing was done.
     ensures ended_again { IfRecheck (call_of words.now) (
         Exits result (λ happened.
-        SaysOf E.contents E.has_failed terminal.old.errors terminal.new.errors
-        (terminal.old.is_asked ≡ false) (
+        WritesSo W.contents W.has_failed E.contents E.has_failed terminal.old.output
+        terminal.new.output terminal.old.errors terminal.new.errors terminal.old.is_asked
+        (is_output_cut happened) (
         HasHappenedAgain terminal.old.env.now (C.account crew.old) (C.account crew.new)
         (D.known terminal.old.outputs.disk) (D.known terminal.new.outputs.disk) happened))
-        (Prints terminal.old.is_asked (W.contents terminal.old.output)
-        (W.contents terminal.new.output) (E.contents terminal.old.errors)
-        (E.contents terminal.new.errors) (λ out said.
+        (Prints (W.contents terminal.old.output) (W.contents terminal.new.output) E.contents
+        E.has_failed terminal.old.errors terminal.new.errors terminal.old.is_asked (λ out said.
         IsRechecked terminal.old.env.now (C.account crew.old) (C.account crew.new)
         (D.known terminal.old.outputs.disk) (D.known terminal.new.outputs.disk) out said
         result))) }
@@ -326,30 +328,34 @@ pub fn run<F: Files, D: Disk, C: Crew + Causes, T: Tools, R: Read, W: Write, E: 
     ensures output { WritesNothing (call_of words.now)
         → terminal.new.output ≡ terminal.old.output }
     ensures files { HasNoPuts (call_of words.now) → terminal.new.outputs ≡ terminal.old.outputs }
-    // If it isn't asked why, a refusal is told, unless standard error failed: what refuses is one of
-    // these, and standard error has its line, and nothing more.
-    ensures refused { terminal.old.is_asked ≡ false → result ≡ 2
+    // A refusal is told, unless standard error failed: what refuses is one of these, and standard
+    // error has its line. If it is asked why, it has pages too, and otherwise nothing more.
+    ensures refused { result ≡ 2
         → TellsWhy E.contents E.has_failed terminal.old.errors terminal.new.errors
-        (call_of words.now) }
+        terminal.old.is_asked (call_of words.now) }
     ensures filter_refused { IfFilter (call_of words.now) (
-        terminal.old.is_asked ≡ false → result ≡ 2
+        result ≡ 2
         → FilterSays E.contents E.has_failed terminal.old.errors terminal.new.errors
-        (R.remaining terminal.old.input) result) }
+        terminal.old.is_asked (R.remaining terminal.old.input) result) }
     ensures standin_refused { IfStandIn (call_of words.now) (λ others.
         result ≡ 2
         → IsTold E.contents E.has_failed terminal.old.errors terminal.new.errors
         (error_line (codes "memory") [])) }
-    // If the status of `status` is 2, nothing was done to files and nothing was printed, or the outputs
-    // up to one that was refused are made, or all are, and nothing else was done to files.
+    // If the status of `status` is 2, nothing was done to files and nothing was printed, or the
+    // outputs up to one that was refused are made, or all are, and their lines are printed, as far
+    // as standard output takes them. Nothing else was done to files.
     ensures left { IfStatus (call_of words.now) (λ tags.
         result ≡ 2
         → IsLeftAgain (D.known terminal.old.outputs.disk) (D.known terminal.new.outputs.disk) tags
-        (terminal.new.output ≡ terminal.old.output)) }
+        (terminal.new.output ≡ terminal.old.output)
+        (PrintsPart W.contents W.has_failed terminal.old.output terminal.new.output)) }
     ensures status_refused { IfStatus (call_of words.now) (λ tags.
-        terminal.old.is_asked ≡ false → result ≡ 2
+        result ≡ 2
         → (lines : List (List ℕ))
-        × SaysUnmade (D.known terminal.old.outputs.disk) tags lines
-        × AreSaid E.contents E.has_failed terminal.old.errors terminal.new.errors lines) }
+        × SaysUnmade (D.known terminal.old.outputs.disk) tags
+        (W.has_failed terminal.new.output) lines
+        × SaysLines E.contents E.has_failed terminal.old.errors terminal.new.errors
+        terminal.old.is_asked lines) }
     // No child is left in flight.
     ensures idle { IsIdle (C.account crew.new).events }
 {
@@ -364,7 +370,7 @@ pub fn run<F: Files, D: Disk, C: Crew + Causes, T: Tools, R: Read, W: Write, E: 
         ),
         ProgramCall::StandIn(words) => {
             let disk = terminal.outputs.disk();
-            run_standin(alloc, files, disk, words, &mut terminal.errors)
+            run_standin(alloc, meeting, disk, words, &mut terminal.errors)
         }
         ProgramCall::Configure(window, args) => configure(terminal, window, args, crew),
         ProgramCall::Status(tags) => run_status(terminal, tags),
@@ -467,9 +473,9 @@ pub fn command<C: Crew + Causes + Children, T: Tools>(
         None out said result) }
     ensures ended { IfConfigure (call_of words.now) (λ window args.
         Exits result (λ happened.
-        (said : List (List ℕ))
+        (written : Written)
         × HasHappened window args env.now (C.account crew.old) (C.account crew.new) None None
-        happened said)
+        happened written)
         ((out : List ℕ) × (said : List (List ℕ))
         × IsConfigured window args env.now (C.account crew.old) (C.account crew.new) None
         None out said result)) }
@@ -482,9 +488,9 @@ pub fn command<C: Crew + Causes + Children, T: Tools>(
         result) }
     ensures ended_again { IfRecheck (call_of words.now) (
         Exits result (λ happened.
-        (said : List (List ℕ))
+        (written : Written)
         × HasHappenedAgain env.now (C.account crew.old) (C.account crew.new) None None happened
-        said)
+        written)
         ((out : List ℕ) × (said : List (List ℕ))
         × IsRechecked env.now (C.account crew.old) (C.account crew.new) None None out said
         result)) }
@@ -508,14 +514,15 @@ pub fn command<C: Crew + Causes + Children, T: Tools>(
         env,
         outputs: FileOutputs::new(alloc, Host::from_here(&rt)),
         input: rt.reader(),
-        output: Counted::new(
+        output: Heard::new(Counted::new(
             Shown::new(Patient::new(io::writer(&rt), &rt), is_shown),
             is_summed,
-        ),
+        )),
         errors: Heard::new(Shown::new(Patient::new(rt.stderr(), &rt), is_seen)),
     };
-    let status = run(&mut terminal, &rt, words, crew, tools);
-    let tally = terminal.output.tally();
+    let mut meeting = MeetingFiles::new(&rt);
+    let status = run(&mut terminal, &mut meeting, words, crew, tools);
+    let tally = terminal.output.stream().tally();
     let children = crew.children();
     let _ = sum_up(&rt, alloc, &begun, &tally, children, &mut terminal.errors);
     status

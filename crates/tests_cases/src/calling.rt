@@ -2,6 +2,7 @@
 
 ghost use Rattle.proberun.specs.Ran.{MayRun};
 
+use cmd_standin::MeetingFiles;
 use crew::{Crew, MemoryCrew, Order, ProcessCrew};
 use crew_progress::{Showing, Watched};
 use crew_refusals::{Cause, Causes};
@@ -85,12 +86,12 @@ pub fn status_over<C: Crew + Causes, R: Read, W: Write, E: Write>(
         env,
         outputs: FileOutputs::new(rt.alloc(), Host::new(rt)),
         input,
-        output,
+        output: Heard::new(output),
         errors: Heard::new(errors),
     };
     run(
         &mut terminal,
-        rt,
+        &mut MeetingFiles::new(rt),
         words,
         crew,
         &mut Counting { alloc: rt.alloc() },

@@ -5,7 +5,7 @@ ghost use Rattle.std.specs.Io.{WritesAtMost};
 
 use crate::calling::status_of_children;
 use crate::stand_ins::{put_header, put_refused};
-use cmd_standin::standin;
+use cmd_standin::{MeetingFiles, standin};
 use crew_jobs::Job;
 use deftable::Bytes;
 use file_disk::Host;
@@ -44,7 +44,13 @@ fn put_standin(page: &mut Page, rt: &HostRuntime, words: &[Bytes]) {
         kept: Page::new(page.alloc()),
         fails: false,
     };
-    match standin(page.alloc(), rt, &Host::new(rt), words, &mut errors) {
+    match standin(
+        page.alloc(),
+        &mut MeetingFiles::new(rt),
+        &Host::new(rt),
+        words,
+        &mut errors,
+    ) {
         Ok(status) => page.put_shown(&status),
         Err(_) => page.cut(),
     }

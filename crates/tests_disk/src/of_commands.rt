@@ -85,15 +85,15 @@ fn put_told(page: &mut Page, status: u8, output: &[u8], errors: &[u8]) {
     }
 }
 
-/// Configures with standard error in a vector. Returns the exit status, what standard output took, and
-/// the outputs.
+/// Configures with both streams in vectors. Returns the exit status and the outputs.
 fn configured_with<D: Disk, C: Crew + Causes>(
     alloc: Global,
     disk: D,
     words: &[Bytes],
     crew: &mut C,
+    output: &mut Vec<u8>,
     errors: &mut Vec<u8>,
-) -> (u8, Vec<u8>, FileOutputs<D>)
+) -> (u8, FileOutputs<D>)
     requires unchanged { IfSome (D.known disk) (λ k. k.deeds ≡ []) }
     requires may_run { MayRun (C.account crew.old) }
 {
@@ -103,11 +103,11 @@ fn configured_with<D: Disk, C: Crew + Causes>(
         env: &[],
         outputs: FileOutputs::new(alloc, disk),
         input: b"".as_slice(),
-        output: Vec::new(alloc),
+        output: Heard::new(output),
         errors: Heard::new(errors),
     };
     let status = exit_status(&run_configure(&mut terminal, 1, words, crew));
-    (status, terminal.output, terminal.outputs)
+    (status, terminal.outputs)
 }
 
 /// Runs `configure` over a disk and a crew, and returns the outputs.
@@ -121,20 +121,21 @@ fn configure_over<D: Disk, C: Crew + Causes>(
     requires may_run { MayRun (C.account crew.old) }
 {
     let alloc = page.alloc();
+    let mut output = Vec::new(alloc);
     let mut errors = Vec::new(alloc);
-    let (status, output, outputs) = configured_with(alloc, disk, words, crew, &mut errors);
+    let (status, outputs) = configured_with(alloc, disk, words, crew, &mut output, &mut errors);
     put_told(page, status, output.as_slice(), errors.as_slice());
     outputs
 }
 
-/// Runs `status` with standard error in a vector. Returns the exit status, what standard output took,
-/// and the outputs.
+/// Runs `status` with both streams in vectors. Returns the exit status and the outputs.
 fn made_with<D: Disk>(
     alloc: Global,
     disk: D,
     tags: &[Bytes],
+    output: &mut Vec<u8>,
     errors: &mut Vec<u8>,
-) -> (u8, Vec<u8>, FileOutputs<D>)
+) -> (u8, FileOutputs<D>)
     requires { IfSome (D.known disk) (λ k. k.deeds ≡ []) }
 {
     let mut terminal = Terminal {
@@ -143,11 +144,11 @@ fn made_with<D: Disk>(
         env: &[],
         outputs: FileOutputs::new(alloc, disk),
         input: b"".as_slice(),
-        output: Vec::new(alloc),
+        output: Heard::new(output),
         errors: Heard::new(errors),
     };
     let status = run_status(&mut terminal, tags);
-    (status, terminal.output, terminal.outputs)
+    (status, terminal.outputs)
 }
 
 /// Runs `status` over a disk, and returns the outputs.
@@ -155,8 +156,9 @@ fn status_over<D: Disk>(page: &mut Page, disk: D, tags: &[Bytes]) -> FileOutputs
     requires { IfSome (D.known disk) (λ k. k.deeds ≡ []) }
 {
     let alloc = page.alloc();
+    let mut output = Vec::new(alloc);
     let mut errors = Vec::new(alloc);
-    let (status, output, outputs) = made_with(alloc, disk, tags, &mut errors);
+    let (status, outputs) = made_with(alloc, disk, tags, &mut output, &mut errors);
     put_told(page, status, output.as_slice(), errors.as_slice());
     outputs
 }

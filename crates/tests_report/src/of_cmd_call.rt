@@ -116,7 +116,12 @@ fn notes_of(page: &mut Page, text: &[u8]) -> Notes {
 }
 
 /// Prints pieces and the lines after them, without either on standard output if it is quiet.
-fn put_printed(page: &mut Page, output: &mut Side<'_>, errors: &mut Heard<Side<'_>>, words: &[u8]) {
+fn put_printed(
+    page: &mut Page,
+    output: &mut Heard<Side<'_>>,
+    errors: &mut Heard<Side<'_>>,
+    words: &[u8],
+) {
     let (pieces, rest) = cut(words, b"|");
     let (lines, quiet) = cut(rest, b"|");
     let notes = notes_of(page, pieces);
@@ -158,15 +163,14 @@ fn put_counted(page: &mut Page, stream: Side<'_>, is_once: bool, texts: &[u8]) {
 }
 
 /// Does what a row asks of these two streams.
-fn put_call<'a>(
-    page: &mut Page,
-    verb: &[u8],
-    mut output: Side<'a>,
-    errors: Side<'a>,
-    words: &[u8],
-) {
+fn put_call<'a>(page: &mut Page, verb: &[u8], output: Side<'a>, errors: Side<'a>, words: &[u8]) {
     match verb {
-        b"print" => put_printed(page, &mut output, &mut Heard::new(errors), words),
+        b"print" => put_printed(
+            page,
+            &mut Heard::new(output),
+            &mut Heard::new(errors),
+            words,
+        ),
         b"tell" => write_errors(words, &mut Heard::new(errors)),
         b"shown" => put_texts(page, &mut Shown::new(output, true), false, words),
         b"shown once" => put_texts(page, &mut Shown::new(output, true), true, words),

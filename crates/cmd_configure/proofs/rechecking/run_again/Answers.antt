@@ -1,8 +1,10 @@
-use Rattle.std.proofs.Common.{refl, subst, sym, ◌∙◌}
+use Rattle.std.proofs.Common.{[], ◌∷◌, refl, subst, sym}
+use Rattle.cmd_call.specs.Lines.{SaysLines}
+use Rattle.cmd_status.proofs.Happenings.{only_said}
+use Rattle.fault_spots.specs.FaultLines.{remake_line}
 use Rattle.engine_frame.specs.Rechecked.{HasArguments}
 use Rattle.cmd_configure.specs.Ended.{ran_again}
-use Rattle.cmd_configure.proofs.Cases.{has_bad_record, never_done_again}
-use Rattle.cmd_call.proofs.Lines.{said_line}
+use Rattle.cmd_configure.proofs.Cases.{has_bad_record, never_done_again, uncut_record}
 use Rattle.cmd_configure.proofs.rechecking.run_again.Goals as goal
 
 pub returns-in-Ok-clause-run : goal.returns-in-Ok-clause-run
@@ -37,5 +39,6 @@ pub returns-in-Err-clause-ended : goal.returns-in-Err-clause-ended
 returns-in-Err-clause-ended g c = (
   _,
   has_bad_record c.in-Err.fault c.args.terminal.now.env.now _ _ _ _ c.args.text.now c.no_record.result c.requires.found c.in-Err.ensures.exact c.no_record.ensures.happened refl refl,
-  λ unasked. said_line g.E.Write.contents g.E.Hears.has_failed _ _ _ (c.no_record.ensures.told (c.why_of-why.ensures ∙ unasked)),
+  only_said g.W.Write.contents g.W.Hears.has_failed g.E.Write.contents g.E.Hears.has_failed _ _ _ c.args.terminal.now.is_asked _ _ (uncut_record c.in-Err.fault c.no_record.result c.no_record.ensures.happened)
+      (subst (λ asked. SaysLines g.E.Write.contents g.E.Hears.has_failed c.args.terminal.now.errors c.no_record.new.errors asked (remake_line c.in-Err.fault ∷ [])) c.why_of-why.ensures c.no_record.ensures.told),
 )

@@ -1,11 +1,14 @@
-use Rattle.std.proofs.Common.{[], ap, false, refl}
+use Rattle.std.proofs.Common.{[], ◌∷◌, ap, false, refl, subst}
+use Rattle.std.specs.Prelude.{not}
 use Rattle.cmd_status.specs.Happened.{status_after}
 use Rattle.cmd_status.specs.Printed.{printed}
 use Rattle.cmd_call.specs.Errors.{errors_of}
 use Rattle.ac_tree.specs.Script.{script_of}
 use Rattle.cmd_configure.proofs.Cases.{has_bad_arguments, has_run, has_shown, never_done, zero_if}
-use Rattle.cmd_configure.proofs.Done.{is_read, is_run, is_shown, shown_said}
-use Rattle.cmd_call.proofs.Lines.{said_line}
+use Rattle.cmd_configure.proofs.Done.{is_read, is_run, is_shown, shown_alone, shown_said}
+use Rattle.cmd_call.specs.Lines.{SaysLines}
+use Rattle.cmd_status.proofs.Happenings.{uncut}
+use Rattle.fault_spots.specs.FaultLines.{fault_line}
 use Rattle.cmd_configure.proofs.running.run_source.Goals as goal
 
 pub run_needs-requires-clause-source : goal.run_needs-requires-clause-source
@@ -14,15 +17,15 @@ run_needs-requires-clause-source g c =
 
 pub returns-in-Ok-Shows-clause-run : goal.returns-in-Ok-Shows-clause-run
 returns-in-Ok-Shows-clause-run g c = λ printed_it.
-    let told = c.print_shown-is_printed.ensures.run printed_it in
+    let told = c.print_shown-is_printed.ensures in
     let report = c.in-Ok-Shows.report in (
       printed false report.messages [],
       errors_of report.messages,
       is_shown c.args.window c.args.why.now.args.now c.args.terminal.now.env.now (g.C.Crew.account c.args.crew.now) (g.D.Disk.known c.args.terminal.now.outputs.disk) (g.D.Disk.known c.print_shown-is_printed.new.terminal.outputs.disk)
           c.args.why.now.text.now (script_of c.args.source.now) _ report _
           c.requires.found c.requires.source c.in-Ok-Shows.ensures.exact c.in-Ok-Shows.field-0-is (ap (λ o. g.D.Disk.known o.disk) c.print_shown-is_printed.ensures.outputs) (zero_if c.print_shown-is_printed.result printed_it),
-      told.0,
-      λ quiet. told.1,
+      told.printed.whole (ap not printed_it),
+      shown_alone g.E.Write.contents g.E.Hears.has_failed _ _ c.args.terminal.now.is_asked c.print_shown-is_printed.result (errors_of report.messages) printed_it told.said,
     )
 
 pub returns-in-Ok-Shows-clause-ended : goal.returns-in-Ok-Shows-clause-ended
@@ -31,8 +34,11 @@ returns-in-Ok-Shows-clause-ended g c = (
   has_shown c.args.window c.args.why.now.args.now c.args.terminal.now.env.now (g.C.Crew.account c.args.crew.now) (g.D.Disk.known c.args.terminal.now.outputs.disk) (g.D.Disk.known c.print_shown-is_printed.new.terminal.outputs.disk)
       c.args.why.now.text.now (script_of c.args.source.now) _ c.in-Ok-Shows.report c.print_shown-is_printed.result
       c.requires.found c.requires.source c.in-Ok-Shows.ensures.exact c.in-Ok-Shows.field-0-is (ap (λ o. g.D.Disk.known o.disk) c.print_shown-is_printed.ensures.outputs),
-  λ unasked. shown_said g.E.Write.contents g.E.Hears.has_failed _ _ c.args.why.now.args.now c.args.terminal.now.env.now (script_of c.args.source.now) _ c.in-Ok-Shows.report _
-      c.in-Ok-Shows.ensures.exact c.in-Ok-Shows.field-0-is (c.print_shown-is_printed.ensures.said unasked.1),
+  record {
+    prints = c.print_shown-is_printed.ensures.printed;
+    says = shown_said g.E.Write.contents g.E.Hears.has_failed _ _ c.args.terminal.now.is_asked c.args.why.now.args.now c.args.terminal.now.env.now (script_of c.args.source.now) _ c.in-Ok-Shows.report _
+        c.in-Ok-Shows.ensures.exact c.in-Ok-Shows.field-0-is c.print_shown-is_printed.ensures.said;
+  },
 )
 
 pub returns-in-Ok-Runs-clause-run : goal.returns-in-Ok-Runs-clause-run
@@ -67,5 +73,6 @@ returns-in-Err-clause-ended g c = (
   _,
   has_bad_arguments c.in-Err.fault c.args.window c.args.why.now.args.now c.args.terminal.now.env.now _ _ _ _ c.args.why.now.text.now (script_of c.args.source.now) c.tell_run.result
       c.requires.found c.requires.source c.in-Err.ensures.exact c.tell_run.ensures.happened refl refl,
-  λ unasked. said_line g.E.Write.contents g.E.Hears.has_failed _ _ _ (c.tell_run.ensures.told unasked.0),
+  uncut g.W.Write.contents g.W.Hears.has_failed g.E.Write.contents g.E.Hears.has_failed _ _ _ c.args.terminal.now.is_asked c.in-Err.fault c.tell_run.result _ c.tell_run.ensures.happened
+      (subst (λ asked. SaysLines g.E.Write.contents g.E.Hears.has_failed c.args.terminal.now.errors c.tell_run.new.errors asked (fault_line c.in-Err.fault ∷ [])) c.requires.asked c.tell_run.ensures.told),
 )

@@ -9,7 +9,8 @@ use Rattle.cmd_call.specs.Errors.{errors_of}
 use Rattle.cmd_call.specs.Guarded.{AreGuarded, inputs_of}
 use Rattle.cmd_call.specs.Precious.{precious_in}
 use Rattle.cmd_call.specs.Supplies.{AreGiven}
-use Rattle.cmd_call.proofs.Lines.{said_line}
+use Rattle.cmd_status.specs.Printed.{only_lines}
+use Rattle.cmd_configure.proofs.Cases.{line_written}
 use Rattle.cmd_status.specs.Reasons.{memory_line}
 use Rattle.cmd_configure.specs.Ended.{IsRunEnd, unstarted}
 use Rattle.cmd_configure.proofs.Done.{run_done}
@@ -23,9 +24,9 @@ returns-in_default-clause-ended g c =
     let old = g.D.Disk.known c.args.terminal.now.outputs.disk in
     let new = g.D.Disk.known c.keep_inputs.new.outputs.disk in (
       _,
-      subst (λ h. IsRunEnd c.args.window n.arguments (script_in n) n.settings account account old new h (memory_line ∷ [])) (sym c.no_memory.ensures.happened)
+      subst (λ h. IsRunEnd c.args.window n.arguments (script_in n) n.settings account account old new h (only_lines (memory_line ∷ []))) (sym c.no_memory.ensures.happened)
           (unstarted refl (ap (λ o. g.D.Disk.known o.disk) c.keep_inputs.ensures.more.1)),
-      λ unasked. said_line g.E.Write.contents g.E.Hears.has_failed _ _ _ c.no_memory.ensures.told,
+      line_written g.W.Write.contents g.W.Hears.has_failed g.E.Write.contents g.E.Hears.has_failed _ _ _ c.args.terminal.now.is_asked c.no_memory.result _ c.no_memory.ensures.happened c.no_memory.ensures.told,
     )
 
 pub returns-clause-ended : goal.returns-clause-ended
@@ -62,8 +63,8 @@ returns-clause-ended g c =
     } in
     let finished = c.finish_run.ensures.finished in (
       finished.0,
-      run_ended g.D.Disk.known c.args.terminal.now.outputs.disk kept answer.new.outputs c.finish_run.new.terminal.outputs _ c.args.window n.arguments (script_in n) n.settings _ _ _ _ _ answer.result c.finish_run.result finished.0 gone
-          (ap precious_in c.given_of-given.ensures.source) finished.1,
+      run_ended g.D.Disk.known c.args.terminal.now.outputs.disk kept answer.new.outputs c.finish_run.new.terminal.outputs _ c.args.window n.arguments (script_in n) n.settings _ _ _ _ _ c.given_of-given.result.settings.now answer.result c.finish_run.result finished.0 gone
+          (ap precious_in c.given_of-given.ensures.source) c.given_of-given.ensures.settings finished.1,
       finished.2,
     )
 

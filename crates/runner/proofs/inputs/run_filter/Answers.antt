@@ -15,7 +15,7 @@ returns-clause-ended g c =
     refused_so _ c.in-Err.fault _ _ _ c.in-Err.ensures.refused c.tell_filter.ensures.status c.in-Err.ensures.untouched
 
 pub returns-in-Ok-clause-refused : goal.returns-in-Ok-clause-refused
-returns-in-Ok-clause-refused g c = λ unasked two. inr (said_whole _ _ _ _ _ _ c.as_slice.ensures.value c.in-Ok.ensures.written c.write_said.ensures.whole)
+returns-in-Ok-clause-refused g c = λ two. inr (said_whole _ _ _ _ _ _ c.as_slice.ensures.value c.in-Ok.ensures.written c.write_said.ensures.whole)
 
 pub returns-clause-refused : goal.returns-clause-refused
-returns-clause-refused g c = λ unasked two. inl (c.in-Err.fault, c.in-Err.ensures.refused, c.tell_filter.ensures.told unasked)
+returns-clause-refused g c = λ two. inl (c.in-Err.fault, c.in-Err.ensures.refused, c.tell_filter.ensures.told)

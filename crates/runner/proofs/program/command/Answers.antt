@@ -6,10 +6,10 @@ pub returns-clause-configure : goal.returns-clause-configure
 returns-clause-configure g c = configure_told (call_of c.args.words.now) c.run-status.result _ _ _ c.run-status.ensures.configure
 
 pub returns-clause-ended : goal.returns-clause-ended
-returns-clause-ended g c = configure_unprinted _ _ _ _ _ (call_of c.args.words.now) c.run-status.result _ _ _ _ _ _ _ c.run-status.ensures.ended
+returns-clause-ended g c = configure_unprinted _ _ _ _ _ _ _ _ _ (call_of c.args.words.now) c.run-status.result _ _ c.run-status.ensures.ended
 
 pub returns-clause-recheck : goal.returns-clause-recheck
 returns-clause-recheck g c = recheck_told (call_of c.args.words.now) c.run-status.result _ _ _ c.run-status.ensures.recheck
 
 pub returns-clause-ended_again : goal.returns-clause-ended_again
-returns-clause-ended_again g c = recheck_unprinted _ _ _ _ _ (call_of c.args.words.now) c.run-status.result _ _ _ _ _ _ _ c.run-status.ensures.ended_again
+returns-clause-ended_again g c = recheck_unprinted _ _ _ _ _ _ _ _ _ (call_of c.args.words.now) c.run-status.result _ _ c.run-status.ensures.ended_again

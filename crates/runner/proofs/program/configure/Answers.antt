@@ -1,5 +1,5 @@
-use Rattle.std.proofs.Common.{◌≡◌, false}
-use Rattle.cmd_status.specs.Reasons.{SaysOf}
+use Rattle.cmd_status.specs.Happened.{is_output_cut}
+use Rattle.cmd_status.specs.Printed.{WritesSo}
 use Rattle.cmd_configure.specs.Configures.{IsConfigured}
 use Rattle.cmd_configure.specs.Ended.{HasHappened, Prints}
 use Rattle.runner.proofs.Statuses.{exits_so, unless_fault}
@@ -11,7 +11,7 @@ returns-clause-run g c =
     let old = c.args.terminal.now in
     let new = made.new.terminal in
     unless_fault
-    (λ n. Prints old.is_asked (g.W.Write.contents old.output) (g.W.Write.contents new.output) (g.E.Write.contents old.errors) (g.E.Write.contents new.errors) (λ out said.
+    (λ n. Prints (g.W.Write.contents old.output) (g.W.Write.contents new.output) g.E.Write.contents g.E.Hears.has_failed old.errors new.errors old.is_asked (λ out said.
     IsConfigured c.args.window c.args.args.now old.env.now (g.C.Crew.account c.args.crew.now) (g.C.Crew.account made.new.crew) (g.D.Disk.known old.outputs.disk) (g.D.Disk.known new.outputs.disk) out said n))
     c.exit_status.result made.result c.exit_status.ensures made.ensures.run
 
@@ -21,7 +21,7 @@ returns-clause-ended g c =
     let old = c.args.terminal.now in
     let new = made.new.terminal in
     exits_so
-    (λ n. Prints old.is_asked (g.W.Write.contents old.output) (g.W.Write.contents new.output) (g.E.Write.contents old.errors) (g.E.Write.contents new.errors) (λ out said.
+    (λ n. Prints (g.W.Write.contents old.output) (g.W.Write.contents new.output) g.E.Write.contents g.E.Hears.has_failed old.errors new.errors old.is_asked (λ out said.
     IsConfigured c.args.window c.args.args.now old.env.now (g.C.Crew.account c.args.crew.now) (g.C.Crew.account made.new.crew) (g.D.Disk.known old.outputs.disk) (g.D.Disk.known new.outputs.disk) out said n))
-    (λ happened. SaysOf g.E.Write.contents g.E.Hears.has_failed old.errors new.errors (old.is_asked ≡ false) (HasHappened c.args.window c.args.args.now old.env.now (g.C.Crew.account c.args.crew.now) (g.C.Crew.account made.new.crew) (g.D.Disk.known old.outputs.disk) (g.D.Disk.known new.outputs.disk) happened))
+    (λ happened. WritesSo g.W.Write.contents g.W.Hears.has_failed g.E.Write.contents g.E.Hears.has_failed old.output new.output old.errors new.errors old.is_asked (is_output_cut happened) (HasHappened c.args.window c.args.args.now old.env.now (g.C.Crew.account c.args.crew.now) (g.C.Crew.account made.new.crew) (g.D.Disk.known old.outputs.disk) (g.D.Disk.known new.outputs.disk) happened))
     c.exit_status.result made.result c.exit_status.ensures made.ensures.ended made.ensures.run

@@ -48,3 +48,6 @@ returns-in-Filter-clause-filter_refused g c = is_filter c.call_of.result _ _ c.i
 
 pub returns-in-Status-clause-status_refused : goal.returns-in-Status-clause-status_refused
 returns-in-Status-clause-status_refused g c = is_status c.call_of.result _ _ c.in-Status.tags c.in-Status.is c.call_of.ensures.call c.run_status.ensures.refused
+
+pub returns-in_default-clause-meets : goal.returns-in_default-clause-meets
+returns-in_default-clause-meets g c = no_standin c.call_of.result _ _ c.in_default.not-StandIn c.call_of.ensures.call
