@@ -1,5 +1,6 @@
 -- Templates that are read, one output after the other.
-use Rattle.std.proofs.Common.{◌≡◌, ℕ, ◌+◌, ◌<◌, Bool, true, false, cond, is_some, Result, Ok, Err, OnOk, List, [], ◌∷◌, ◌++◌, Option, Some, None, ◌≤◌, length, take, get_or, refl, sym, ap, subst, ◌∙◌, append_assoc}
+use Rattle.std.proofs.lemmas.Bool.{true≢false}
+use Rattle.std.proofs.Common.{IfOk, IfSome, ◌≡◌, ℕ, ◌+◌, ◌<◌, Bool, true, false, cond, is_some, Result, Ok, Err, OnOk, List, [], ◌∷◌, ◌++◌, Option, Some, None, ◌≤◌, length, take, get_or, refl, sym, ap, subst, ◌∙◌, append_assoc}
 use Rattle.std.specs.Prelude.{All, bytes_eq}
 use Rattle.std.specs.List.{Contains}
 use Rattle.std.proofs.lemmas.List.{append-nil, take_all, take_more}
@@ -8,8 +9,42 @@ use Rattle.std.proofs.lemmas.Slice.Eq.{bytes_eq-Decides}
 use Rattle.deftable.specs.Table.{value_of, with_entry}
 use Rattle.deftable.proofs.Tables.{value_of-[], value_of-with_entry}
 use Rattle.file_disk.specs.Known.{Known}
+use Rattle.file_texts.specs.Names.{IsFileName}
+use Rattle.file_texts.specs.Places.{is_own}
+use Rattle.file_texts.specs.Reading.{IsReadWhole}
 use Rattle.output_list.specs.declared.output.Output.{Output}
-use Rattle.cmd_call.specs.Supplies.{AreLookedFor, AreTemplates, HasTemplate, ReadsTemplate, entry_of}
+use Rattle.cmd_call.specs.Supplies.{AreLookedFor, AreTemplates, HasTemplate, IsTemplateRead, ReadsTemplate, entry_of}
+
+-- ---- one template
+
+-- A template whose path a run has for itself counts as not there.
+pub own_unread : (known : Option Known) (path : List ℕ) (own : Bool) → own ≡ true → (own ≡ true → IsFileName path)
+    → (IsFileName path → IfSome known (λ k. own ≡ is_own k path))
+    → IfSome known (λ k. IsTemplateRead k path (is_own k path) None)
+own_unread None path own is file value = tt
+own_unread (Some k) path own is file value = subst (λ b. IsTemplateRead k path b None) (sym is ∙ value (file is)) refl
+
+read_if : (k : Known) (path : List ℕ) (read : Option (List ℕ)) (own : Bool) → IsReadWhole k path read → IfSome read (λ text. own ≡ false) → IsTemplateRead k path own read
+read_if k path None true is free = refl
+read_if k path (Some text) true is free = absurd (true≢false free)
+read_if k path read false is free = is
+
+free_if : (k : Known) (path : List ℕ) (read : Option (List ℕ)) (own : Bool) → own ≡ false → (IsFileName path → own ≡ is_own k path)
+    → IfSome read (λ text. IsFileName path) → IfSome read (λ text. is_own k path ≡ false)
+free_if k path None own is value file = tt
+free_if k path (Some text) own is value file = sym (value file) ∙ is
+
+-- Any other template is read whole.
+pub read_other : {E : Type 0} (r : Result (Option (List ℕ)) E) (known : Option Known) (path : List ℕ) (own : Bool) → own ≡ false
+    → (IsFileName path → IfSome known (λ k. own ≡ is_own k path))
+    → IfOk r (λ read. IfSome read (λ text. IsFileName path)) → IfOk r (λ read. IfSome known (λ k. IsReadWhole k path read))
+    → IfOk r (λ read. IfSome known (λ k. IsTemplateRead k path (is_own k path) read))
+read_other (Err e) known path own is value file whole = tt
+read_other (Ok read) None path own is value file whole = tt
+read_other (Ok read) (Some k) path own is value file whole =
+    read_if k path read (is_own k path) whole (free_if k path read own is value file)
+
+-- ---- one output after the other
 
 -- What was looked for before is there afterwards too.
 still_there : (files : Option Known) (srcdir name : List ℕ) (ts more : List (List ℕ × List ℕ)) → HasTemplate files srcdir ts name → HasTemplate files srcdir (ts ++ more) name

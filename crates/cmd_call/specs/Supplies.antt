@@ -1,9 +1,10 @@
 -- What a run is given besides its source: the texts of its cache and of its templates, as they are
 -- in files.
-use Rattle.std.specs.Prelude.{◌≡◌, ℕ, Bool, true, is_some, List, [], ◌∷◌, ◌++◌, Option, Some, None, Result, Ok, Err, IfSome, All, if◌then◌else◌}
+use Rattle.std.specs.Prelude.{◌≡◌, ℕ, Bool, true, false, is_some, List, [], ◌∷◌, ◌++◌, Option, Some, None, Result, Ok, Err, IfSome, All, if◌then◌else◌}
 use Rattle.std.specs.List.{Contains}
 use Rattle.deftable.specs.Table.{value_of}
 use Rattle.file_disk.specs.Known.{Known}
+use Rattle.file_texts.specs.Places.{is_own}
 use Rattle.file_texts.specs.Reading.{IsReadLimited, IsReadWhole}
 use Rattle.output_list.specs.declared.output.Output.{Output}
 use Rattle.status_record.specs.Reading.{record_in}
@@ -26,9 +27,17 @@ ReadsLimited files name read = IfSome files (λ k. IsReadLimited k name read)
 abbrev pub ReadsWhole : Option Known → List ℕ → Option (List ℕ) → Type 0
 ReadsWhole files name read = IfSome files (λ k. IsReadWhole k name read)
 
--- If something is known of the files, this was read of the template of this name. (own)
+-- This was read of the template at this path: nothing, if a run has the path for itself, and the
+-- text that is read whole otherwise. (own)
+abbrev pub IsTemplateRead : Known → List ℕ → Bool → Option (List ℕ) → Type 0
+IsTemplateRead k path true read = read ≡ None
+IsTemplateRead k path false read = IsReadWhole k path read
+
+-- If something is known of the files, this was read of the template of this name. One whose path a
+-- run has for itself counts as not there, since a check would write over it. (own)
 abbrev pub ReadsTemplate : Option Known → List ℕ → List ℕ → Option (List ℕ) → Type 0
-ReadsTemplate files srcdir name read = ReadsWhole files (path_of srcdir name) read
+ReadsTemplate files srcdir name read =
+    IfSome files (λ k. IsTemplateRead k (path_of srcdir name) (is_own k (path_of srcdir name)) read)
 
 -- The entry of a template: its name and its text, if it was read. (own)
 abbrev pub entry_of : List ℕ → Option (List ℕ) → List (List ℕ × List ℕ)

@@ -1,8 +1,9 @@
 //! What a run is given besides its source: the texts of its cache and of its templates.
 
-ghost use Rattle.std.specs.Prelude.{◌≡◌, ℕ, List, [], ◌∷◌, ◌++◌, Option, IfOk, OnOk, option_copied, is_some};
+ghost use Rattle.std.specs.Prelude.{◌≡◌, ℕ, List, [], ◌∷◌, ◌++◌, Option, IfOk, IfSome, OnOk, option_copied, is_some};
 ghost use Rattle.deftable.specs.Table.{value_of};
 ghost use Rattle.file_texts.specs.Held.{GuardsMore, IsUnused};
+ghost use Rattle.file_texts.specs.Places.{is_own};
 ghost use Rattle.cmd_call.specs.Guarded.{AreGuarded, IsGuardedNow, inputs_of, paths_of};
 ghost use Rattle.cmd_call.specs.Supplies as given;
 ghost use Rattle.output_list.specs.declared.output.Output as lists;
@@ -12,7 +13,7 @@ use crate::printing::LOG;
 use ac_tree::Source;
 use deftable::{Bytes, Vars};
 use file_disk::Disk;
-use file_texts::{FileOutputs, path_in, read_limited, read_text};
+use file_texts::{FileOutputs, is_own, path_in, read_limited, read_text};
 use options::Settings;
 use output_list::Output;
 use status_record::Record;
@@ -27,7 +28,21 @@ pub struct Supplies {
     pub templates: Vec<(Bytes, Bytes)>,
 }
 
-/// Reads the text of a template, and appends it under its name. Does nothing if it can't be read.
+/// Returns the text of the template at a path, or `None` if it can't be read, or a run has the path
+/// for itself: a check would write over it. Fails only if memory runs out.
+#[tactic(auto, using(crate::proofs::Templates::own_unread, crate::proofs::Templates::read_other))]
+fn read_template<D: Disk>(alloc: Global, disk: &D, path: &[u8]) -> Result<Option<Bytes>, AllocError>
+    ensures { IfOk result (λ read. IfSome (D.known disk.now)
+        (λ k. given.IsTemplateRead k path.now (is_own k path.now) read)) }
+{
+    if is_own(disk, path)? {
+        return Ok(None);
+    }
+    read_text(alloc, disk, path)
+}
+
+/// Reads the text of a template, and appends it under its name. Does nothing if it counts as not
+/// there.
 fn add_template<D: Disk>(
     alloc: Global,
     disk: &D,
@@ -40,7 +55,7 @@ fn add_template<D: Disk>(
         × (templates.new.items ≡ templates.old.items ++ given.entry_of name.now read)) }
 {
     let path = path_in(alloc, srcdir, name)?;
-    let Some(text) = read_text(alloc, disk, path.as_slice())? else {
+    let Some(text) = read_template(alloc, disk, path.as_slice())? else {
         return Ok(());
     };
     let name = Bytes::from_slice(alloc, name)?;
@@ -101,7 +116,7 @@ fn add_templates<D: Disk>(
 }
 
 /// Reads the templates of files and headers, each once, with its name. One that can't be read is
-/// left out.
+/// left out, and so is one whose path a run has for itself, as [`is_own`] says (own).
 ///
 /// # Errors
 ///
