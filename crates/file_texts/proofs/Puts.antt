@@ -12,7 +12,7 @@ use Rattle.file_texts.specs.Held.{Held, AreUnguarded}
 use Rattle.file_texts.specs.Keeping.{IsKept, AreSame, IsLeft, MayReplace, IsStepped, IsUnstepped, before, after, Takes, keeps_of, made_for}
 use Rattle.file_texts.specs.Lines.{AreLines}
 use Rattle.file_texts.specs.Sayings.{saying_of, said}
-use Rattle.file_texts.specs.Places.{ArePlaced, is_name_guarded}
+use Rattle.file_texts.specs.Places.{ArePlaced, is_name_guarded, is_own, is_own_in}
 use Rattle.file_texts.specs.Steps.{IsWritten, IsUndone}
 use Rattle.file_texts.specs.declared.lines.Saying.{Saying}
 use Rattle.file_texts.specs.declared.places.Guard.{Guard}
@@ -69,17 +69,23 @@ both : (X Y : Known → Type 0) (a : Option Known) → IfSome a X → IfSome a Y
 both X Y None x y = tt
 both X Y (Some k) x y = (x, y)
 
+-- The name, if something is known, is none that a run has for itself.
+not_own : (a : Option Known) (name : List ℕ) → is_own_in a name ≡ false
+    → IfSome a (λ k. is_own k name ≡ false)
+not_own None name is = tt
+not_own (Some k) name is = is
+
 pub takes_is : {E : Type 0} (r : Result (Unit {0}) E) (a b : Option Known) (guards : List Guard) (places new_places : List FilePlace) (artifacts : List Artifact) (lines : List ℕ) (new_artifacts : List Artifact) (new_lines : List ℕ)
     (kind : Kind) (left : Bool) (name file text : List ℕ) (artifact : Artifact) (saying : Saying)
     → artifact ≡ record { kind = kind; name = name; text = text } → saying ≡ saying_of kind left
-    → is_name_guarded name guards ≡ false → can_be_read kind text ≡ true
+    → is_name_guarded name guards ≡ false → is_own_in a name ≡ false → can_be_read kind text ≡ true
     → IfSome a (λ k. IsLeft kind k name text left) → IfSome a (λ k. IsEnd k name kind file)
     → IfSome a (λ k. MayReplace kind left k name file)
     → OnOk r (IsKept artifacts lines new_artifacts new_lines artifact (said saying name))
     → OnOk r (Does a b (λ k deeds. IsStepped k guards places new_places saying left (keeps_of kind) name file text deeds))
     → OnOk r (Takes a b guards places new_places artifacts lines new_artifacts new_lines (record { kind = kind; name = name; text = text }))
-takes_is (Err e) a b guards places new_places artifacts lines new_artifacts new_lines kind left name file text artifact saying is says named readable lefts ends may kept does = tt
-takes_is (Ok u) a b guards places new_places artifacts lines new_artifacts new_lines kind left name file text artifact saying is says named readable lefts ends may kept does =
+takes_is (Err e) a b guards places new_places artifacts lines new_artifacts new_lines kind left name file text artifact saying is says named own readable lefts ends may kept does = tt
+takes_is (Ok u) a b guards places new_places artifacts lines new_artifacts new_lines kind left name file text artifact saying is says named own readable lefts ends may kept does =
     let line = said (saying_of kind left) name in
     let one : Artifact = record { kind = kind; name = name; text = text } in
     let steps : Does a b (λ k deeds. IsStepped k guards places new_places (saying_of kind left) left (keeps_of kind) name file text deeds) =
@@ -88,15 +94,18 @@ takes_is (Ok u) a b guards places new_places artifacts lines new_artifacts new_l
       line = line;
       kept = subst (λ t. IsKept artifacts lines new_artifacts new_lines t line) is (subst (λ s. IsKept artifacts lines new_artifacts new_lines artifact (said s name)) says kept);
       said = is_said kind left name;
-      does = does_more a b (λ k. (IsLeft kind k name text left × MayReplace kind left k name file) × IsEnd k name kind file) _ (λ k deeds. IsTakenSo k guards places new_places one line deeds)
-          (both (λ k. IsLeft kind k name text left × MayReplace kind left k name file) (λ k. IsEnd k name kind file) a (both (λ k. IsLeft kind k name text left) (λ k. MayReplace kind left k name file) a lefts may) ends) steps
+      does = does_more a b (λ k. ((IsLeft kind k name text left × MayReplace kind left k name file) × IsEnd k name kind file) × (is_own k name ≡ false)) _ (λ k deeds. IsTakenSo k guards places new_places one line deeds)
+          (both (λ k. (IsLeft kind k name text left × MayReplace kind left k name file) × IsEnd k name kind file) (λ k. is_own k name ≡ false) a
+          (both (λ k. IsLeft kind k name text left × MayReplace kind left k name file) (λ k. IsEnd k name kind file) a (both (λ k. IsLeft kind k name text left) (λ k. MayReplace kind left k name file) a lefts may) ends)
+          (not_own a name own)) steps
           (λ k d x s. record {
             file = file;
-            ends = x.1;
+            ends = x.0.1;
             named = named;
+            own = x.1;
             readable = readable;
             placed = has_places k guards places new_places kind left name file s.placed;
-            put = put_is k guards places new_places kind left name file text d x.0 s;
+            put = put_is k guards places new_places kind left name file text d x.0.0 s;
           });
     }
 

@@ -7,7 +7,7 @@ use Rattle.output_put.specs.declared.artifact.Kind.{Kind}
 use Rattle.output_put.specs.declared.artifact.Kind.TheVariants.{Cache, Record, File, Header}
 use Rattle.file_texts.specs.Lines.{creating_line, unchanged_line}
 use Rattle.file_texts.specs.Links.{LeadsTo}
-use Rattle.file_texts.specs.Places.{ArePlaced, is_name_guarded}
+use Rattle.file_texts.specs.Places.{ArePlaced, is_name_guarded, is_own}
 use Rattle.file_texts.specs.Reading.{whole}
 use Rattle.file_texts.specs.Steps.{IsWritten, IsUndone, directories_for}
 use Rattle.file_texts.specs.declared.places.Guard.{Guard}
@@ -75,11 +75,13 @@ pub data HasPlaces (k : Known) (guards : List Guard) (places new : List FilePlac
       → HasPlaces k guards places new name file kind
 
 -- If this is known, an artifact was put in this way, to a file that is its own: not that of a name
--- that is guarded, and not that of an earlier artifact. It can be read again. (own)
+-- that is guarded, not that of an earlier artifact, and none that a run has for itself. It can be
+-- read again. (own)
 pub record IsTakenSo (k : Known) (guards : List Guard) (places new : List FilePlace) (artifact : Artifact) (line : List ℕ) (deeds : List Deed) : Type 0 where
   pub file : List ℕ
   pub ends : IsEnd k artifact.name artifact.kind file
   pub named : is_name_guarded artifact.name guards ≡ false
+  pub own : is_own k artifact.name ≡ false
   pub readable : can_be_read artifact.kind artifact.text ≡ true
   pub placed : HasPlaces k guards places new artifact.name file artifact.kind
   pub put : IsPut k artifact.name file artifact.text artifact.kind line deeds

@@ -1,6 +1,6 @@
 -- Where files are, and which places are guarded.
-use Rattle.std.specs.Prelude.{◌≡◌, ℕ, ◌==◌, ◌&&◌, ◌||◌, Bool, false, List, [], ◌∷◌, ◌++◌, Option, Some, None, option_map, bytes_eq}
-use Rattle.std.specs.List.{list_any}
+use Rattle.std.specs.Prelude.{◌≡◌, ℕ, ◌==◌, nat_eq, ◌&&◌, ◌||◌, Bool, false, List, [], ◌∷◌, ◌++◌, Option, Some, None, option_map, bytes_eq, codes}
+use Rattle.std.specs.List.{list_any, starts_with}
 use Rattle.file_disk.specs.Known.{Known, directory_under}
 use Rattle.file_texts.specs.Names.{home_of, last_of}
 use Rattle.file_texts.specs.declared.places.Guard.{Guard}
@@ -51,15 +51,40 @@ is_held_at (Some place) guards places = is_place_guarded place guards || is_amon
 abbrev pub is_held : Option Known → List ℕ → List Guard → List FilePlace → Bool
 is_held known name guards places = is_name_guarded name guards || is_held_at (place_in known name) guards places
 
+-- Two directories are there, and they are one, by their devices and their numbers there. (own)
+abbrev pub is_one : Option (ℕ × ℕ) → Option (ℕ × ℕ) → Bool
+is_one None other = false
+is_one (Some d) None = false
+is_one (Some d) (Some e) = (d.0 == e.0) && (d.1 == e.1)
+
+-- The directory of the name is the current directory. (own)
+abbrev pub is_here : Known → List ℕ → Bool
+is_here k name = is_one (directory_under k (home_of name)) (directory_under k (codes "."))
+
+-- The last part of the name begins with conftest. (own)
+abbrev pub begins_own : List ℕ → Bool
+begins_own name = starts_with nat_eq (last_of name) (codes "conftest")
+
+-- A run has the name for itself: its checks make files of such names in the current directory, and
+-- Autoconf removes all of them. If the directory of the name isn't there, it is no such name. (own)
+abbrev pub is_own : Known → List ℕ → Bool
+is_own k name = begins_own name && is_here k name
+
+-- The same, if the files are known. (own)
+abbrev pub is_own_in : Option Known → List ℕ → Bool
+is_own_in None name = false
+is_own_in (Some k) name = is_own k name
+
 -- Places were appended. (own)
 abbrev pub AreMore : List FilePlace → List FilePlace → Type 0
 AreMore places new = (more : List FilePlace) × (new ≡ places ++ more)
 
--- The place of a name was added to the places of artifacts. It is not guarded, and no artifact had
--- it. (own)
+-- The place of a name was added to the places of artifacts. It is not guarded, no artifact had it,
+-- and a run doesn't have the name for itself. (own)
 pub record IsAdded (k : Known) (guards : List Guard) (places new : List FilePlace) (name : List ℕ) : Type 0 where
   pub place : FilePlace
   pub at : place_under k name ≡ Some place
+  pub own : is_own k name ≡ false
   pub free : is_held_at (Some place) guards places ≡ false
   pub added : new ≡ places ++ place ∷ []
 

@@ -44,6 +44,7 @@ pub use input::read_input;
 pub use input_fault::ReadFault;
 pub use marker::{line_len, marker_place};
 pub use names::path_in;
+pub use places::is_own;
 pub use reading::{read_limited, read_text, unread_cause};
 pub use receiver::FileOutputs;
 pub use writing::{Keeps, write_text};

@@ -1,15 +1,16 @@
 //! Where files are: which names are names of one file, and which are guarded.
 
-ghost use Rattle.std.specs.Prelude.{◌≡◌, ◌≢◌, ◌∷◌, ◌++◌, [], Some, None, IsTrue, IfOk, IfErr, IfSome, OnOk, OnErr, false, is_some, length, take};
+ghost use Rattle.std.specs.Prelude.{◌≡◌, ◌≢◌, ◌∷◌, ◌++◌, [], Some, None, IsTrue, IfOk, IfErr, IfSome, OnOk, OnErr, true, false, is_some, length, take};
 ghost use Rattle.std.specs.IoError.{error_kind};
 ghost use Rattle.deftable.specs.Table.{value_of, with_entry};
 ghost use Rattle.file_disk.specs.Known.{directory_under};
 ghost use Rattle.file_texts.specs.Keys.{place_key, guard_key};
 ghost use Rattle.file_texts.specs.Names as names;
+ghost use Rattle.file_texts.specs.Names.{IsFileName};
 ghost use Rattle.file_texts.specs.Places as meant;
 ghost use Rattle.file_texts.specs.Places.{IsAdded, place_under, place_in};
 
-use crate::names::{home_of, last_of};
+use crate::names::{file_name, home_of, last_of};
 use deftable::{Bytes, Vars};
 use file_disk::Disk;
 use std::alloc::{AllocError, Global};
@@ -83,6 +84,78 @@ fn place_if_there<D: Disk>(
         Err(e) if e.kind() == ErrorKind::OutOfMemory => Err(AllocError),
         Err(_) => Ok(None),
     }
+}
+
+/// Returns a directory by its device and number, or `None` if there is no such directory, or the
+/// system refuses to look. Fails only if memory runs out.
+fn directory_if_there<D: Disk>(disk: &D, name: &str) -> Result<Option<(u64, u64)>, AllocError>
+    ensures { IfOk result (λ o. IfSome (D.known disk.now) (λ k. o ≡ directory_under k name.now)) }
+{
+    match disk.directory(name) {
+        Ok(directory) => Ok(Some(directory)),
+        Err(e) if e.kind() == ErrorKind::OutOfMemory => Err(AllocError),
+        Err(_) => Ok(None),
+    }
+}
+
+/// Returns whether two directories are there, and are one.
+fn is_one(a: Option<(u64, u64)>, b: Option<(u64, u64)>) -> bool
+    ensures { result ≡ meant.is_one a b }
+{
+    match a {
+        Some(a) => match b {
+            Some(b) => a.0 == b.0 && a.1 == b.1,
+            None => false,
+        },
+        None => false,
+    }
+}
+
+/// Returns whether a name is in the current directory. Fails only if memory runs out.
+fn is_here<D: Disk>(disk: &D, name: &str) -> Result<bool, AllocError>
+    ensures { IfOk result
+        (λ here. IfSome (D.known disk.now) (λ k. here ≡ meant.is_here k name.now)) }
+{
+    let home = directory_if_there(disk, home_of(name))?;
+    let here = directory_if_there(disk, ".")?;
+    Ok(is_one(home, here))
+}
+
+/// Returns whether the last part of a name begins with `conftest`.
+fn begins_own(name: &str) -> bool
+    ensures { result ≡ meant.begins_own name.now }
+{
+    last_of(name).as_bytes().starts_with(b"conftest")
+}
+
+/// Returns whether a run has this name for itself. Fails only if memory runs out.
+fn is_own_path<D: Disk>(disk: &D, name: &str) -> Result<bool, AllocError>
+    ensures { IfOk result
+        (λ own. IfSome (D.known disk.now) (λ k. own ≡ meant.is_own k name.now)) }
+{
+    if !begins_own(name) {
+        return Ok(false);
+    }
+    is_here(disk, name)
+}
+
+/// Returns whether a run has this name of a file for itself: the name is in the current directory,
+/// and its last part begins with `conftest`, as the names of all files that a check makes (own).
+///
+/// A name whose directory isn't there, or that no file can have, is no such name.
+///
+/// # Errors
+///
+/// Fails only if memory runs out.
+pub fn is_own<D: Disk>(disk: &D, name: &[u8]) -> Result<bool, AllocError>
+    ensures name { IfOk result (λ own. own ≡ true → IsFileName name.now) }
+    ensures value { IfOk result (λ own. IsFileName name.now
+        → IfSome (D.known disk.now) (λ k. own ≡ meant.is_own k name.now)) }
+{
+    let Some(name) = file_name(name) else {
+        return Ok(false);
+    };
+    is_own_path(disk, name)
 }
 
 impl FilePlace {
@@ -295,7 +368,7 @@ fn is_held_at(
 
 /// Returns whether the name is guarded, or its place is guarded or one of these. Fails only if
 /// memory runs out.
-pub(crate) fn is_held<D: Disk>(
+fn is_held<D: Disk>(
     alloc: Global,
     disk: &D,
     guards: &Guards,
@@ -316,6 +389,28 @@ pub(crate) fn is_held<D: Disk>(
     }
 }
 
+/// Returns whether nothing is to be put to the name: a run has it for itself, it is guarded, or its
+/// place is guarded or one of these. Fails only if memory runs out.
+pub(crate) fn is_kept<D: Disk>(
+    alloc: Global,
+    disk: &D,
+    guards: &Guards,
+    places: &Places,
+    name: &str,
+) -> Result<bool, AllocError>
+    ensures named { IfOk result
+        (λ kept. kept ≡ false → meant.is_name_guarded name.now guards.now ≡ false) }
+    ensures own { IfOk result
+        (λ kept. kept ≡ false → meant.is_own_in (D.known disk.now) name.now ≡ false) }
+    ensures held { IfOk result (λ kept.
+        kept ≡ false → meant.is_held (D.known disk.now) name.now guards.now places.now ≡ false) }
+{
+    if is_own_path(disk, name)? {
+        return Ok(true);
+    }
+    is_held(alloc, disk, guards, places, name)
+}
+
 /// Returns a guard of this name.
 pub(crate) fn guard_of<D: Disk>(alloc: Global, disk: &D, name: &str) -> Result<Guard, AllocError>
     ensures name { IfOk result (λ guard. guard.name ≡ name.now) }
@@ -327,7 +422,8 @@ pub(crate) fn guard_of<D: Disk>(alloc: Global, disk: &D, name: &str) -> Result<G
     Ok(Guard { name, place })
 }
 
-/// Returns the error of a name that is guarded, or whose place is another artifact's.
+/// Returns the error of a name that a run has for itself, that is guarded, or whose place is another
+/// artifact's.
 pub(crate) fn held_error() -> io::Error {
     io::Error::other("has the name of another file of this run")
 }
@@ -345,7 +441,8 @@ fn add(alloc: Global, guards: &Guards, places: &mut Places, place: FilePlace) ->
     Ok(())
 }
 
-/// Adds the place of a name, if it has one, and it is neither guarded nor added yet.
+/// Adds the place of a name, if it has one, it is neither guarded nor added yet, and a run doesn't
+/// have the name for itself.
 pub(crate) fn add_place<D: Disk>(
     alloc: Global,
     disk: &D,
@@ -358,6 +455,9 @@ pub(crate) fn add_place<D: Disk>(
     ensures more { OnOk result (meant.AreMore places.old places.new) }
     ensures same { OnErr result (places.new ≡ places.old) }
 {
+    if is_own_path(disk, name)? {
+        return Err(held_error());
+    }
     let place = place_of(alloc, disk, name)?;
     add(alloc, guards, places, place)
 }

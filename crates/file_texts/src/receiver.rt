@@ -11,14 +11,14 @@ ghost use Rattle.file_texts.specs.Keeping as meant;
 ghost use Rattle.file_texts.specs.Keeping.{IsKept, AreSame, IsLeft, MayReplace, IsStepped, IsUnstepped, Takes, keeps_of, made_for};
 ghost use Rattle.file_texts.specs.Lines.{AreLines};
 ghost use Rattle.file_texts.specs.Names.{IsFileName};
-ghost use Rattle.file_texts.specs.Places.{AreMore, ArePlaced, is_held, is_name_guarded};
+ghost use Rattle.file_texts.specs.Places.{AreMore, ArePlaced, is_held, is_name_guarded, is_own_in};
 ghost use Rattle.file_texts.specs.Sayings.{said};
 ghost use Rattle.file_texts.specs.Steps.{IsReplaced, IsBegun, directories_for};
 
 use crate::lines::{Saying, say, saying_of};
 use crate::links::end_of;
 use crate::names::{directory_of, file_name, no_name};
-use crate::places::{Guards, Places, add_place, guard_of, held_error, is_held};
+use crate::places::{Guards, Places, add_place, guard_of, held_error, is_kept};
 use crate::reading::read_text;
 use crate::writing::{Keeps, write_new, write_text};
 use crew_refusals::Cause;
@@ -37,10 +37,11 @@ use std::marker::Model;
 /// took, and the lines that are to be printed.
 ///
 /// A put is refused if memory runs out, no file can have the name, the system refuses to write, the
-/// file is that of an earlier put or one that [`FileOutputs::keep`] names, it is a record of more
-/// than 64 MiB, which couldn't be read again, or a cache whose file is there and can't be read, or
-/// the receiver is closed. Then the file is as it was, as [`write_text`] says, but directories that
-/// were made for it stay. The receiver keeps why the last put was refused.
+/// file is that of an earlier put or one that [`FileOutputs::keep`] names, the run has its name for
+/// itself, as [`crate::is_own`] says, it is a record of more than 64 MiB, which couldn't be read
+/// again, or a cache whose file is there and can't be read, or the receiver is closed. Then the file
+/// is as it was, as [`write_text`] says, but directories that were made for it stay. The receiver
+/// keeps why the last put was refused.
 pub struct FileOutputs<D: Disk> {
     alloc: Global,
     disk: D,
@@ -420,6 +421,8 @@ fn take<'a, D: Disk>(
     ensures readable { OnOk result (done.can_be_read kind text.now ≡ true) }
     ensures held { is_held (D.known disk.old) name.now guards.now places.old ≡ true
         → (is_err result ≡ true) × (disk.new ≡ disk.old) }
+    ensures own { is_own_in (D.known disk.old) name.now ≡ true
+        → (is_err result ≡ true) × (disk.new ≡ disk.old) }
     ensures unchanged { OnErr result
         (AreSame artifacts.old.items lines.old.items artifacts.new.items lines.new.items) }
     ensures unplaced { OnErr result (places.new ≡ places.old) }
@@ -432,10 +435,10 @@ fn take<'a, D: Disk>(
     let Some(path) = file_name(name) else {
         return Err(no_name(name));
     };
-    let Ok(held) = is_held(alloc, disk, guards, places, path) else {
+    let Ok(kept) = is_kept(alloc, disk, guards, places, path) else {
         return Err(no_memory());
     };
-    if held {
+    if kept {
         return Err(held_error());
     }
     if !can_be_read(kind, text) {
@@ -446,7 +449,8 @@ fn take<'a, D: Disk>(
     )
 }
 
-/// Takes an artifact whose name is not guarded, and whose place, if it is known already, is free.
+/// Takes an artifact whose name is not guarded and none that a run has for itself, and whose place,
+/// if it is known already, is free.
 fn take_free<'a, D: Disk>(
     alloc: Global,
     disk: &mut D,
@@ -462,6 +466,7 @@ fn take_free<'a, D: Disk>(
     requires path { path.now ≡ name.now }
     requires name { IsFileName name.now }
     requires unguarded { is_name_guarded name.now guards.now ≡ false }
+    requires own { is_own_in (D.known disk.now) name.now ≡ false }
     requires readable { done.can_be_read kind text.now ≡ true }
     ensures taken { OnOk result (
         Takes (D.known disk.old) (D.known disk.new) guards.now places.old places.new
@@ -650,6 +655,9 @@ impl<D: Disk> Outputs for FileOutputs<D> {
         // A put to a guarded name, to its place, or to that of another artifact does nothing.
         ensures held { is_held (D.known self.old.disk) name.now self.old.guards self.old.places
             ≡ true → (is_err result ≡ true) × (self.new.disk ≡ self.old.disk) }
+        // Neither does a put to a name that a run has for itself.
+        ensures own { is_own_in (D.known self.old.disk) name.now ≡ true
+            → (is_err result ≡ true) × (self.new.disk ≡ self.old.disk) }
         // What was done to the disk, if that is known, and what is said of the artifact.
         ensures done { OnOk result (
             (line : List ℕ)

@@ -421,6 +421,20 @@ keep two.d/in|hand file one.d/in x|look one.d/in => not 1[]none
 keep real|hand cache cache.1 x|read real => not 1[][2]
 write in T|fails place|keep in|hand file in x|fails |read in => yesunkept[T]
 keep config.log|hand cache config.log x|look config.log => not 1[]none
+// So is a put to a name that a run has for the files of its checks, under any name of the current
+// directory, and if only the new directories lead there. Elsewhere it is a name like any other.
+hand file conftest.c x|look conftest.c => not 1[]none
+hand header ./conftest x|look conftest => not 1[]none
+hand record conftest1.o x|look conftest1.o => not 1[]none
+hand cache conftest-cache x|look conftest-cache => not 1[]none
+hand file oc/conftest.c x;file conftes y;file aconftest z|read oc/conftest.c => \
+all[config.status: creating oc/conftest.c^Jconfig.status: creating conftes^Jconfig.status: creating aconftest^J][x]
+hand file oc/../conftest.c x|look conftest.c => not 1[]none
+hand file new.d/../conftest.c x|look conftest.c|look new.d => not 1[]nonedirectory
+hand cache new2.d/../conftest.c x|look conftest.c => not 1[]none
+link here.d .|hand file here.d/conftest.c x|look conftest.c => not 1[]none
+link cache.3 conftest.c|hand cache cache.3 x|look conftest.c => not 1[]none
+write conftest.c mine|hand file conftest.c x|read conftest.c|remove conftest.c => yesnot 1[][mine]
 // Directories are made for a file and a header, and for nothing else.
 hand file a/b/out x;header a/c/config.h y;file a/b/out2 z|read a/b/out|read a/c/config.h|read a/b/out2 => \
 all[config.status: creating a/b/out^Jconfig.status: creating a/c/config.h^Jconfig.status: creating a/b/out2^J][x][y][z]

@@ -4,7 +4,7 @@ use Rattle.file_disk.specs.Known.{Does}
 use Rattle.output_put.specs.declared.artifact.Artifact.{Artifact}
 use Rattle.file_texts.specs.Done.{IsRefused}
 use Rattle.file_texts.specs.Keeping.{MayReplace, Takes, file_of}
-use Rattle.file_texts.specs.Places.{is_name_guarded}
+use Rattle.file_texts.specs.Places.{is_name_guarded, is_own_in}
 use Rattle.file_texts.proofs.Puts.{takes_is, refuses_is, refused_before}
 use Rattle.file_texts.proofs.Writings.{on_err}
 use Rattle.file_texts.proofs.receiver.take_free.Goals as goal
@@ -31,7 +31,8 @@ returns-clause-taken g c =
     subst (λ n. OnOk c.keep_written.result (Takes known after c.args.guards.now c.args.places.now c.keep_written.new.places c.args.artifacts.now.items c.args.lines.now.items c.keep_written.new.artifacts.items c.keep_written.new.lines.items (named n))) c.requires.path
     (takes_is c.keep_written.result known _ _ _ _ _ _ _ _ c.args.kind c.in-Ok.unchanged path file c.args.text.now c.in-Ok-from_slices.artifact c.saying_of-saying.result
     (c.in-Ok-from_slices.ensures ∙ ap named (sym c.requires.path)) c.saying_of-saying.ensures
-    (subst (λ n. is_name_guarded n c.args.guards.now ≡ false) (sym c.requires.path) c.requires.unguarded) c.requires.readable c.in-Ok.ensures c.in_ok-end.ensures
+    (subst (λ n. is_name_guarded n c.args.guards.now ≡ false) (sym c.requires.path) c.requires.unguarded)
+    (subst (λ n. is_own_in known n ≡ false) (sym c.requires.path) c.requires.own) c.requires.readable c.in-Ok.ensures c.in_ok-end.ensures
     (subst (λ f. IfSome known (λ k. MayReplace c.args.kind c.in-Ok.unchanged k path f)) c.file_of.ensures c.in_ok-check_replaced.ensures)
     c.keep_written.ensures.ok c.keep_written.ensures.stepped)
 
