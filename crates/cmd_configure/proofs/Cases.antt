@@ -52,6 +52,9 @@ never_done_again f happened P is done = let no : false ≡ true = ap is_all_done
 pub never_memory : (happened : Happened) (P : Type 0) → happened ≡ OutOfMemory → is_all_done happened ≡ true → P
 never_memory happened P is done = let no : false ≡ true = ap is_all_done (sym is) ∙ done in absurd (cc)
 
+pub never_read : (happened : Happened) (P : Type 0) → happened ≡ NotRead → is_all_done happened ≡ true → P
+never_read happened P is done = let no : false ≡ true = ap is_all_done (sym is) ∙ done in absurd (cc)
+
 -- The exit status after a text that was shown is 0.
 pub zero_if : (is_printed : Bool) → is_printed ≡ true → shown_status is_printed ≡ 0
 zero_if true e = refl

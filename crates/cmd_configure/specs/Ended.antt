@@ -18,6 +18,7 @@ use Rattle.file_disk.specs.Known.{Known, Deed}
 use Rattle.file_texts.specs.Done.{AreDone}
 use Rattle.file_texts.specs.Held.{AreUnguarded}
 use Rattle.file_texts.specs.Lines.{AreLines}
+use Rattle.file_texts.specs.Places.{is_own}
 use Rattle.file_texts.specs.Steps.{IsBegun, IsReplaced}
 use Rattle.file_texts.specs.declared.places.Guard.{Guard}
 use Rattle.file_texts.specs.declared.places.FilePlace.{FilePlace}
@@ -101,15 +102,21 @@ pub record IsRunLeft (window : ℕ) (arguments : List (List ℕ)) (script : Scri
   pub same : AreSameFiles old new
   pub done : IfSome new (λ k. IsLeftSo k guards taken (refusals_of left.refused) lines (log_of report.log) left.is_logged)
 
+-- The cache has this name, which a run has for itself. (own)
+abbrev pub IsOwnCache : Option Known → Option (List ℕ) → List ℕ → Type 0
+IsOwnCache files cache_name name = (cache_name ≡ Some name) × IfSome files (λ k. is_own k name ≡ true)
+
 -- What became of a run with these statements and settings, and what is written of it. The cache or a
--- precious variable has this fault, or a template is missing, as they are in files, and then nothing is
--- started or done. Or memory ran out: nothing is done to files, and the starts so far, if there were
+-- precious variable has this fault, or a template is missing, as they are in files, or the cache has a
+-- name that a run has for itself, and then nothing is started or done. Or memory ran out: nothing is done to files, and the starts so far, if there were
 -- any, are those of the run. Or the run left this. (own)
 pub data IsRunEnd (window : ℕ) (arguments : List (List ℕ)) (script : Script) (settings : Settings) (before now : Account) (old new : Option Known) : Happened → Written → Type 0 where
   refused : {f : Fault} (cache : Option (List ℕ)) (templates : List (List ℕ × List ℕ))
       → AreGiven old script settings.cache_name settings.srcdir settings.no_create cache templates
       → started arguments cache templates script settings ≡ Err f → now ≡ before → new ≡ old
       → IsRunEnd window arguments script settings before now old new (Refused f) (only_lines (run_line (Some (lists_of script).precious) f ∷ []))
+  own_cache : (name : List ℕ) → IsOwnCache old settings.cache_name name → now ≡ before → new ≡ old
+      → IsRunEnd window arguments script settings before now old new NotRead (only_lines (error_line (codes "file") name ∷ []))
   unstarted : now ≡ before → new ≡ old → IsRunEnd window arguments script settings before now old new OutOfMemory (only_lines (memory_line ∷ []))
   cut_off : (cache : Option (List ℕ)) (templates : List (List ℕ × List ℕ)) (start : Start)
       → AreGiven old script settings.cache_name settings.srcdir settings.no_create cache templates

@@ -1,9 +1,9 @@
 //! The command that runs a configure.ac.
 
-ghost use Rattle.std.specs.Prelude.{◌≡◌, true, false, Ok, option_copied};
+ghost use Rattle.std.specs.Prelude.{◌≡◌, true, Ok, IfOk, IfSome, option_copied};
 ghost use Rattle.acparse.specs.Profile.{source_of};
 ghost use Rattle.cmd_configure.specs.Configures.{IsConfigured, IsRun, ReadsSource};
-ghost use Rattle.cmd_configure.specs.Ended.{HasHappened, IsRunEnd, Prints};
+ghost use Rattle.cmd_configure.specs.Ended.{HasHappened, IsOwnCache, IsRunEnd, Prints};
 ghost use Rattle.cmd_status.specs.Happened.{is_all_done, is_output_cut, status_after};
 ghost use Rattle.cmd_status.specs.Printed.{WritesSo};
 ghost use Rattle.crew_trait.specs.Events.{IsIdle};
@@ -20,14 +20,17 @@ use ac_tree::Source;
 use acparse::parse;
 use cmd_call::{Hears, Supplies, Terminal, keep_inputs, read_supplies};
 use cmd_explain::{Given, Why};
-use cmd_status::{Happened, finish_run, no_memory, print_shown, tell_run, tell_unread};
+use cmd_status::{
+    Happened, finish_run, no_memory, print_shown, tell_own_cache, tell_run, tell_unread,
+};
 use crew_refusals::Causes;
 use crew_trait::Crew;
 use deftable::Bytes;
 use engine::{Fault, Judged, Needs, go, judge};
 use file_disk::Disk;
-use file_texts::{path_in, read_limited};
-use options::srcdir_of;
+use file_texts::{is_own, path_in, read_limited};
+use options::{Settings, srcdir_of};
+use std::alloc::AllocError;
 use std::io::Read;
 use std::mem::ManuallyDrop;
 
@@ -139,6 +142,58 @@ fn run_needs<D: Disk, C: Crew + Causes, R: Read, W: Hears, E: Hears>(
     }
 }
 
+/// Returns the name of the cache if a run has that name for itself. Fails only if memory runs out.
+fn own_cache<'a, D: Disk>(disk: &D, settings: &'a Settings) -> Result<Option<&'a [u8]>, AllocError>
+    ensures { IfOk result (λ own. IfSome own (λ name.
+        IsOwnCache (D.known disk.now) settings.now.cache_name name.now)) }
+{
+    let Some(name) = &settings.cache_name else {
+        return Ok(None);
+    };
+    let name = name.as_slice();
+    if is_own(disk, name)? {
+        return Ok(Some(name));
+    }
+    Ok(None)
+}
+
+/// Runs a source that was judged, unless its cache has a name that a run has for itself, and returns
+/// what happened.
+fn run_judged<D: Disk, C: Crew + Causes, R: Read, W: Hears, E: Hears>(
+    terminal: &mut Terminal<'_, D, R, W, E>,
+    window: usize,
+    why: &Why<'_>,
+    needs: &Needs<'_>,
+    crew: &mut C,
+) -> Happened
+    requires window { IsWindow window }
+    requires may_run { MayRun (C.account crew.old) }
+    requires asked { why.now.is_asked ≡ terminal.old.is_asked }
+    requires source { IsRead (script_in needs.now) }
+    requires fresh { terminal.old.outputs ≡ fresh terminal.old.outputs.disk }
+    ensures idle { IsIdle (C.account crew.new).events }
+    ensures run { is_all_done result ≡ true
+        → Prints (W.contents terminal.old.output) (W.contents terminal.new.output) E.contents
+        E.has_failed terminal.old.errors terminal.new.errors terminal.old.is_asked (λ out said.
+        IsRun window needs.now.arguments (script_in needs.now) needs.now.settings
+        (C.account crew.old) (C.account crew.new) (D.known terminal.old.outputs.disk)
+        (D.known terminal.new.outputs.disk) out said (status_after result)) }
+    ensures ended { WritesSo W.contents W.has_failed E.contents E.has_failed terminal.old.output
+        terminal.new.output terminal.old.errors terminal.new.errors terminal.old.is_asked
+        (is_output_cut result) (
+        IsRunEnd window needs.now.arguments (script_in needs.now) needs.now.settings
+        (C.account crew.old) (C.account crew.new) (D.known terminal.old.outputs.disk)
+        (D.known terminal.new.outputs.disk) result) }
+    ensures input { terminal.new.input ≡ terminal.old.input }
+{
+    let alloc = terminal.alloc;
+    match own_cache(terminal.outputs.disk(), needs.settings()) {
+        Ok(Some(name)) => tell_own_cache(alloc, terminal.is_asked, name, &mut terminal.errors),
+        Ok(None) => run_needs(terminal, window, why, needs, crew),
+        Err(_) => no_memory(&mut terminal.errors),
+    }
+}
+
 /// Judges a source, runs it or shows a text, and returns what happened.
 fn run_source<D: Disk, C: Crew + Causes, R: Read, W: Hears, E: Hears>(
     terminal: &mut Terminal<'_, D, R, W, E>,
@@ -176,7 +231,7 @@ fn run_source<D: Disk, C: Crew + Causes, R: Read, W: Hears, E: Hears>(
             let is_printed = print_shown(terminal, &report);
             Happened::Shown(is_printed)
         }
-        Ok(Judged::Runs(needs)) => run_needs(terminal, window, why, &needs, crew),
+        Ok(Judged::Runs(needs)) => run_judged(terminal, window, why, &needs, crew),
         Err(fault) => {
             let disk = terminal.outputs.disk();
             let errors = &mut terminal.errors;

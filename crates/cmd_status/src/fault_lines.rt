@@ -7,11 +7,13 @@ ghost use Rattle.cmd_call.specs.Precious.{precious_in};
 ghost use Rattle.cmd_status.specs.Reasons.{run_line, unwritten};
 ghost use Rattle.fault_spots.specs.FaultLines.{remake_line};
 ghost use Rattle.cmd_status.specs.Happened.{after_fault, after_record};
-ghost use Rattle.cmd_status.specs.declared.happened.Happened.TheVariants.{OutOfMemory};
+ghost use Rattle.cmd_status.specs.declared.happened.Happened.TheVariants.{NotRead, OutOfMemory};
 
 use crate::happened::{Happened, not_recorded, refused};
 use cmd_call::{FAULT, Hears, tell_file, tell_memory, tell_precious};
-use cmd_explain::{Given, Why, explain_error, explain_fault, explain_file, explain_remake};
+use cmd_explain::{
+    Given, Why, explain_error, explain_fault, explain_file, explain_remake, explain_words,
+};
 use engine_frame::{Fault, RemakeFault};
 use fault_spots::{tell_fault, tell_remake_fault};
 use file_disk::Disk;
@@ -122,6 +124,25 @@ pub fn tell_unread<D: Disk, E: Hears>(
     let _ = tell_file(errors, path);
     explain_file(alloc, disk, is_asked, path, path, errors);
     FAULT
+}
+
+/// Reports that the cache has a name that a run has for itself, and says why that is refused if it
+/// is asked. Returns what happened.
+#[tactic(auto, using(cmd_call::proofs::Pages::line_paged))]
+pub fn tell_own_cache<E: Hears>(
+    alloc: Global,
+    is_asked: bool,
+    name: &[u8],
+    errors: &mut E,
+) -> Happened
+    ensures happened { result ≡ NotRead }
+    ensures told { SaysLines E.contents E.has_failed errors.old errors.new is_asked (
+        error_line (codes "file") name.now ∷ []) }
+{
+    let _ = tell_file(errors, name);
+    let words = b"the checks of a run make files whose names begin with conftest";
+    explain_words(alloc, is_asked, words, errors);
+    Happened::NotRead
 }
 
 /// Reports that the file of this name can't be written, and says why if it is asked.

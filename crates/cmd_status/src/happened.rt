@@ -22,7 +22,8 @@ pub struct RunLeft {
 /// What happened if the program was asked to run a configure.ac, or to run it again.
 #[derive(Drop)]
 pub enum Happened {
-    /// The configure.ac can't be read, or the record that is to be run again.
+    /// The configure.ac can't be read, or the record that is to be run again, or the cache has a
+    /// name that a run has for itself.
     NotRead,
     /// The record has this fault, and is not run again.
     NotRecorded(RemakeFault),

@@ -23,7 +23,7 @@ mod remaking;
 mod reporting;
 
 pub use answering::run_standin;
-pub use fault_lines::{no_memory, no_record, tell_remake, tell_run, tell_unread};
+pub use fault_lines::{no_memory, no_record, tell_own_cache, tell_remake, tell_run, tell_unread};
 pub use happened::{Happened, RunLeft, exit_status};
 pub use remaking::{RECORD, run_status};
 pub use reporting::{finish_run, print_shown};

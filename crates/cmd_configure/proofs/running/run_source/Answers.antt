@@ -11,8 +11,8 @@ use Rattle.cmd_status.proofs.Happenings.{uncut}
 use Rattle.fault_spots.specs.FaultLines.{fault_line}
 use Rattle.cmd_configure.proofs.running.run_source.Goals as goal
 
-pub run_needs-requires-clause-source : goal.run_needs-requires-clause-source
-run_needs-requires-clause-source g c =
+pub run_judged-requires-clause-source : goal.run_judged-requires-clause-source
+run_judged-requires-clause-source g c =
     is_read _ _ c.args.why.now.text.now (script_of c.args.source.now) _ c.in-Ok-Runs.needs c.requires.source c.in-Ok-Runs.ensures.exact c.in-Ok-Runs.field-0-is
 
 pub returns-in-Ok-Shows-clause-run : goal.returns-in-Ok-Shows-clause-run
@@ -43,12 +43,12 @@ returns-in-Ok-Shows-clause-ended g c = (
 
 pub returns-in-Ok-Runs-clause-run : goal.returns-in-Ok-Runs-clause-run
 returns-in-Ok-Runs-clause-run g c = λ other.
-    let made = c.run_needs.ensures.run other in (
+    let made = c.run_judged.ensures.run other in (
       made.0,
       made.1,
-      is_run c.args.window c.args.why.now.args.now c.args.terminal.now.env.now (g.C.Crew.account c.args.crew.now) (g.C.Crew.account c.run_needs.new.crew)
-          (g.D.Disk.known c.args.terminal.now.outputs.disk) (g.D.Disk.known c.run_needs.new.terminal.outputs.disk) made.0 made.1
-          c.args.why.now.text.now (script_of c.args.source.now) _ c.in-Ok-Runs.needs (status_after c.run_needs.result)
+      is_run c.args.window c.args.why.now.args.now c.args.terminal.now.env.now (g.C.Crew.account c.args.crew.now) (g.C.Crew.account c.run_judged.new.crew)
+          (g.D.Disk.known c.args.terminal.now.outputs.disk) (g.D.Disk.known c.run_judged.new.terminal.outputs.disk) made.0 made.1
+          c.args.why.now.text.now (script_of c.args.source.now) _ c.in-Ok-Runs.needs (status_after c.run_judged.result)
           c.requires.found c.requires.source c.in-Ok-Runs.ensures.exact c.in-Ok-Runs.field-0-is c.in-Ok-Runs.ensures.directory made.2,
       made.3,
       made.4,
@@ -56,11 +56,11 @@ returns-in-Ok-Runs-clause-run g c = λ other.
 
 pub returns-in-Ok-Runs-clause-ended : goal.returns-in-Ok-Runs-clause-ended
 returns-in-Ok-Runs-clause-ended g c =
-    let made = c.run_needs.ensures.ended in (
+    let made = c.run_judged.ensures.ended in (
       made.0,
-      has_run c.args.window c.args.why.now.args.now c.args.terminal.now.env.now (g.C.Crew.account c.args.crew.now) (g.C.Crew.account c.run_needs.new.crew)
-          (g.D.Disk.known c.args.terminal.now.outputs.disk) (g.D.Disk.known c.run_needs.new.terminal.outputs.disk)
-          c.args.why.now.text.now (script_of c.args.source.now) _ c.in-Ok-Runs.needs c.run_needs.result made.0
+      has_run c.args.window c.args.why.now.args.now c.args.terminal.now.env.now (g.C.Crew.account c.args.crew.now) (g.C.Crew.account c.run_judged.new.crew)
+          (g.D.Disk.known c.args.terminal.now.outputs.disk) (g.D.Disk.known c.run_judged.new.terminal.outputs.disk)
+          c.args.why.now.text.now (script_of c.args.source.now) _ c.in-Ok-Runs.needs c.run_judged.result made.0
           c.requires.found c.requires.source c.in-Ok-Runs.ensures.exact c.in-Ok-Runs.field-0-is c.in-Ok-Runs.ensures.directory made.1,
       made.2,
     )
