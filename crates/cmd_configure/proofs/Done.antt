@@ -37,7 +37,7 @@ use Rattle.output_put.specs.Receipt.{Receipt, with_artifacts}
 use Rattle.output_put.specs.declared.artifact.Artifact.{Artifact}
 use Rattle.ac_tree.specs.Script.{Script}
 use Rattle.cmd_status.specs.Printed.{printed}
-use Rattle.cmd_configure.specs.Configures.{IsAsked, IsConfigured, IsRun, ReadsSource, shown, ran}
+use Rattle.cmd_configure.specs.Configures.{IsAsked, IsCacheApart, IsConfigured, IsRun, ReadsSource, shown, ran}
 use Rattle.cmd_call.specs.Errors.{errors_of}
 use Rattle.cmd_call.specs.Lines.{SaysLines}
 use Rattle.cmd_status.specs.Reasons.{unwritten}
@@ -133,14 +133,14 @@ going_by script r = r >>= λ start. Ok (Starts script start)
 -- What holds after a call of `go` over a receiver `before`, which is `mid` then, and `fin` after the
 -- log was written.
 end_of : {D : Type 0} (known : D → Option Known) (d : D) (before_puts mid fin : Held D) (r : Result Start Fault) (window : ℕ) (a : List (List ℕ)) (script : Script) (settings : Settings) (c : Option (List ℕ)) (t : List (List ℕ × List ℕ)) (before now : Account) (report : Report)
-    → IsUnused before_puts → before_puts.disk ≡ d → AreGuarded (known before_puts.disk) before_puts.guards (inputs_of settings.srcdir t) → mid.guards ≡ before_puts.guards → option_map (λ k. k.files) (known mid.disk) ≡ option_map (λ k. k.files) (known before_puts.disk) → AreGiven (known d) script settings.cache_name settings.srcdir settings.no_create c t
+    → IsUnused before_puts → before_puts.disk ≡ d → AreGuarded (known before_puts.disk) before_puts.guards (inputs_of settings.srcdir t) → mid.guards ≡ before_puts.guards → option_map (λ k. k.files) (known mid.disk) ≡ option_map (λ k. k.files) (known before_puts.disk) → AreGiven (known d) script settings.cache_name settings.srcdir settings.no_create c t → IsCacheApart (known d) settings.cache_name
     → started a c t script settings ≡ r → IsAnswer (going_by script r) (Ok report) → IfStarts (going_by script r) (λ script start. IsMeant window script start before now report)
     → IfStarts (going_by script r) (λ script start. receipt_of mid ≡ with_artifacts (receipt_of before_puts) (artifacts script start t report))
     → IfStarts (going_by script r) (λ script start. IfCompleted report.outcome (Remakes script start t report)) → Logs known mid fin report
     → IsRun window a script settings before now (known d) (known fin.disk) (printed settings.quiet report.messages mid.lines) (errors_of report.messages) (status_of report.outcome)
-end_of known d before_puts mid fin (Err OutOfMemory) window a script settings c t before now report new disk guarded same_guards same_files given is answer meant handed again logs = absurd (cc)
-end_of known d before_puts mid fin (Err f) window a script settings c t before now report new disk guarded same_guards same_files given is answer meant handed again logs = absurd (cc)
-end_of known d before_puts mid fin (Ok start) window a script settings c t before now report new disk guarded same_guards same_files given is answer meant handed again logs =
+end_of known d before_puts mid fin (Err OutOfMemory) window a script settings c t before now report new disk guarded same_guards same_files given apart is answer meant handed again logs = absurd (cc)
+end_of known d before_puts mid fin (Err f) window a script settings c t before now report new disk guarded same_guards same_files given apart is answer meant handed again logs = absurd (cc)
+end_of known d before_puts mid fin (Ok start) window a script settings c t before now report new disk guarded same_guards same_files given apart is answer meant handed again logs =
     let empty : receipt_of before_puts ≡ record { handed = []; failures = 0 } = unused_receipt before_puts new in
     let all : mid.handed ≡ artifacts script start t report = ap (λ (r : Receipt). r.handed) handed ∙ ap (λ (r : Receipt). r.handed ++ artifacts script start t report) empty in
     let counted : mid.failures + closings mid.closed ≡ 0 = ap (λ (r : Receipt). r.failures) handed ∙ ap (λ (r : Receipt). r.failures) empty in
@@ -153,6 +153,7 @@ end_of known d before_puts mid fin (Ok start) window a script settings c t befor
       report = report;
       lines = mid.lines;
       given = given;
+      apart = apart;
       starts = is;
       meant = meant;
       are_lines = subst (λ l. AreLines l mid.lines) all logs.held.lines;
@@ -170,15 +171,15 @@ end_of known d before_puts mid fin (Ok start) window a script settings c t befor
 
 -- The same after a call of `go` that returned this report.
 pub run_done : {D : Type 0} (known : D → Option Known) (d : D) (before_puts mid fin : Held D) (window : ℕ) (a : List (List ℕ)) (script : Script) (settings : Settings) (c : Option (List ℕ)) (t : List (List ℕ × List ℕ)) (before now : Account) (answer : Result Report Fault) (report : Report) (quiet : Settings) (status : ℕ)
-    → IsUnused before_puts → before_puts.disk ≡ d → AreGuarded (known before_puts.disk) before_puts.guards (inputs_of settings.srcdir t) → mid.guards ≡ before_puts.guards → option_map (λ k. k.files) (known mid.disk) ≡ option_map (λ k. k.files) (known before_puts.disk) → AreGiven (known d) script settings.cache_name settings.srcdir settings.no_create c t
+    → IsUnused before_puts → before_puts.disk ≡ d → AreGuarded (known before_puts.disk) before_puts.guards (inputs_of settings.srcdir t) → mid.guards ≡ before_puts.guards → option_map (λ k. k.files) (known mid.disk) ≡ option_map (λ k. k.files) (known before_puts.disk) → AreGiven (known d) script settings.cache_name settings.srcdir settings.no_create c t → IsCacheApart (known d) settings.cache_name
     → IsAnswer (going_by script (started a c t script settings)) answer → IfStarts (going_by script (started a c t script settings)) (λ script start. IfReport answer (IsMeant window script start before now))
     → IfStarts (going_by script (started a c t script settings)) (λ script start. IfOk answer (λ report. receipt_of mid ≡ with_artifacts (receipt_of before_puts) (artifacts script start t report)))
     → IfStarts (going_by script (started a c t script settings)) (λ script start. IfReport answer (λ report. IfCompleted report.outcome (Remakes script start t report)))
     → quiet ≡ settings → answer ≡ Ok report → status ≡ status_of report.outcome → Logs known mid fin report
     → IsRun window a script settings before now (known d) (known fin.disk) (printed quiet.quiet report.messages mid.lines) (errors_of report.messages) status
-run_done known d before_puts mid fin window a script settings c t before now answer report quiet status new disk guarded same_guards same_files given accepted meant handed again same is status_is logs =
+run_done known d before_puts mid fin window a script settings c t before now answer report quiet status new disk guarded same_guards same_files given apart accepted meant handed again same is status_is logs =
     let r = started a c t script settings in
-    let done = end_of known d before_puts mid fin r window a script settings c t before now report new disk guarded same_guards same_files given refl (subst (IsAnswer (going_by script r)) is accepted)
+    let done = end_of known d before_puts mid fin r window a script settings c t before now report new disk guarded same_guards same_files given apart refl (subst (IsAnswer (going_by script r)) is accepted)
     (subst (λ x. IfStarts (going_by script r) (λ script start. IfReport x (IsMeant window script start before now))) is meant)
     (subst (λ x. IfStarts (going_by script r) (λ script start. IfOk x (λ report. receipt_of mid ≡ with_artifacts (receipt_of before_puts) (artifacts script start t report)))) is handed)
     (subst (λ x. IfStarts (going_by script r) (λ script start. IfReport x (λ report. IfCompleted report.outcome (Remakes script start t report)))) is again) logs in

@@ -41,6 +41,7 @@ use Rattle.ac_tree.specs.Lists.{lists_of}
 use Rattle.ac_tree.specs.Script.{Script}
 use Rattle.cmd_call.specs.Guarded.{AreGuarded, inputs_of}
 use Rattle.cmd_call.specs.Supplies.{AreGiven}
+use Rattle.cmd_configure.specs.Configures.{IsCacheApart}
 use Rattle.cmd_configure.proofs.Done.{going_by, same_by}
 use Rattle.cmd_configure.specs.Ended.{AreTaken, everything, only_first, refusals_of, IsLeftSo, IsRunLeft, IsRunEnd, refused, unstarted, cut_off, ran}
 
@@ -108,16 +109,17 @@ same_left old mid fin log false kept wrote began = same_by old mid fin Begins ke
 -- What is left of a run that has this report.
 run_left : {D : Type 0} (known : D → Option Known) (d : D) (before_puts mid fin : Held D) (window : ℕ) (a : List (List ℕ)) (script : Script) (settings : Settings) (c : Option (List ℕ)) (t : List (List ℕ × List ℕ)) (start : Start) (before now : Account) (report : Report) (number : Option ℕ) (left : RunLeft) (written : Written)
     → before_puts.disk ≡ d → mid.closed ≡ false → AreGuarded (known before_puts.disk) before_puts.guards (inputs_of settings.srcdir t) → mid.guards ≡ before_puts.guards → option_map (λ k. k.files) (known mid.disk) ≡ option_map (λ k. k.files) (known before_puts.disk)
-    → AreGiven (known d) script settings.cache_name settings.srcdir settings.no_create c t → started a c t script settings ≡ Ok start
+    → AreGiven (known d) script settings.cache_name settings.srcdir settings.no_create c t → IsCacheApart (known d) settings.cache_name → started a c t script settings ≡ Ok start
     → IsMeant window script start before now report → Took (artifacts script start t report) mid number → IfCompleted report.outcome (Remakes script start t report) → IsReported known mid fin report number left → written ≡ written_after settings.quiet report mid.lines left
     → IsRunLeft window a script settings before now (known d) (known fin.disk) left written
-run_left known d before_puts mid fin window a script settings c t start before now report number left written disk opened guarded same_guards same_files given is meant took again told writes =
+run_left known d before_puts mid fin window a script settings c t start before now report number left written disk opened guarded same_guards same_files given apart is meant took again told writes =
     record {
       cache = c;
       templates = t;
       start = start;
       report = report;
       given = given;
+      apart = apart;
       starts = is;
       meant = meant;
       remakes = again;
@@ -203,6 +205,7 @@ pub record IsGone {D : Type 0} (known : D → Option Known) (d : D) (before_puts
   pub same_closed : mid.closed ≡ before_puts.closed
   pub same_files : option_map (λ k. k.files) (known mid.disk) ≡ option_map (λ k. k.files) (known before_puts.disk)
   pub given : AreGiven (known d) script settings.cache_name settings.srcdir settings.no_create c t
+  pub apart : IsCacheApart (known d) settings.cache_name
   pub is : started a c t script settings ≡ r
   pub accepted : IsAnswer (going_by script r) answer
   pub untouched : IsNotRun (going_by script r) → (now ≡ before) × (mid ≡ before_puts)
@@ -234,11 +237,11 @@ pub run_ended : {D : Type 0} (known : D → Option Known) (d : D) (before_puts m
     → IsRunEnd window a script settings before now (known d) (known fin.disk) happened said
 run_ended known d before_puts mid fin (Ok start) window a script settings c t before now precious quiet (Ok report) happened said g names same f =
     subst (λ h. IsRunEnd window a script settings before now (known d) (known fin.disk) h said) (sym f.1)
-    (ran (run_left known d before_puts mid fin window a script settings c t start before now report None f.0 said g.disk (g.same_closed ∙ g.new.opened) g.guarded g.same_guards g.same_files g.given g.is
+    (ran (run_left known d before_puts mid fin window a script settings c t start before now report None f.0 said g.disk (g.same_closed ∙ g.new.opened) g.guarded g.same_guards g.same_files g.given g.apart g.is
     g.meaning (took_all before_puts mid (artifacts script start t report) g.new g.handed) g.remakes f.2 (f.3 ∙ ap (λ (s : Settings). written_after s.quiet report mid.lines f.0) same)))
 run_ended known d before_puts mid fin (Ok start) window a script settings c t before now precious quiet (Err (faults.PutRefused number report)) happened said g names same f =
     subst (λ h. IsRunEnd window a script settings before now (known d) (known fin.disk) h said) (sym f.1)
-    (ran (run_left known d before_puts mid fin window a script settings c t start before now report (Some number) f.0 said g.disk (g.same_closed ∙ g.new.opened) g.guarded g.same_guards g.same_files g.given g.is
+    (ran (run_left known d before_puts mid fin window a script settings c t start before now report (Some number) f.0 said g.disk (g.same_closed ∙ g.new.opened) g.guarded g.same_guards g.same_files g.given g.apart g.is
     g.meaning (took_first before_puts mid (artifacts script start t report) number report g.new g.cut) g.remakes f.2 (f.3 ∙ ap (λ (s : Settings). written_after s.quiet report mid.lines f.0) same)))
 run_ended known d before_puts mid fin (Ok start) window a script settings c t before now precious quiet (Err faults.OutOfMemory) happened said g names same f =
     ends_as window a script settings before now (known d) (known fin.disk) happened OutOfMemory said (only_lines (memory_line ∷ [])) f.0 f.2

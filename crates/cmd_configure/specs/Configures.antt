@@ -9,6 +9,8 @@ use Rattle.crew_trait.specs.Events.{Account}
 use Rattle.file_disk.specs.Known.{Known}
 use Rattle.file_texts.specs.Held.{AreUnguarded}
 use Rattle.file_texts.specs.Lines.{AreLines}
+use Rattle.file_texts.specs.Names.{IsFileName}
+use Rattle.file_texts.specs.Places.{is_own}
 use Rattle.file_texts.specs.declared.places.Guard.{Guard}
 use Rattle.engine.specs.Configured.{IsMeant, artifacts}
 use Rattle.engine.specs.Remaking.{Remakes}
@@ -37,8 +39,12 @@ pub record IsAsked (arguments : List (List ℕ)) (environment : List (List ℕ �
   pub read : source_of source ≡ Ok script
   pub settles : source_settings arguments environment script ≡ Ok settings
 
+-- The cache, if one is named, has no name that a run has for itself. (own)
+abbrev pub IsCacheApart : Option Known → Option (List ℕ) → Type 0
+IsCacheApart files cache_name = IfSome cache_name (λ name. IsFileName name → IfSome files (λ k. is_own k name ≡ false))
+
 -- The statements are run with these settings, with the cache and the templates as they are in
--- files. The crew made the run in this way. What it hands over and its log are written, and nothing
+-- files. No check writes over the cache. The crew made the run in this way. What it hands over and its log are written, and nothing
 -- else is done to files. The log, the source and the templates are guarded: nothing that it hands over
 -- has one of their names, and none is written at one of their places. The record of a completed run
 -- gives its outputs again. This is printed on standard output, these messages are for standard error,
@@ -50,6 +56,7 @@ pub record IsRun (window : ℕ) (arguments : List (List ℕ)) (script : Script) 
   pub report : Report
   pub lines : List ℕ
   pub given : AreGiven old script settings.cache_name settings.srcdir settings.no_create cache templates
+  pub apart : IsCacheApart old settings.cache_name
   pub starts : started arguments cache templates script settings ≡ Ok start
   pub meant : IsMeant window script start before now report
   pub are_lines : AreLines (artifacts script start templates report) lines

@@ -37,7 +37,7 @@ use Rattle.engine_frame.specs.Told.{status_of}
 use Rattle.cmd_call.specs.Guarded.{AreGuarded, inputs_of}
 use Rattle.cmd_call.specs.Lines.{SaysLines, error_line}
 use Rattle.cmd_call.specs.Supplies.{ReadsLimited, ReadsWhole, AreGiven, path_of}
-use Rattle.cmd_configure.specs.Configures.{IsAsked, ReadsSource}
+use Rattle.cmd_configure.specs.Configures.{IsAsked, IsCacheApart, ReadsSource}
 use Rattle.options.specs.declared.settings.Settings.{Settings}
 use Rattle.output_put.specs.declared.artifact.Artifact.{Artifact}
 use Rattle.ac_tree.specs.Lists.{lists_of}
@@ -87,6 +87,7 @@ pub record IsRunLeft (window : ℕ) (arguments : List (List ℕ)) (script : Scri
   pub start : Start
   pub report : Report
   pub given : AreGiven old script settings.cache_name settings.srcdir settings.no_create cache templates
+  pub apart : IsCacheApart old settings.cache_name
   pub starts : started arguments cache templates script settings ≡ Ok start
   pub meant : IsMeant window script start before now report
   pub remakes : IfCompleted report.outcome (Remakes script start templates report)

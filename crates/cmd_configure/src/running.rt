@@ -1,8 +1,8 @@
 //! The command that runs a configure.ac.
 
-ghost use Rattle.std.specs.Prelude.{◌≡◌, true, Ok, IfOk, IfSome, option_copied};
+ghost use Rattle.std.specs.Prelude.{◌≡◌, true, Ok, IfNone, IfOk, IfSome, option_copied};
 ghost use Rattle.acparse.specs.Profile.{source_of};
-ghost use Rattle.cmd_configure.specs.Configures.{IsConfigured, IsRun, ReadsSource};
+ghost use Rattle.cmd_configure.specs.Configures.{IsCacheApart, IsConfigured, IsRun, ReadsSource};
 ghost use Rattle.cmd_configure.specs.Ended.{HasHappened, IsOwnCache, IsRunEnd, Prints};
 ghost use Rattle.cmd_status.specs.Happened.{is_all_done, is_output_cut, status_after};
 ghost use Rattle.cmd_status.specs.Printed.{WritesSo};
@@ -69,6 +69,8 @@ fn run_supplied<D: Disk, C: Crew + Causes, R: Read, W: Hears, E: Hears>(
     requires window { IsWindow window }
     requires may_run { MayRun (C.account crew.old) }
     requires asked { why.now.is_asked ≡ terminal.old.is_asked }
+    requires apart { IsCacheApart (D.known terminal.old.outputs.disk)
+        needs.now.settings.cache_name }
     requires source { IsRead (script_in needs.now) }
     requires given { AreGiven (D.known terminal.old.outputs.disk) (script_in needs.now)
         needs.now.settings.cache_name needs.now.settings.srcdir needs.now.settings.no_create
@@ -113,6 +115,8 @@ fn run_needs<D: Disk, C: Crew + Causes, R: Read, W: Hears, E: Hears>(
     requires window { IsWindow window }
     requires may_run { MayRun (C.account crew.old) }
     requires asked { why.now.is_asked ≡ terminal.old.is_asked }
+    requires apart { IsCacheApart (D.known terminal.old.outputs.disk)
+        needs.now.settings.cache_name }
     requires source { IsRead (script_in needs.now) }
     requires fresh { terminal.old.outputs ≡ fresh terminal.old.outputs.disk }
     ensures idle { IsIdle (C.account crew.new).events }
@@ -144,8 +148,10 @@ fn run_needs<D: Disk, C: Crew + Causes, R: Read, W: Hears, E: Hears>(
 
 /// Returns the name of the cache if a run has that name for itself. Fails only if memory runs out.
 fn own_cache<'a, D: Disk>(disk: &D, settings: &'a Settings) -> Result<Option<&'a [u8]>, AllocError>
-    ensures { IfOk result (λ own. IfSome own (λ name.
+    ensures own { IfOk result (λ own. IfSome own (λ name.
         IsOwnCache (D.known disk.now) settings.now.cache_name name.now)) }
+    ensures apart { IfOk result (λ own. IfNone own (
+        IsCacheApart (D.known disk.now) settings.now.cache_name)) }
 {
     let Some(name) = &settings.cache_name else {
         return Ok(None);

@@ -51,6 +51,7 @@ returns-clause-ended g c =
       same_closed = ap (λ l. l.closed) answer.ensures.lasting;
       same_files = ap (λ l. l.files) answer.ensures.lasting;
       given = given;
+      apart = c.requires.apart;
       is = refl;
       accepted = answer.ensures.accepted;
       untouched = λ none. (ap (λ w. g.C.Crew.account w) (answer.ensures.untouched none).0, (answer.ensures.untouched none).1);
@@ -85,7 +86,7 @@ returns-clause-run g c = λ other.
       errors_of told.0.messages,
       run_done g.D.Disk.known c.args.terminal.now.outputs.disk c.keep_inputs.new.outputs answer.new.outputs c.finish_run.new.terminal.outputs c.args.window n.arguments (script_in n) n.settings _ _
           (g.C.Crew.account c.args.crew.now) (g.C.Crew.account answer.new.crew) answer.result told.0 c.given_of-given.result.settings.now (status_after c.finish_run.result)
-          (more_unused _ _ (fresh_unused _ _ c.requires.fresh) c.keep_inputs.ensures.more) (ap (λ o. o.disk) c.keep_inputs.ensures.more.1) guarded (ap (λ l. l.guards) answer.ensures.lasting) (ap (λ l. l.files) answer.ensures.lasting) given
+          (more_unused _ _ (fresh_unused _ _ c.requires.fresh) c.keep_inputs.ensures.more) (ap (λ o. o.disk) c.keep_inputs.ensures.more.1) guarded (ap (λ l. l.guards) answer.ensures.lasting) (ap (λ l. l.files) answer.ensures.lasting) given c.requires.apart
           answer.ensures.accepted answer.ensures.meaning answer.ensures.artifacts answer.ensures.remakes c.given_of-given.ensures.settings told.1 told.2 told.4,
       told.3,
       told.5,
