@@ -17,12 +17,12 @@ use Rattle.cmd_status.specs.Left.{IsLeft}
 use Rattle.cmd_status.specs.MadeAgain.{IsMadeAgain}
 use Rattle.cmd_configure.specs.Configures.{IsRun}
 use Rattle.crew_trait.specs.Events.{Account}
-use Rattle.file_disk.specs.Known.{Known, Files, Deed, kind_under, text_under}
+use Rattle.file_disk.specs.Known.{Known, Files, Deed, directory_under, kind_under, text_under}
 use Rattle.file_texts.specs.Coherent.{after, IsCoherent, ReadsAt}
 use Rattle.file_texts.specs.Done.{AreDone}
 use Rattle.file_texts.specs.Links.{itself}
-use Rattle.file_texts.specs.Names.{IsFileName, has_nul}
-use Rattle.file_texts.specs.Places.{is_at, is_place, is_place_guarded, place_under}
+use Rattle.file_texts.specs.Names.{IsFileName, has_nul, home_of}
+use Rattle.file_texts.specs.Places.{is_at, is_own, is_place, is_place_guarded, place_under}
 use Rattle.file_texts.specs.Reading.{IsReadWhole}
 use Rattle.file_texts.specs.Steps.{IsReplaced}
 use Rattle.file_texts.specs.declared.places.Guard.{Guard}
@@ -54,7 +54,9 @@ use Rattle.status_record.specs.declared.record.Record.{Record}
 use Rattle.ac_tree.specs.Lists.{lists_of}
 use Rattle.ac_tree.specs.Script.{Script}
 use Rattle.file_laws.specs.Again.{AreApartFrom, HasPlainFiles, IsApartFrom, StatusMakesTheSame, handed_on}
-use Rattle.file_laws.proofs.Lookups.{HasSame, HasText, found_again, handed_same, have_texts, read_name, read_there, value_has, whole_is}
+use Rattle.file_laws.proofs.Lookups.{HasSame, HasText, found_again, handed_same, have_texts, read_free, read_name, read_there, read_whole, same_own, value_has, whole_is}
+use Rattle.file_laws.proofs.Places.{directory_of_place}
+use Rattle.file_laws.proofs.Reruns.{in_after_run}
 
 -- ---- what was started
 
@@ -189,6 +191,20 @@ module _ (window : ℕ) (arguments : List (List ℕ)) (script : Script) (setting
   next_is : (name : List ℕ) → text_under (handed_on left) name ≡ text_under (after files left.deeds) name
   next_is name = ap (λ d. left.files.texts d name) (append-nil left.deeds) ∙ ap (λ (f : Files). f.texts left.deeds name) run.same
 
+  -- A directory is there next as it was.
+  stays_next : (name : List ℕ) (x : ℕ × ℕ) → directory_under (after files []) name ≡ Some x → directory_under (handed_on left) name ≡ Some x
+  stays_next name x at =
+      ap (λ d. left.files.directories d name) (append-nil left.deeds) ∙ ap (λ (f : Files). f.directories left.deeds name) run.same
+      ∙ in_after_run files c run.guards handed (codes "config.log") (log_of run.report.log) plain.place left.deeds plain.outputs plain.log over name x at
+
+  -- A name that a run doesn't have for itself is none next.
+  free_next : (name : List ℕ) → IsApartFrom files plain.place name → is_own (after files []) name ≡ false → is_own (handed_on left) name ≡ false
+  free_next name apart free =
+      let home = directory_of_place name (files.directories [] (home_of name)) apart.place apart.at in
+      let here = directory_of_place (codes "config.log") (files.directories [] (codes ".")) plain.place plain.at in
+      same_own (handed_on left) (after files []) name (stays_next (home_of name) home.0 home.1 ∙ sym home.1) (stays_next (codes ".") here.0 here.1 ∙ sym here.1)
+      ∙ free
+
   status_there : OutputsAreRead → (text : List ℕ) → filter (λ artifact. is_record artifact.kind) handed ≡ record { kind = Recorded; name = codes "config.status"; text = text } ∷ []
       → text_under (after files left.deeds) (codes "config.status") ≡ Some text
   unfolding OutputsAreRead
@@ -199,20 +215,22 @@ module _ (window : ℕ) (arguments : List (List ℕ)) (script : Script) (setting
       (subst (All read) is (All-filter (λ artifact. is_record artifact.kind) read handed all))
 
   -- Each output has the template that it had.
-  same_template : InputsAreKept → (others : List (List ℕ × List ℕ)) → All (λ t. IsReadWhole (handed_on left) (path_of settings.srcdir t.0) (Some t.1)) others
+  same_template : InputsAreKept → (others : List (List ℕ × List ℕ)) → All (λ t. ReadsTemplate (Some (handed_on left)) settings.srcdir t.0 (Some t.1)) others
       → (output : Output) → HasText run.templates output → HasTemplate (Some (handed_on left)) settings.srcdir others output.template → HasSame others run.templates output
   same_template law others sound output has again =
       let k = after files [] in
       let path = path_of settings.srcdir output.template in
-      let read : IsReadWhole k path (Some has.0) =
-      value_has (λ t. IsReadWhole k (path_of settings.srcdir t.0) (Some t.1)) run.templates output.template has.0 run.given.filled.sound has.1 in
+      let reads : ReadsTemplate (Some k) settings.srcdir output.template (Some has.0) =
+      value_has (λ t. ReadsTemplate (Some k) settings.srcdir t.0 (Some t.1)) run.templates output.template has.0 run.given.filled.sound has.1 in
+      let free : is_own k path ≡ false = read_free k path has.0 (is_own k path) reads in
+      let read : IsReadWhole k path (Some has.0) = read_whole k path (Some has.0) (is_own k path) free reads in
       let apart : IsApartFrom files plain.place path =
       value_has (λ t. IsApartFrom files plain.place (path_of settings.srcdir t.0)) run.templates output.template has.0 plain.inputs has.1 in
       let guards : IsFileName path → HasGuard (Some k) run.guards path =
       value_has (λ t. IsFileName (path_of settings.srcdir t.0) → HasGuard (Some k) run.guards (path_of settings.srcdir t.0)) run.templates output.template has.0
       (guards_templates k run.guards settings.srcdir run.templates run.guarded) has.1 in
       found_again k (handed_on left) settings.srcdir others output.template has.0 read
-      (next_is path ∙ template_there law output.template has.0 read apart guards) sound again
+      (next_is path ∙ template_there law output.template has.0 read apart guards) (free_next path apart free) sound again
       ∙ sym has.1
 
 -- ---- both together

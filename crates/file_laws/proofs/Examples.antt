@@ -67,8 +67,9 @@ record_done =
       file = codes "config.status";
       ends = refl;
       named = refl;
+      own = refl;
       readable = refl;
-      placed = made (alone (record { place = at 0 (codes "config.status"); at = refl; free = refl; added = refl }));
+      placed = made (alone (record { place = at 0 (codes "config.status"); at = refl; own = refl; free = refl; added = refl }));
       put = record_put _ (written 1 None refl of_nothing);
     })
 
@@ -80,8 +81,9 @@ file_done =
       file = codes "src/Makefile";
       ends = refl;
       named = refl;
+      own = refl;
       readable = refl;
-      placed = made (alone (record { place = at 3 (codes "Makefile"); at = refl; free = refl; added = refl }));
+      placed = made (alone (record { place = at 3 (codes "Makefile"); at = refl; own = refl; free = refl; added = refl }));
       put = file_put _ (written 1 None refl of_nothing);
     })
 
@@ -100,8 +102,9 @@ header_done =
       file = codes "config.h";
       ends = refl;
       named = refl;
+      own = refl;
       readable = refl;
-      placed = made (alone (record { place = at 0 (codes "config.h"); at = refl; free = refl; added = refl }));
+      placed = made (alone (record { place = at 0 (codes "config.h"); at = refl; own = refl; free = refl; added = refl }));
       put = header_put _ other_header (written 1 None refl of_nothing);
     })
 

@@ -1,6 +1,6 @@
 -- What is read twice, and what is made of templates with the same texts.
 use Rattle.std.proofs.Common.{◌≡◌, ℕ, Bool, true, false, List, [], ◌∷◌, ◌++◌, Option, Some, None, Result, Ok, Err, refl, sym, ap, subst, ◌∙◌, length, map}
-use Rattle.std.specs.Prelude.{◌^◌, All, IfSome, is_some, unwrap_or, not, filter, find, bytes_eq, nat_le, if◌then◌else◌, cond}
+use Rattle.std.specs.Prelude.{◌&&◌, ◌^◌, All, codes, IfSome, is_some, unwrap_or, not, filter, find, bytes_eq, nat_le, if◌then◌else◌, cond}
 use Rattle.std.specs.List.{Contains}
 use Rattle.std.specs.Str.{IsUtf8, is_utf8}
 use Rattle.std.proofs.lemmas.Bool.{true≢false}
@@ -8,8 +8,9 @@ use Rattle.std.proofs.lemmas.List.Elements.{All-nil, All-cons, All-head, All-tai
 use Rattle.std.proofs.lemmas.Slice.Eq.{bytes_eq-Decides}
 use Rattle.std.proofs.lemmas.Str.{IsUtf8-from_is_utf8, is_utf8-from_IsUtf8}
 use Rattle.deftable.specs.Table.{value_of}
-use Rattle.file_disk.specs.Known.{Known, text_under}
-use Rattle.file_texts.specs.Names.{IsFileName, has_nul}
+use Rattle.file_disk.specs.Known.{Known, directory_under, text_under}
+use Rattle.file_texts.specs.Names.{IsFileName, has_nul, home_of}
+use Rattle.file_texts.specs.Places.{begins_own, is_one, is_own}
 use Rattle.file_texts.specs.Reading.{IsReadWhole, whole}
 use Rattle.engine_frame.specs.Faults.{◌>>=◌}
 use Rattle.engine_frame.specs.Given.{none_missing, present}
@@ -18,7 +19,7 @@ use Rattle.engine_frame.specs.Handing.{artifacts_of, cache_artifacts, record_art
 use Rattle.engine_frame.specs.declared.fault.Fault.{Fault}
 use Rattle.engine_frame.specs.declared.report.Outcome.{Outcome}
 use Rattle.engine_frame.specs.declared.report.Outcome.TheVariants.{Completed, Stopped, CutShort, Shown}
-use Rattle.cmd_call.specs.Supplies.{AreTemplates, HasTemplate, path_of}
+use Rattle.cmd_call.specs.Supplies.{AreTemplates, HasTemplate, IsTemplateRead, ReadsTemplate, path_of}
 use Rattle.output_make.specs.Choice.{chosen, is_missing, missing, has_template, template_of}
 use Rattle.output_make.specs.Making.{file_table, made, made_file, made_header}
 use Rattle.output_list.specs.declared.output.Output.{Output}
@@ -64,6 +65,23 @@ read_again k other name text read first there r =
 
 -- ---- templates
 
+-- A name stays none that a run has for itself, while its directory and the current one stay.
+pub same_own : (k other : Known) (name : List ℕ) → directory_under k (home_of name) ≡ directory_under other (home_of name)
+    → directory_under k (codes ".") ≡ directory_under other (codes ".") → is_own k name ≡ is_own other name
+same_own k other name home here =
+    ap (λ o. begins_own name && is_one o (directory_under k (codes "."))) home
+    ∙ ap (λ o. begins_own name && is_one (directory_under other (home_of name)) o) here
+
+-- The path of a template that was read is none that a run has for itself.
+pub read_free : (k : Known) (path text : List ℕ) (own : Bool) → IsTemplateRead k path own (Some text) → own ≡ false
+read_free k path text true is = absurd cc
+read_free k path text false is = refl
+
+-- What is read under such a path is the whole text.
+pub read_whole : (k : Known) (path : List ℕ) (read : Option (List ℕ)) (own : Bool) → own ≡ false → IsTemplateRead k path own read → IsReadWhole k path read
+read_whole k path read true free is = absurd (true≢false free)
+read_whole k path read false free is = is
+
 value_by : (P : List ℕ × List ℕ → Type 0) (e : List ℕ × List ℕ) (rest : Option (List ℕ)) (q t : List ℕ) (b : Bool) → bytes_eq q e.0 ≡ b → P e → (rest ≡ Some t → P (q, t))
     → cond b (Some e.1) rest ≡ Some t → P (q, t)
 value_by P e rest q t true same p more is =
@@ -100,14 +118,15 @@ value_there es q t there = found_by es q t (value_of es q) refl there
 -- If a template that was read once is still there, the templates that are read again have it.
 pub found_again : (k next : Known) (srcdir : List ℕ) (templates : List (List ℕ × List ℕ)) (name text : List ℕ)
     → IsReadWhole k (path_of srcdir name) (Some text) → text_under next (path_of srcdir name) ≡ Some text
-    → All (λ t. IsReadWhole next (path_of srcdir t.0) (Some t.1)) templates → HasTemplate (Some next) srcdir templates name
+    → is_own next (path_of srcdir name) ≡ false → All (λ t. ReadsTemplate (Some next) srcdir t.0 (Some t.1)) templates → HasTemplate (Some next) srcdir templates name
     → value_of templates name ≡ Some text
-found_again k next srcdir templates name text first there sound has =
+found_again k next srcdir templates name text first there free sound has =
     let path = path_of srcdir name in
-    let read : has.0 ≡ Some text = read_again k next path text has.0 first there has.1 in
+    let read : has.0 ≡ Some text = read_again k next path text has.0 first there (read_whole next path has.0 (is_own next path) free has.1) in
     let among : Contains templates (name, text) = subst (λ o. IfSome o (λ t. Contains templates (name, t))) read has.2 in
     let found = value_there templates name text among in
-    let again : IsReadWhole next path (Some found.0) = value_has (λ t. IsReadWhole next (path_of srcdir t.0) (Some t.1)) templates name found.0 sound found.1 in
+    let reads : ReadsTemplate (Some next) srcdir name (Some found.0) = value_has (λ t. ReadsTemplate (Some next) srcdir t.0 (Some t.1)) templates name found.0 sound found.1 in
+    let again : IsReadWhole next path (Some found.0) = read_whole next path (Some found.0) (is_own next path) free reads in
     let same : Some found.0 ≡ Some text = read_again k next path text (Some found.0) first there again in
     found.1 ∙ same
 

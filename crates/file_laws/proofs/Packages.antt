@@ -144,8 +144,9 @@ module _ (c r m h l : List ℕ) where
         file = codes "config.cache";
         ends = itself refl;
         named = refl;
+        own = refl;
         readable = refl;
-        placed = made (alone (record { place = place 0 (codes "config.cache"); at = refl; free = refl; added = refl }));
+        placed = made (alone (record { place = place 0 (codes "config.cache"); at = refl; own = refl; free = refl; added = refl }));
         put = cache_put _ other_cache (inl refl) (written 1 None refl of_nothing);
       })
 
@@ -157,8 +158,9 @@ module _ (c r m h l : List ℕ) where
         file = codes "config.status";
         ends = refl;
         named = refl;
+        own = refl;
         readable = small;
-        placed = made (alone (record { place = place 0 (codes "config.status"); at = refl; free = refl; added = refl }));
+        placed = made (alone (record { place = place 0 (codes "config.status"); at = refl; own = refl; free = refl; added = refl }));
         put = record_put _ (written 1 None refl of_nothing);
       })
 
@@ -170,8 +172,9 @@ module _ (c r m h l : List ℕ) where
         file = codes "src/Makefile";
         ends = refl;
         named = refl;
+        own = refl;
         readable = refl;
-        placed = made (alone (record { place = place 3 (codes "Makefile"); at = refl; free = refl; added = refl }));
+        placed = made (alone (record { place = place 3 (codes "Makefile"); at = refl; own = refl; free = refl; added = refl }));
         put = file_put _ (written 1 None refl of_nothing);
       })
 
@@ -187,8 +190,9 @@ module _ (c r m h l : List ℕ) where
         file = codes "config.h";
         ends = refl;
         named = refl;
+        own = refl;
         readable = refl;
-        placed = made (alone (record { place = place 0 (codes "config.h"); at = refl; free = refl; added = refl }));
+        placed = made (alone (record { place = place 0 (codes "config.h"); at = refl; own = refl; free = refl; added = refl }));
         put = header_put _ other_header (written 1 None refl of_nothing);
       })
 
@@ -212,8 +216,9 @@ module _ (c r m h l : List ℕ) where
         file = codes "src/Makefile";
         ends = refl;
         named = refl;
+        own = refl;
         readable = refl;
-        placed = made (alone (record { place = place 3 (codes "Makefile"); at = refl; free = refl; added = refl }));
+        placed = made (alone (record { place = place 3 (codes "Makefile"); at = refl; own = refl; free = refl; added = refl }));
         put = file_put _ (written 1 (Some (mode_for Permissions 0o100644 0o100644)) refl (of_file _ _ refl));
       })
 
@@ -225,8 +230,9 @@ module _ (c r m h l : List ℕ) where
         file = codes "config.h";
         ends = refl;
         named = refl;
+        own = refl;
         readable = refl;
-        placed = made (alone (record { place = place 0 (codes "config.h"); at = refl; free = refl; added = refl }));
+        placed = made (alone (record { place = place 0 (codes "config.h"); at = refl; own = refl; free = refl; added = refl }));
         put = header_same refl;
       })
 

@@ -26,7 +26,7 @@ use Rattle.file_laws.proofs.Runs.{three, of_making, of_filled, new_plain}
 abbrev pub IsIn : Files → List Deed → List ℕ → ℕ × ℕ → Type 0
 IsIn f d name directory = f.directories d name ≡ Some directory
 
-in_after_none : (f : Files) (d : List Deed) (name : List ℕ) (x : ℕ × ℕ) → IsIn f d name x → IsIn f (d ++ []) name x
+pub in_after_none : (f : Files) (d : List Deed) (name : List ℕ) (x : ℕ × ℕ) → IsIn f d name x → IsIn f (d ++ []) name x
 in_after_none f d name x at = subst (λ l. IsIn f l name x) (sym (append-nil d)) at
 
 in_after_making : (f : Files) → IsCoherent f → (d : List Deed) (directory : Option (List ℕ)) (name : List ℕ) (x : ℕ × ℕ) → IsIn f d name x → IsIn f (d ++ making directory) name x

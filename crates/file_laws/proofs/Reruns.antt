@@ -1,18 +1,21 @@
 -- What is read after a run, one put after the other.
-use Rattle.std.proofs.Common.{◌≡◌, ◌≢◌, ℕ, ◌+◌, Bool, true, false, List, [], ◌∷◌, ◌++◌, Option, Some, None, refl, sym, ap, subst, ◌∙◌, arith}
+use Rattle.std.proofs.Common.{◌≡◌, ◌≢◌, ℕ, ◌+◌, Bool, true, false, List, [], ◌∷◌, ◌++◌, Option, Some, None, refl, sym, ap, subst, ◌∙◌, append_assoc, arith}
 use Rattle.std.specs.Prelude.{◌||◌, All}
 use Rattle.std.proofs.lemmas.Bool.{true≢false, or_left, or_parts, or_right}
 use Rattle.std.proofs.lemmas.List.Elements.{All-nil, All-pop, All-push, All-weaker}
-use Rattle.file_disk.specs.Known.{Known, Files, Deed, with_deeds, kind_under, text_under}
+use Rattle.file_disk.specs.Clearing.{clearing, clearing_now}
+use Rattle.file_disk.specs.Known.{Known, Files, Deed, Made, Filled, Removed, with_deeds, kind_under, text_under}
+use Rattle.file_disk.specs.declared.found.Found.{Found}
+use Rattle.file_disk.specs.declared.found.Found.TheVariants as found
 use Rattle.file_texts.specs.Coherent.{after, HasPlace, IsCoherent, IsApart, IsPutApart, ReadsAt}
 use Rattle.file_texts.specs.Done.{AreDone, none, taken, refused, IsTakenSo, may_make}
 use Rattle.file_texts.specs.Links.{is_link, itself}
 use Rattle.file_texts.specs.Places.{is_among, is_held_at, is_place_guarded, place_under}
-use Rattle.file_texts.specs.Steps.{IsReplaced}
+use Rattle.file_texts.specs.Steps.{IsReplaced, replaced}
 use Rattle.file_texts.specs.declared.places.Guard.{Guard}
 use Rattle.file_texts.specs.declared.places.FilePlace.{FilePlace}
 use Rattle.output_put.specs.declared.artifact.Artifact.{Artifact}
-use Rattle.file_laws.proofs.Places.{among_more, end_is_name, free_made, own_stays, place_after_put}
+use Rattle.file_laws.proofs.Places.{IsIn, among_more, end_is_name, free_made, in_after_none, in_after_put, own_stays, place_after_put}
 use Rattle.file_laws.proofs.Runs.{of_done, of_made, of_put}
 use Rattle.file_laws.specs.Rerun.{AreNeverLinks, AreOfRun, InputsAreKept, IsNeverLink, IsOver, LastIsRead, OutputsAreRead}
 
@@ -180,3 +183,46 @@ inputs_kept others law f guards artifacts last written place deeds name own text
     let read = law (after f over.before) last written over.logged name own text c over.written
     (last_apart f over.before last place own last_never (of_over f c guards artifacts last written place deeds over) (last_at f c guards artifacts last written place deeds never over) differ) kept in
     subst (λ l. text_under (after f l) name ≡ Some text) (sym over.are) read.read
+
+-- ---- directories
+
+-- A directory stays over all puts.
+in_by : (f : Files) → IsCoherent f → (guards : List Guard) (artifacts : List Artifact) (failures : ℕ) (lines : List ℕ) (places : List FilePlace) (deeds : List Deed)
+    → AreDone f guards artifacts failures lines places deeds → failures ≡ 0 → AreNeverLinks f artifacts
+    → (name : List ℕ) (x : ℕ × ℕ) → IsIn f [] name x → IsIn f deeds name x
+in_by f c guards artifacts failures lines places deeds none zero never name x at = at
+in_by f c guards artifacts failures lines places deeds (taken earlier count before_lines before_places new before artifact line more done so) zero never name x at =
+    let split = All-pop (λ a. IsNeverLink f a.name) (earlier ++ artifact ∷ []) earlier (Some artifact) refl never in
+    let of = of_done f c guards earlier count before_lines before_places before done zero in
+    let named : so.file ≡ artifact.name = end_is_name f before artifact.name artifact.kind so.file split.1 of so.ends in
+    in_after_put f c before artifact.kind artifact.name so.file artifact.text line more name x (subst (IsNeverLink f) (sym named) split.1) of so.put
+    (in_by f c guards earlier count before_lines before_places before done zero split.0 name x at)
+in_by f c guards artifacts failures lines places deeds (refused earlier count before_lines before_places before kind refused_name more done so) zero never name x at =
+    absurd (omega (arith, zero))
+
+in_after_clearing : (f : Files) → IsCoherent f → (d : List Deed) (file : List ℕ) (seen : Found) (name : List ℕ) (x : ℕ × ℕ)
+    → is_link (kind_under (after f d) file) ≡ false → IsIn f d name x → IsIn f (d ++ clearing file seen) name x
+in_after_clearing f c d file (found.File mode) name x plain at = c.directories_stay d (Removed file) name plain ∙ at
+in_after_clearing f c d file found.Link name x plain at = c.directories_stay d (Removed file) name plain ∙ at
+in_after_clearing f c d file found.Nothing name x plain at = in_after_none f d name x at
+in_after_clearing f c d file found.Directory name x plain at = in_after_none f d name x at
+in_after_clearing f c d file found.Special name x plain at = in_after_none f d name x at
+
+in_after_replaced : (f : Files) → IsCoherent f → (d : List Deed) (file text : List ℕ) (deeds : List Deed) (name : List ℕ) (x : ℕ × ℕ)
+    → is_link (kind_under (after f d) file) ≡ false → IsReplaced (after f d) file text deeds → IsIn f d name x → IsIn f (d ++ deeds) name x
+in_after_replaced f c d file text deeds name x plain replaced at =
+    let cleared : List Deed = clearing_now file (after f d) in
+    let one : List Deed = d ++ cleared in
+    let two : List Deed = one ++ Made file ∷ [] in
+    subst (λ l. IsIn f l name x) (append_assoc one (Made file ∷ []) (Filled file None text ∷ []) ∙ append_assoc d cleared (Made file ∷ Filled file None text ∷ []))
+    (c.directories_stay two (Filled file None text) name tt ∙ c.directories_stay one (Made file) name tt
+    ∙ in_after_clearing f c d file (kind_under (after f d) file) name x plain at)
+
+-- A directory that was there before a run is there once it is over.
+pub in_after_run : (f : Files) → IsCoherent f → (guards : List Guard) (artifacts : List Artifact) (last text : List ℕ) (place : FilePlace) (deeds : List Deed)
+    → AreNeverLinks f artifacts → IsNeverLink f last → IsOver f guards artifacts last text place deeds
+    → (name : List ℕ) (x : ℕ × ℕ) → IsIn f [] name x → IsIn f deeds name x
+in_after_run f c guards artifacts last text place deeds never last_never over name x at =
+    subst (λ l. IsIn f l name x) (sym over.are)
+    (in_after_replaced f c over.before last text over.logged name x (last_never over.before (of_over f c guards artifacts last text place deeds over)) over.written
+    (in_by f c guards artifacts 0 over.lines over.places over.before over.done refl never name x at))
