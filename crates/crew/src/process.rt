@@ -25,8 +25,9 @@ use std::rt::Files;
 /// `conftest1`, if they are regular files or links. It writes the conftest to a new file, in the
 /// place of a regular file or a link of its name if there is one, and starts the child with empty
 /// standard input; its standard output is dropped. The start is refused if the job has no word, if a
-/// word isn't UTF-8, if what a compiler makes can't be removed, if the conftest can't be written or
-/// the child can't be started, or if memory for its record runs out.
+/// word isn't UTF-8, if the name of its file doesn't begin with `conftest` or has a slash, if what a
+/// compiler makes can't be removed, if the conftest can't be written or the child can't be started,
+/// or if memory for its record runs out.
 ///
 /// `next` waits for the oldest child. It reads what the child writes to standard error, up to its
 /// end or for 4 MiB, in however many pieces it arrives, and keeps the first 65,536 bytes. A read

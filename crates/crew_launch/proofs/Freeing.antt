@@ -12,7 +12,7 @@ use Rattle.file_disk.proofs.Deeds.{does, does_more, does_none, does_then}
 use Rattle.crew_launch.specs.Fresh.{AreFreeable, DoesFront, Frees, FreesOne, IsFreeable, Prepares, PreparesAfter, after, breaking, clearing_each, clearing_stale, made_of, preparing, products_of, replacing, spoiling}
 
 -- Another property follows.
-does_map : (a b : Option Known) (P Q : Known → List Deed → Type 0) → Does a b P → ((k : Known) (d : List Deed) → P k d → Q k d) → Does a b Q
+pub does_map : (a b : Option Known) (P Q : Known → List Deed → Type 0) → Does a b P → ((k : Known) (d : List Deed) → P k d → Q k d) → Does a b Q
 does_map None None P Q p f = tt
 does_map None (Some b) P Q p f = absurd p
 does_map (Some a) None P Q p f = absurd p

@@ -3,5 +3,6 @@ pub mod ChildLemmas
 mod Explaining
 mod Freeing
 mod Naming
+mod Owning
 mod Queue
 mod Spoilt

@@ -11,7 +11,7 @@ unfolding IsOfName
 no_name name None bad is = is
 no_name name (Some line) bad is = inl (is, bad)
 
--- of a file that the system refused
+-- of a file that the launcher refused
 pub no_file : (name : List ℕ) (cause : Option (List ℕ)) → IsUtf8 name → IfSome cause (IsCauseOf name) → IfSome cause (IsOfName name)
 unfolding IsOfName
 no_file name None good is = is

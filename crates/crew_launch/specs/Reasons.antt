@@ -33,7 +33,7 @@ SaysRefused program (Some word) line = SaysNul word line
 unfoldable pub IsOfSpawn : List ℕ → List (List ℕ) → List ℕ → Type 0
 IsOfSpawn program arguments line = SaysRefused program (find has_nul (program ∷ arguments)) line
 
--- A file of this name wasn't written: the name isn't UTF-8, or else the system refused it. (own)
+-- A file of this name wasn't written: the name isn't UTF-8, or else the launcher refused it. (own)
 unfoldable pub IsOfName : List ℕ → List ℕ → Type 0
 IsOfName name line = (SaysNoText name line × (¬ (IsUtf8 name))) ⊎ (IsCauseOf name line × IsUtf8 name)
 

@@ -1,13 +1,14 @@
 //! The launcher, which connects children to the system.
 
-ghost use Rattle.std.specs.Prelude.{◌≡◌, ℕ, [], ◌∷◌, None, Option, List, OnOk, OnErr, option_map};
+ghost use Rattle.std.specs.Prelude.{◌≡◌, ℕ, [], ◌∷◌, None, Option, List, OnOk, OnErr, false, option_map, true};
 ghost use Rattle.std.specs.Process.{command_args, command_program};
 ghost use Rattle.file_disk.specs.Clearing.{DoesAll};
 ghost use Rattle.file_disk.specs.Known.{Does};
 ghost use Rattle.crew_launch.specs.Fresh.{DoesFront, PreparesAfter, after, breaking, clearing_stale};
 ghost use Rattle.crew_launch.specs.Launch.{Adds, SystemCall, Failed, Spawned, Wrote};
+ghost use Rattle.crew_launch.specs.Own.{AreOnStale, AreOwn, is_own};
 
-use crate::fresh::write_conftest;
+use crate::fresh::write_own;
 use file_disk::{Disk, clear};
 use std::alloc::Global;
 use std::io;
@@ -107,7 +108,12 @@ impl<D: Disk + Processes> Launcher for DiskLauncher<D> {
     /// what a compiler made of an earlier conftest is removed: of `conftest1.c` first `conftest1.o`
     /// and then `conftest1`. Then what is under the name is removed, a new file is made there, and
     /// the whole text is written.
-    #[tactic(auto, using(crate::proofs::Freeing::prepared_after, crate::proofs::Freeing::refused_then, crate::proofs::Freeing::refused_clear))]
+    ///
+    /// # Errors
+    ///
+    /// Fails if a step is refused, and if the name isn't that of a file that a run has for itself: it
+    /// doesn't begin with `conftest`, or has a slash.
+    #[tactic(auto, using(crate::proofs::Freeing::prepared_after, crate::proofs::Freeing::refused_clear, crate::proofs::Owning::own_kept, crate::proofs::Owning::front_all))]
     fn write(&mut self, name: &str, text: &[u8]) -> io::Result<()>
         // If it succeeds, exactly these steps were done, and what a compiler makes of the conftest
         // was not a directory, a pipe, a socket or a device.
@@ -117,15 +123,25 @@ impl<D: Disk + Processes> Launcher for DiskLauncher<D> {
         // its text.
         ensures spoilt { OnErr result (DoesFront (D.known self.old.disk) (D.known self.new.disk)
             (after (clearing_stale self.old.stale) (breaking name.now))) }
+        // If it succeeds, the name is that of a file that a run has for itself.
+        ensures named { OnOk result (is_own name.now ≡ true) }
+        // If the name is another one, at most the file that is stale is removed.
+        ensures foreign { is_own name.now ≡ false
+            → DoesFront (D.known self.old.disk) (D.known self.new.disk)
+            (clearing_stale self.old.stale) }
+        // Whatever is done is done to files that a run has for itself, or to the one that is stale.
+        ensures own { Does (D.known self.old.disk) (D.known self.new.disk)
+            (λ _ deeds. AreOwn self.old.stale deeds) }
         ensures once { self.new.stale ≡ None }
     {
         match self.clear() {
-            Ok(()) => write_conftest(self.alloc, &mut self.system, name, text),
+            Ok(()) => write_own(self.alloc, &mut self.system, name, text),
             Err(e) => Err(e),
         }
     }
 
     /// Removes the file that is stale, unless that was tried before, and starts the command.
+    #[tactic(auto, using(crate::proofs::Owning::stale_all, crate::proofs::Owning::stale_none))]
     fn spawn(&mut self, command: &mut Command) -> io::Result<Child<D::Started>>
         // Nothing else is done to files.
         ensures started { OnOk result (
@@ -134,6 +150,9 @@ impl<D: Disk + Processes> Launcher for DiskLauncher<D> {
         ensures failed { OnErr result (
             DoesFront (D.known self.old.disk) (D.known self.new.disk)
             (clearing_stale self.old.stale)) }
+        // So no other file is touched.
+        ensures own { Does (D.known self.old.disk) (D.known self.new.disk)
+            (λ _ deeds. AreOnStale self.old.stale deeds) }
         ensures once { self.new.stale ≡ None }
     {
         self.clear()?;

@@ -1,6 +1,6 @@
 //! The pipe of a child's diagnostics, which is read piece by piece, and counts the pieces.
 
-ghost use Rattle.std.specs.Prelude.{◌≡◌, ◌+◌, ◌<◌, ◌≤◌, length, take, true, false, option_map, IfNone, IfOk, IsErr};
+ghost use Rattle.std.specs.Prelude.{◌≡◌, ◌+◌, ◌<◌, ◌≤◌, length, negsuc, take, true, false, option_map, IfNone, IfOk, IsErr};
 ghost use Rattle.std.specs.Io.KnownBytes.{Consumes, IsAtEnd};
 ghost use Rattle.crew_launch.specs.Piped.{left_of, IsUnread};
 
@@ -101,7 +101,9 @@ impl<R: Read + Drop> Pipe<R> {
 
 impl<R: PipeEnd + Drop> Pipe<Queued<R>> {
     /// Returns its descriptor, or a negative number if there is none.
-    pub(crate) fn descriptor(&self) -> RawFd {
+    pub(crate) fn descriptor(&self) -> RawFd
+        ensures { self.now.is_open ≡ false → result ≡ negsuc 0 }
+    {
         match &self.reader {
             Some(reader) => reader.descriptor(),
             None => -1,

@@ -62,8 +62,8 @@ impl<R: PipeEnd + Drop> Queued<R> {
         self.reader.descriptor()
     }
 
-    /// Reads once, behind what was read ahead before. Returns whether nothing more can be read
-    /// ahead: the reader is at its end, the read fails, the queue has 4 MiB, or memory runs out.
+    /// Reads once, after what was read ahead before. Returns whether nothing more can be read ahead:
+    /// the reader is at its end, the read fails, the queue has 4 MiB, or memory runs out.
     #[tactic(auto, using(crate::proofs::Queue::read_later))]
     pub(crate) fn read_ahead(&mut self) -> bool
         ensures { prepend_known (drop self.new.taken self.new.queue.items)
@@ -74,7 +74,7 @@ impl<R: PipeEnd + Drop> Queued<R> {
         if self.failure.is_some() {
             return true;
         }
-        match read_behind(&mut self.reader, &mut self.queue) {
+        match read_after(&mut self.reader, &mut self.queue) {
             Ok(is_over) => is_over,
             Err(e) if e.kind() == ErrorKind::Interrupted => false,
             Err(e) => {
@@ -100,7 +100,7 @@ fn copied(queue: &[u8], from: usize, buf: &mut [u8]) -> usize
 }
 
 /// Reads once, and appends the bytes. Returns whether nothing more can be read.
-fn read_behind<R: PipeEnd>(reader: &mut R, queue: &mut Vec<u8>) -> io::Result<bool>
+fn read_after<R: PipeEnd>(reader: &mut R, queue: &mut Vec<u8>) -> io::Result<bool>
     ensures { ReadsAhead queue.old.items queue.new.items
         (R.remaining reader.old) (R.remaining reader.new) }
 {

@@ -1,6 +1,6 @@
 //! A child that was started.
 
-ghost use Rattle.std.specs.Prelude.{◌≡◌, Some, true, false, codes, IfErr, IfOk, IfSome, IsErr};
+ghost use Rattle.std.specs.Prelude.{◌≡◌, Some, true, false, negsuc, codes, IfErr, IfOk, IfSome, IsErr};
 ghost use Rattle.crew_refusals.specs.Shown.{IsCauseOf};
 ghost use Rattle.crew_launch.specs.Ending.{IsKept};
 ghost use Rattle.crew_launch.specs.Piped.{IsReadThrough, IsUnread};
@@ -84,7 +84,10 @@ where
     P::Stderr: PipeEnd,
 {
     /// Returns the descriptor of its pipe, or a negative number if there is none.
-    pub fn descriptor(&self) -> RawFd {
+    pub fn descriptor(&self) -> RawFd
+        // Without a pipe it is -1.
+        ensures { self.now.pipe.is_open ≡ false → result ≡ negsuc 0 }
+    {
         self.pipe.descriptor()
     }
 

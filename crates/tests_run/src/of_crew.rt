@@ -111,33 +111,40 @@ const CHILDREN: &[u8] = b"\
 // conftests
 1|conftest.c int \xff;^J|sh,-c,cat conftest.c >&2; echo x > made =>  0:0:int \xff;^J
 1||sh,-c,cat made >&2; rm made =>  0:0:x^J
-1|c.c <~>|sh,-c,wc -c < c.c >&2 =>  0:0:1048576^J
-1||sh,-c,wc -c < c.c >&2; tr -d a < c.c >&2; head -c 1 c.c >&2; tail -c 1 c.c >&2 =>  0:0:1048576^J<><>
+1|conftestc.c <~>|sh,-c,wc -c < conftestc.c >&2 =>  0:0:1048576^J
+1||sh,-c,wc -c < conftestc.c >&2; tr -d a < conftestc.c >&2; head -c 1 conftestc.c >&2; tail -c 1 conftestc.c >&2 =>  0:0:1048576^J<><>
 // starts that are refused
 1||/nowhere/cc,-c =>  0:S
 1|| =>  0:S
 1||sh,\xff =>  0:S
 1||sh,a\0b =>  0:S
-// A conftest that can't be written starts no child: its directory is not there, its device is full.
-1|no/c.c int x;|sh,-c,: > made =>  0:S
-1|/dev/full int x;|sh,-c,: > made =>  0:S
-1|c\xff.c int x;|sh,-c,: > made =>  0:S
-1|c\0.c int x;|sh,-c,: > made =>  0:S
+// A conftest that can't be written starts no child: its name is that of a directory, or isn't a name.
+1||sh,-c,mkdir conftestb.c =>  0:0:
+1|conftestb.c int x;|sh,-c,: > made =>  0:S
+1|conftest\xff.c int x;|sh,-c,: > made =>  0:S
+1|conftest\0.c int x;|sh,-c,: > made =>  0:S
+// Neither does a file that isn't a conftest of this directory, and it is as before.
+1||sh,-c,mkdir in conftestx; echo kept > Makefile =>  0:0:
+1|Makefile int x;|sh,-c,: > made =>  0:S
+1|in/conftest.c int x;|sh,-c,: > made =>  0:S
+1|conftestx/y.c int x;|sh,-c,: > made =>  0:S
+1|conftes.c int x;|sh,-c,: > made =>  0:S
+1||sh,-c,cat Makefile >&2; [ -e in/conftest.c ] || [ -e conftestx/y.c ] || [ -e conftes.c ] =>  0:1:kept^J
 // Neither does one with a directory or a pipe where the compiler is to put what it makes.
-1||sh,-c,mkdir d.o e; mkfifo f.o g =>  0:0:
-1|d.c int x;|sh,-c,: > made =>  0:S
-1|e.c int x;|sh,-c,: > made =>  0:S
-1|f.c int x;|sh,-c,: > made =>  0:S
-1|g.c int x;|sh,-c,: > made =>  0:S
+1||sh,-c,mkdir conftestd.o confteste; mkfifo conftestf.o conftestg =>  0:0:
+1|conftestd.c int x;|sh,-c,: > made =>  0:S
+1|confteste.c int x;|sh,-c,: > made =>  0:S
+1|conftestf.c int x;|sh,-c,: > made =>  0:S
+1|conftestg.c int x;|sh,-c,: > made =>  0:S
 1||sh,-c,[ -e made ] =>  0:1:
 // A regular file or a link there is removed before the child is started, and not what a link leads to.
-1||sh,-c,: > h.o; : > h; echo kept > i; ln -s i j.o; ln -s nowhere j =>  0:0:
-1|h.c int x;|sh,-c,ls h* >&2 =>  0:0:h.c^J
-1|j.c int x;|sh,-c,ls j* i >&2; cat i >&2 =>  0:0:i^Jj.c^Jkept^J
+1||sh,-c,: > conftesth.o; : > conftesth; echo kept > i; ln -s i conftestj.o; ln -s nowhere conftestj =>  0:0:
+1|conftesth.c int x;|sh,-c,ls conftesth* >&2 =>  0:0:conftesth.c^J
+1|conftestj.c int x;|sh,-c,ls conftestj* i >&2; cat i >&2 =>  0:0:conftestj.c^Ji^Jkept^J
 // Another name has none, and a child without a conftest removes nothing.
-1||sh,-c,: > k.o; : > k; : > l.o; : > l =>  0:0:
-1|k int x;|sh,-c,ls k* >&2 =>  0:0:k^Jk.o^J
-1||sh,-c,ls l* >&2,l.c =>  0:0:l^Jl.o^J
+1||sh,-c,: > conftestk.o; : > conftestk; : > conftestl.o; : > conftestl =>  0:0:
+1|conftestk int x;|sh,-c,ls conftestk* >&2 =>  0:0:conftestk^Jconftestk.o^J
+1||sh,-c,ls conftestl* >&2,conftestl.c =>  0:0:conftestl^Jconftestl.o^J
 // The last child ends first, and is taken last.
 3||sh,-c,[ $1 = 2 ] && echo $$ > last && exit 2; i=0; while [ $i -lt 400 ]; do \
 [ -s last ] && grep -q State:.Z /proc/$(cat last)/status && exit $1; i=$((i+1)); sleep 0.05; done; exit 9,slot =>  0:0: 1:1: 2:2:

@@ -49,8 +49,10 @@ impl<'a> OpenProcess for Process<'a> {
     }
 }
 
-/// The name of a file that is there, and can't be removed.
-const KEPT: &str = "kept.o";
+/// Returns whether a file of this name is there, and can't be removed.
+fn is_kept(name: &str) -> bool {
+    name == "conftest1.o" || name == "conftest2"
+}
 
 /// The system, but each child that is started has the next of these pipes, which have semicolons
 /// between them, and this status. If it has the number of a refusal, each start is refused with that
@@ -120,7 +122,7 @@ impl<'a> Files for System<'a> {
     }
 
     fn symlink_metadata(&self, path: &str) -> io::Result<Metadata> {
-        if path == KEPT {
+        if is_kept(path) {
             return self.rt.symlink_metadata("/proc/version");
         }
         self.rt.symlink_metadata(path)
@@ -135,7 +137,7 @@ impl<'a> Files for System<'a> {
     }
 
     fn remove_file(&self, path: &str) -> io::Result<()> {
-        if path == KEPT {
+        if is_kept(path) {
             return Err(io::Error::from(ErrorKind::PermissionDenied));
         }
         self.rt.remove_file(path)
@@ -289,7 +291,8 @@ const REFUSALS: &[u8] = b"\
 12 => true: Cannot allocate memory
 7 => true: Argument list too long
 // What a compiler made of the conftest can't be removed.
-0|kept.c int x; => kept.c: its object file can't be removed
+0|conftest1.c int x; => conftest1.c: its object file can't be removed
+0|conftest2.c int x; => conftest2.c: its program can't be removed
 ";
 
 #[test]

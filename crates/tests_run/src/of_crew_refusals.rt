@@ -5,7 +5,7 @@ ghost use Rattle.std.specs.Prelude.{◌≡◌, []};
 use conftest::Job;
 use crew::{Causes, Crew, ProcessCrew};
 use std::test::Fail;
-use test_crews::children::job_of;
+use test_crews::children::{Work, job_of, put_real_children};
 use test_rows::{Page, RowCall, cut, number_of, try_rows_in};
 
 /// Puts the cause of a child, or `not known`.
@@ -28,7 +28,7 @@ pub fn put_start<C: Crew + Causes>(page: &mut Page, crew: &mut C, job: Job, chil
 }
 
 /// A real child: the number of which the cause is asked, and the conftest and the words of the
-/// child.
+/// child. Without a number, the child is run to its end.
 #[derive(Drop)]
 struct Starts<'a> {
     rt: &'a HostRuntime,
@@ -39,6 +39,13 @@ impl RowCall for Starts<'_> {
         let (child, rest) = cut(given, b"|");
         let (file, words) = cut(rest, b"|");
         let job = job_of(page, words, file);
+        if child.is_empty() {
+            let work = Work {
+                count: 1,
+                job: &job,
+            };
+            return put_real_children(page, self.rt, &work);
+        }
         let Ok(own) = self.rt.clone() else {
             return page.cut();
         };
@@ -59,15 +66,18 @@ const CAUSES: &[u8] = b"\
 1||\xff => \\xff: not UTF-8
 1||sh,a\0b => a\\x00b: has a NUL
 1||s\0h => s\\x00h: has a NUL
+// files that aren't conftests of this directory
+1|Makefile all:;|true => Makefile: not the name of a conftest
+1|./conftest.c int x;|true => ./conftest.c: not the name of a conftest
+1|/dev/full int x;|true => /dev/full: not the name of a conftest
 // conftests that can't be written, and one that can't be executed
-1|no/c.c int x;|true => no/c.c: No such file or directory
-1|/dev/full int x;|true => /dev/full: File exists
-1|c\xff.c int x;|true => c\\xff.c: not UTF-8
-1|c.c int x;|./c.c => ./c.c: Permission denied
+||sh,-c,mkdir conftest1.c conftest2; mkfifo conftest3 =>  0:0:
+1|conftest1.c int x;|true => conftest1.c: File exists
+1|conftest\xff.c int x;|true => conftest\\xff.c: not UTF-8
+1|conftest.c int x;|./conftest.c => ./conftest.c: Permission denied
 // conftests of which a compiler can't make anything
-1|/proc.c int x;|true => /proc.c: its program is a directory
-1|/dev/null.c int x;|true => /dev/null.c: its program is a pipe, a socket or a device
-1|/proc/version.c int x;|true => /proc/version.c: its program can't be removed
+1|conftest2.c int x;|true => conftest2.c: its program is a directory
+1|conftest3.c int x;|true => conftest3.c: its program is a pipe, a socket or a device
 // no child has this number
 0||/nowhere/cc => not known
 2||/nowhere/cc => not known
