@@ -1,13 +1,14 @@
 //! Directories that a configure script of Autoconf refuses.
 
-ghost use Rattle.std.specs.Prelude.{◌≡◌, false};
+ghost use Rattle.std.specs.Prelude.{◌≡◌, true, false, []};
+ghost use Rattle.cmd_call.specs.Lines.{SaysLines};
 
 use crate::checks::put_cut;
 use crate::lines::put_words;
+use cmd_call::Hears;
 use deftable::Vars;
 use options_line::{Directory, directories};
 use std::alloc::{AllocError, Global};
-use std::io::Write;
 
 /// Returns whether a path begins as one of a drive does, `C:/`.
 fn has_drive(path: &[u8]) -> bool {
@@ -54,20 +55,31 @@ fn refused_words(alloc: Global, name: &[u8], value: &[u8]) -> Result<Vec<u8>, Al
     Ok(out)
 }
 
+/// Says of a directory with this value that a configure script of Autoconf refuses it, if it does.
+/// If memory runs out, writes nothing.
+#[tactic(auto, using(cmd_call::proofs::Pages::says_nothing))]
+fn put_directory<E: Hears>(alloc: Global, directory: Directory, value: &[u8], errors: &mut E)
+    ensures paged { SaysLines E.contents E.has_failed errors.old errors.new true [] }
+{
+    if is_refused(directory, value) {
+        if let Ok(words) = refused_words(alloc, option_of(directory), value) {
+            put_words(alloc, words.as_slice(), errors);
+        }
+    }
+}
+
 /// Says of each directory in these variables, if it is asked, that a configure script of Autoconf
 /// refuses it, if it does (own).
-pub fn explain_directories<E: Write>(alloc: Global, is_asked: bool, vars: &Vars, errors: &mut E)
+#[tactic(auto, using(cmd_call::proofs::Pages::says_nothing, crate::proofs::Pages::asked_pages))]
+pub fn explain_directories<E: Hears>(alloc: Global, is_asked: bool, vars: &Vars, errors: &mut E)
     ensures silent { is_asked ≡ false → errors.new ≡ errors.old }
+    ensures paged { SaysLines E.contents E.has_failed errors.old errors.new is_asked [] }
 {
     if !is_asked {
         return;
     }
-    for directory in directories() {
+    'directories: for directory in directories() {
         let value = vars.value_or_empty(directory.variable());
-        if is_refused(*directory, value) {
-            if let Ok(words) = refused_words(alloc, option_of(*directory), value) {
-                put_words(alloc, words.as_slice(), errors);
-            }
-        }
+        put_directory(alloc, *directory, value, errors);
     }
 }

@@ -1,16 +1,17 @@
 //! A run that completed, and may have taken a failure for "no", or whose cache is too long.
 
-ghost use Rattle.std.specs.Prelude.{◌≡◌, false};
+ghost use Rattle.std.specs.Prelude.{◌≡◌, true, false, []};
+ghost use Rattle.cmd_call.specs.Lines.{SaysLines};
 
 use crate::checks::{conftest_in, open_check};
 use crate::failures::is_search;
 use crate::lines::put_words;
 use crate::shortages::{names_refusal, names_shortage, names_signal};
+use cmd_call::Hears;
 use crew_trait::{Entry, Reply};
 use lint_table::{Page, WordPart, keys};
 use output_put::{Artifact, Kind};
 use std::alloc::Global;
-use std::io::Write;
 
 /// The exit status of a child that a signal ended.
 const BY_SIGNAL: u32 = 256;
@@ -96,20 +97,25 @@ fn named(check: Option<&[u8]>) -> WordPart<'_> {
 }
 
 /// Writes the words of a page as a line. If memory ran out, writes nothing.
-fn put_message<E: Write>(alloc: Global, page: Page, errors: &mut E) {
+#[tactic(auto, using(cmd_call::proofs::Pages::says_nothing))]
+fn put_message<E: Hears>(alloc: Global, page: Page, errors: &mut E)
+    ensures paged { SaysLines E.contents E.has_failed errors.old errors.new true [] }
+{
     if let Ok(words) = page.message() {
         put_words(alloc, words.as_slice(), errors);
     }
 }
 
 /// Says of a check that its "no" may be wrong, and what to do.
-fn put_doubt<E: Write>(
+fn put_doubt<E: Hears>(
     alloc: Global,
     cache: &[u8],
     check: Option<&[u8]>,
     reason: &[u8],
     errors: &mut E,
-) {
+)
+    ensures paged { SaysLines E.contents E.has_failed errors.old errors.new true [] }
+{
     let mut page = Page::new(alloc);
     let reason = WordPart::AsItIs(reason);
     if cache.is_empty() {
@@ -121,12 +127,26 @@ fn put_doubt<E: Write>(
     put_message(alloc, page, errors);
 }
 
+/// Says that the "no" of a check may be wrong, of the first child of this log of which it may be.
+#[tactic(auto, using(cmd_call::proofs::Pages::says_nothing))]
+fn put_doubts<E: Hears>(alloc: Global, log: &[Entry], cache: &[u8], errors: &mut E)
+    ensures paged { SaysLines E.contents E.has_failed errors.old errors.new true [] }
+{
+    'entries: for i in 0..log.len() {
+        if let Some(reason) = doubt_in(&log[i]) {
+            put_doubt(alloc, cache, open_check(&log[..i]), reason, errors);
+            return;
+        }
+    }
+}
+
 /// Says of the completed run with this log, if it is asked, that a child failed because there was
 /// no room for a process, its arguments, a file, what it opened or its memory; that a compiler
 /// failed because a signal ended it or because it may not open a file; or that `sh` failed, which
 /// looks for a program. If there is such a child, the "no" of its check may be wrong. The first is
 /// named. If the run has a cache, its name is `cache`, and otherwise that is empty (own).
-pub fn explain_doubts<E: Write>(
+#[tactic(auto, using(cmd_call::proofs::Pages::says_nothing, crate::proofs::Pages::asked_pages))]
+pub fn explain_doubts<E: Hears>(
     alloc: Global,
     is_asked: bool,
     log: &[Entry],
@@ -134,40 +154,49 @@ pub fn explain_doubts<E: Write>(
     errors: &mut E,
 )
     ensures silent { is_asked ≡ false → errors.new ≡ errors.old }
+    ensures paged { SaysLines E.contents E.has_failed errors.old errors.new is_asked [] }
 {
     if is_asked {
-        for i in 0..log.len() {
-            if let Some(reason) = doubt_in(&log[i]) {
-                put_doubt(alloc, cache, open_check(&log[..i]), reason, errors);
-                return;
-            }
-        }
+        put_doubts(alloc, log, cache, errors);
     }
 }
 
 /// Says that no run can read the cache of this name again.
-fn put_long_cache<E: Write>(alloc: Global, name: &[u8], errors: &mut E) {
+fn put_long_cache<E: Hears>(alloc: Global, name: &[u8], errors: &mut E)
+    ensures paged { SaysLines E.contents E.has_failed errors.old errors.new true [] }
+{
     let mut page = Page::new(alloc);
     page.put(keys::LONG_CACHE, &[WordPart::AsItIs(name)]);
     put_message(alloc, page, errors);
 }
 
+/// Says of a file that was handed over that no run can read it again, if it is a cache and longer
+/// than a cache that is read may be.
+#[tactic(auto, using(cmd_call::proofs::Pages::says_nothing))]
+fn put_handed<E: Hears>(alloc: Global, artifact: &Artifact, errors: &mut E)
+    ensures paged { SaysLines E.contents E.has_failed errors.old errors.new true [] }
+{
+    if artifact.kind == Kind::Cache && artifact.text.len() > LARGEST_CACHE {
+        put_long_cache(alloc, artifact.name.as_slice(), errors);
+    }
+}
+
 /// Says of a cache that was handed over, if it is asked, that no run can read it again, if it is
 /// longer than a cache that is read may be (own).
-pub fn explain_long_cache<E: Write>(
+#[tactic(auto, using(cmd_call::proofs::Pages::says_nothing, crate::proofs::Pages::asked_pages))]
+pub fn explain_long_cache<E: Hears>(
     alloc: Global,
     is_asked: bool,
     handed: &[Artifact],
     errors: &mut E,
 )
     ensures silent { is_asked ≡ false → errors.new ≡ errors.old }
+    ensures paged { SaysLines E.contents E.has_failed errors.old errors.new is_asked [] }
 {
     if !is_asked {
         return;
     }
-    for artifact in handed {
-        if artifact.kind == Kind::Cache && artifact.text.len() > LARGEST_CACHE {
-            put_long_cache(alloc, artifact.name.as_slice(), errors);
-        }
+    'files: for artifact in handed {
+        put_handed(alloc, artifact, errors);
     }
 }

@@ -1,13 +1,16 @@
 //! A run in which no compile or no link passed.
 
+ghost use Rattle.std.specs.Prelude.{true, []};
+ghost use Rattle.cmd_call.specs.Lines.{SaysLines};
+
 use crate::checks::{conftest_in, diagnostics_in, open_check, put_command, put_cut, words_in};
 use crate::lines::put_words;
 use crate::page::put_key;
+use cmd_call::Hears;
 use crew_trait::{Entry, Reply};
 use deftable::Bytes;
 use lint_table::keys;
 use std::alloc::{AllocError, Global};
-use std::io::Write;
 
 /// What a compiler is called for.
 #[derive(Clone, Copy, PartialEq, Eq)]
@@ -352,7 +355,10 @@ fn is_no_compiler(entry: &Entry) -> bool {
 
 /// Says of a run that stopped since there is no compiler why CC has no value, if no program was
 /// looked for.
-pub(crate) fn put_no_compiler<E: Write>(alloc: Global, log: &[Entry], errors: &mut E) {
+#[tactic(auto, using(cmd_call::proofs::Pages::says_nothing))]
+pub(crate) fn put_no_compiler<E: Hears>(alloc: Global, log: &[Entry], errors: &mut E)
+    ensures paged { SaysLines E.contents E.has_failed errors.old errors.new true [] }
+{
     if log.iter().any(is_no_compiler) && !log.iter().any(is_search) {
         put_words(alloc, NOT_LOOKED_FOR, errors);
     }
@@ -361,7 +367,10 @@ pub(crate) fn put_no_compiler<E: Write>(alloc: Global, log: &[Entry], errors: &m
 /// Says that no call of a compiler passed, if at least one was answered; or asks about a variable,
 /// if three links or more were answered and none passed, but a compile did, or the reverse. If
 /// memory runs out for that, it only says that no call passed.
-pub(crate) fn put_failures<E: Write>(alloc: Global, log: &[Entry], errors: &mut E) {
+#[tactic(auto, using(cmd_call::proofs::Pages::says_nothing))]
+pub(crate) fn put_failures<E: Hears>(alloc: Global, log: &[Entry], errors: &mut E)
+    ensures paged { SaysLines E.contents E.has_failed errors.old errors.new true [] }
+{
     let counts = counts_of(log);
     match failure_words(alloc, log, &counts) {
         Ok(Some(words)) => put_words(alloc, words.as_slice(), errors),

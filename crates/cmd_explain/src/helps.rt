@@ -1,13 +1,14 @@
 //! Words after `help` that name no command.
 
-ghost use Rattle.std.specs.Prelude.{◌≡◌, false};
+ghost use Rattle.std.specs.Prelude.{◌≡◌, true, false, []};
+ghost use Rattle.cmd_call.specs.Lines.{SaysLines};
 
 use crate::page::{put_key, put_words, slices};
+use cmd_call::Hears;
 use deftable::Bytes;
 use lint_table::{Words, keys};
 use run_words::usage_words;
 use std::alloc::{AllocError, Global};
-use std::io::Write;
 
 /// The names that `acrun help` has a page of.
 const PAGES: [&[u8]; 7] = [
@@ -41,10 +42,19 @@ fn is_page(words: &[Bytes]) -> bool {
     }
 }
 
+/// Says what is wrong with the words after `help`, and where the commands are listed.
+fn put_misuse<E: Hears>(alloc: Global, words: &[Bytes], errors: &mut E)
+    ensures paged { SaysLines E.contents E.has_failed errors.old errors.new true [] }
+{
+    put_words(alloc, misuse_of(alloc, words), errors);
+    put_key(alloc, keys::SEE_COMMANDS, errors);
+}
+
 /// Says what is wrong with the words after `help`, after its line, if it is asked and the command
 /// ended with another status than 0. If the words are right, the text couldn't be written, and
 /// nothing is said of them.
-pub fn explain_help<E: Write>(
+#[tactic(auto, using(cmd_call::proofs::Pages::says_nothing, crate::proofs::Pages::asked_pages))]
+pub fn explain_help<E: Hears>(
     alloc: Global,
     is_asked: bool,
     status: u8,
@@ -52,10 +62,10 @@ pub fn explain_help<E: Write>(
     errors: &mut E,
 )
     ensures silent { is_asked ≡ false → errors.new ≡ errors.old }
+    ensures paged { SaysLines E.contents E.has_failed errors.old errors.new is_asked [] }
     ensures fine { status ≡ 0 → errors.new ≡ errors.old }
 {
     if is_asked && status != 0 && !is_page(words) {
-        put_words(alloc, misuse_of(alloc, words), errors);
-        put_key(alloc, keys::SEE_COMMANDS, errors);
+        put_misuse(alloc, words, errors);
     }
 }

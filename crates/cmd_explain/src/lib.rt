@@ -18,9 +18,11 @@
 //! ```
 //!
 //! Each function `explain_..` is called right after the line of a fault. It writes nothing if it
-//! isn't asked, and this is proved, or if the cause isn't known. What it writes is tested. If
-//! memory runs out, it writes less, and that a line can't be written is not reported. "own" marks a
-//! rule that no manual gives.
+//! isn't asked, or if the cause isn't known. If it is asked, it writes pages, each as far as the
+//! stream takes it, and the stream remembers that it failed if it didn't take all of one. All of
+//! this is proved, except when a cause is known. What a page says is tested. If memory runs out, it
+//! writes less, and that a page can't be written is not reported. "own" marks a rule that no manual
+//! gives.
 //!
 //! `lint_errors` is needed for a fault of the source alone: for its place, which may be after the
 //! offset that the fault has, and for what to write in place of a macro that isn't known.

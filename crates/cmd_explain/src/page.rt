@@ -1,20 +1,30 @@
 //! Words as lines.
 
+ghost use Rattle.std.specs.Prelude.{true, []};
+ghost use Rattle.cmd_call.specs.Lines.{SaysLines};
+
 use crate::explain_words;
+use bstr::ByteSlice;
+use cmd_call::Hears;
 use deftable::Bytes;
 use lint_table::{Key, Page, Words};
 use std::alloc::{AllocError, Global};
-use std::io::Write;
 
 /// Writes each line of a text as `acrun: LINE`.
-fn put_lines<E: Write>(alloc: Global, text: &[u8], errors: &mut E) {
-    for line in text.split(|byte| *byte == b'\n') {
-        explain_words(alloc, true, line, errors);
+fn put_lines<E: Hears>(alloc: Global, text: &[u8], errors: &mut E)
+    ensures paged { SaysLines E.contents E.has_failed errors.old errors.new true [] }
+{
+    'lines: for line in text.lines_with_terminator() {
+        let words = line.strip_suffix(b"\n").unwrap_or(line);
+        explain_words(alloc, true, words, errors);
     }
 }
 
 /// Writes what is wrong, and what to do, as lines. If memory ran out, writes nothing.
-pub(crate) fn put_words<E: Write>(alloc: Global, made: Result<Words, AllocError>, errors: &mut E) {
+#[tactic(auto, using(cmd_call::proofs::Pages::says_nothing))]
+pub(crate) fn put_words<E: Hears>(alloc: Global, made: Result<Words, AllocError>, errors: &mut E)
+    ensures paged { SaysLines E.contents E.has_failed errors.old errors.new true [] }
+{
     if let Ok(words) = made {
         explain_words(alloc, true, words.message.as_slice(), errors);
         put_lines(alloc, words.help.as_slice(), errors);
@@ -22,7 +32,9 @@ pub(crate) fn put_words<E: Write>(alloc: Global, made: Result<Words, AllocError>
 }
 
 /// Writes the words of a key that has no places, as lines. If memory runs out, writes nothing.
-pub(crate) fn put_key<E: Write>(alloc: Global, key: Key, errors: &mut E) {
+pub(crate) fn put_key<E: Hears>(alloc: Global, key: Key, errors: &mut E)
+    ensures paged { SaysLines E.contents E.has_failed errors.old errors.new true [] }
+{
     let mut page = Page::new(alloc);
     page.put(key, &[]);
     put_words(alloc, page.words(), errors);

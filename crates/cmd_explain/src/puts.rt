@@ -1,9 +1,11 @@
 //! Why an output of a run was refused.
 
-ghost use Rattle.std.specs.Prelude.{◌≡◌, false};
+ghost use Rattle.std.specs.Prelude.{◌≡◌, true, false, []};
+ghost use Rattle.cmd_call.specs.Lines.{SaysLines};
 
 use crate::lines::put_words;
 use crate::precious::Given;
+use cmd_call::Hears;
 use crew_refusals::shown;
 use deftable::Bytes;
 use file_disk::Disk;
@@ -12,7 +14,7 @@ use lint_table::{Page, WordPart, keys};
 use options::Settings;
 use output_list::Output;
 use std::alloc::{AllocError, Global};
-use std::io::{ErrorKind, Write};
+use std::io::ErrorKind;
 
 /// The end of a cause that another file of the run has the output's name.
 const HELD: &[u8] = b": has the name of another file of this run";
@@ -122,7 +124,10 @@ fn is_denied<D: Disk>(disk: &D, cache: &[u8]) -> bool {
 }
 
 /// Writes what to do about a cache that can't be read. If memory runs out, writes nothing.
-fn put_unread_cache<E: Write>(alloc: Global, cache: &[u8], errors: &mut E) {
+#[tactic(auto, using(cmd_call::proofs::Pages::says_nothing))]
+fn put_unread_cache<E: Hears>(alloc: Global, cache: &[u8], errors: &mut E)
+    ensures paged { SaysLines E.contents E.has_failed errors.old errors.new true [] }
+{
     let mut page = Page::new(alloc);
     page.put(keys::UNREAD_CACHE, &[WordPart::AsItIs(cache)]);
     if let Ok(words) = page.message() {
@@ -131,12 +136,15 @@ fn put_unread_cache<E: Write>(alloc: Global, cache: &[u8], errors: &mut E) {
 }
 
 /// Says what to do about the cache of a run, if one is named and it may not be read.
-fn explain_unread_cache<D: Disk, E: Write>(
+#[tactic(auto, using(cmd_call::proofs::Pages::says_nothing))]
+fn explain_unread_cache<D: Disk, E: Hears>(
     alloc: Global,
     disk: &D,
     settings: &Settings,
     errors: &mut E,
-) {
+)
+    ensures paged { SaysLines E.contents E.has_failed errors.old errors.new true [] }
+{
     if let Some(cache) = &settings.cache_name {
         if is_denied(disk, cache.as_slice()) {
             put_unread_cache(alloc, cache.as_slice(), errors);
@@ -144,11 +152,27 @@ fn explain_unread_cache<D: Disk, E: Write>(
     }
 }
 
+/// Writes why an output was refused, and what to do about the cache of the run, if it may not be
+/// read.
+fn put_refused<D: Disk, E: Hears>(
+    alloc: Global,
+    disk: &D,
+    settings: &Settings,
+    words: &[u8],
+    errors: &mut E,
+)
+    ensures paged { SaysLines E.contents E.has_failed errors.old errors.new true [] }
+{
+    put_words(alloc, words, errors);
+    explain_unread_cache(alloc, disk, settings, errors);
+}
+
 /// Says why an output of a run was refused, if it is asked and the cause isn't empty:
 /// `acrun: NAME: CAUSE`. If another file of the run has its name, the line says which, and if one of
 /// its directories is something else, it says so. If the run's cache may not be read, one more line
 /// says what to do (own).
-pub fn explain_put<D: Disk, E: Write>(
+#[tactic(auto, using(cmd_call::proofs::Pages::says_nothing, crate::proofs::Pages::asked_pages))]
+pub fn explain_put<D: Disk, E: Hears>(
     alloc: Global,
     disk: &D,
     is_asked: bool,
@@ -157,11 +181,11 @@ pub fn explain_put<D: Disk, E: Write>(
     errors: &mut E,
 )
     ensures silent { is_asked ≡ false → errors.new ≡ errors.old }
+    ensures paged { SaysLines E.contents E.has_failed errors.old errors.new is_asked [] }
 {
     if is_asked && !cause.is_empty() {
         if let Ok(words) = put_cause_words(alloc, given, cause) {
-            put_words(alloc, words.as_slice(), errors);
-            explain_unread_cache(alloc, disk, given.settings, errors);
+            put_refused(alloc, disk, given.settings, words.as_slice(), errors);
         }
     }
 }

@@ -1,9 +1,11 @@
 //! Why outputs are not made again.
 
-ghost use Rattle.std.specs.Prelude.{◌≡◌, false};
+ghost use Rattle.std.specs.Prelude.{◌≡◌, true, false, []};
+ghost use Rattle.cmd_call.specs.Lines.{SaysLines};
 
 use crate::page::{numbered, put_words};
 use crate::{Why, explain_template, explain_words};
+use cmd_call::Hears;
 use engine_frame::RemakeFault;
 use file_disk::Disk;
 use lint_table::Words;
@@ -11,7 +13,6 @@ use output_list::Output;
 use run_words::{record_words, tag_words};
 use status_record::Record;
 use std::alloc::{AllocError, Global};
-use std::io::Write;
 
 /// Appends the names of outputs.
 fn push_names<'a>(outputs: &'a [Output], names: &mut Vec<&'a [u8]>) -> Result<(), AllocError> {
@@ -30,7 +31,10 @@ fn of_record_tag(alloc: Global, record: &Record, name: &[u8]) -> Result<Words, A
 }
 
 /// Says that a name is that of no output of a record.
-fn explain_tag<E: Write>(alloc: Global, recorded: Option<&Record>, name: &[u8], errors: &mut E) {
+#[tactic(auto, using(cmd_call::proofs::Pages::says_nothing))]
+fn explain_tag<E: Hears>(alloc: Global, recorded: Option<&Record>, name: &[u8], errors: &mut E)
+    ensures paged { SaysLines E.contents E.has_failed errors.old errors.new true [] }
+{
     if let Some(recorded) = recorded {
         put_words(alloc, of_record_tag(alloc, recorded, name), errors);
     }
@@ -38,7 +42,8 @@ fn explain_tag<E: Write>(alloc: Global, recorded: Option<&Record>, name: &[u8], 
 
 /// Says more of why outputs are not made again, after its line, if it is asked. `recorded` is the
 /// record, if it was read. If a put was refused, `cause` says why.
-pub fn explain_remake<D: Disk, E: Write>(
+#[tactic(auto, using(cmd_call::proofs::Pages::says_nothing, crate::proofs::Pages::asked_pages))]
+pub fn explain_remake<D: Disk, E: Hears>(
     alloc: Global,
     disk: &D,
     why: &Why<'_>,
@@ -48,6 +53,7 @@ pub fn explain_remake<D: Disk, E: Write>(
     fault: &RemakeFault,
 )
     ensures silent { why.now.is_asked ≡ false → errors.new ≡ errors.old }
+    ensures paged { SaysLines E.contents E.has_failed errors.old errors.new why.now.is_asked [] }
 {
     if why.is_asked {
         match fault {

@@ -1,12 +1,14 @@
 //! The faults of a run.
 
-ghost use Rattle.std.specs.Prelude.{◌≡◌, false};
+ghost use Rattle.std.specs.Prelude.{◌≡◌, true, false, []};
+ghost use Rattle.cmd_call.specs.Lines.{SaysLines};
 
 use crate::page::{put_words, slices};
 use crate::precious::{Given, of_precious};
 use crate::source::explain_source;
 use crate::{Why, explain_template};
 use cachefile::CacheFault;
+use cmd_call::Hears;
 use deftable::Bytes;
 use engine_frame::Fault;
 use file_disk::Disk;
@@ -14,7 +16,6 @@ use lint_table::Words;
 use options_line::OptionFault;
 use run_words::{cache_words, option_words};
 use std::alloc::{AllocError, Global};
-use std::io::Write;
 
 /// Returns what is wrong with an argument.
 fn of_option(alloc: Global, why: &Why<'_>, fault: OptionFault) -> Result<Words, AllocError> {
@@ -47,7 +48,10 @@ fn of_cache(alloc: Global, given: &Given<'_>, fault: CacheFault) -> Result<Words
 }
 
 /// Says what is wrong with the cache or with a precious variable, after the line of the fault.
-fn explain_given<E: Write>(alloc: Global, given: &Given<'_>, errors: &mut E, fault: &Fault) {
+#[tactic(auto, using(cmd_call::proofs::Pages::says_nothing))]
+fn explain_given<E: Hears>(alloc: Global, given: &Given<'_>, errors: &mut E, fault: &Fault)
+    ensures paged { SaysLines E.contents E.has_failed errors.old errors.new true [] }
+{
     match fault {
         Fault::Cache(fault) => put_words(alloc, of_cache(alloc, given, *fault), errors),
         Fault::Precious(fault) => put_words(alloc, of_precious(alloc, given, *fault), errors),
@@ -57,7 +61,8 @@ fn explain_given<E: Write>(alloc: Global, given: &Given<'_>, errors: &mut E, fau
 
 /// Says what is wrong with what a run is given, after the line of the fault, if it is asked. If the
 /// source was judged before the fault was found, `given` is what the run was given then.
-pub fn explain_fault<D: Disk, E: Write>(
+#[tactic(auto, using(cmd_call::proofs::Pages::says_nothing, crate::proofs::Pages::asked_pages))]
+pub fn explain_fault<D: Disk, E: Hears>(
     alloc: Global,
     disk: &D,
     why: &Why<'_>,
@@ -66,6 +71,7 @@ pub fn explain_fault<D: Disk, E: Write>(
     fault: &Fault,
 )
     ensures silent { why.now.is_asked ≡ false → errors.new ≡ errors.old }
+    ensures paged { SaysLines E.contents E.has_failed errors.old errors.new why.now.is_asked [] }
 {
     if why.is_asked {
         match fault {

@@ -1,9 +1,12 @@
 //! A number of children that is not from 1 to 16.
 
+ghost use Rattle.std.specs.Prelude.{true, []};
+ghost use Rattle.cmd_call.specs.Lines.{SaysLines};
+
 use crate::lines::put_words;
+use cmd_call::Hears;
 use deftable::Bytes;
 use std::alloc::{AllocError, Global};
-use std::io::Write;
 
 /// Returns the digits of a word `-jDIGITS`, if it is one and the first isn't 0 before another.
 fn digits_of(word: &[u8]) -> Option<&[u8]> {
@@ -38,7 +41,10 @@ fn window_words(alloc: Global, digits: &[u8]) -> Result<Bytes, AllocError> {
 
 /// Says that the number of children that the first word gives is not from 1 to 16, if it is not.
 /// Returns whether it said that.
-pub(crate) fn put_window<E: Write>(alloc: Global, words: &[Bytes], errors: &mut E) -> bool {
+#[tactic(auto, using(cmd_call::proofs::Pages::says_nothing))]
+pub(crate) fn put_window<E: Hears>(alloc: Global, words: &[Bytes], errors: &mut E) -> bool
+    ensures paged { SaysLines E.contents E.has_failed errors.old errors.new true [] }
+{
     let Some(word) = words.first() else {
         return false;
     };
