@@ -4,12 +4,12 @@ ghost use Rattle.std.specs.Prelude.{◌≡◌, true, false, []};
 ghost use Rattle.cmd_call.specs.Lines.{SaysLines};
 
 use crate::asking::Why;
-use crate::lines::put_words;
+use crate::lines::{explain_words, put_words};
 use cmd_call::Hears;
 use crew_refusals::words_of;
 use deftable::Bytes;
 use file_disk::Disk;
-use file_texts::{path_in, unread_cause};
+use file_texts::{is_own, path_in, unread_cause};
 use lint_table::{Page, keys};
 use std::alloc::Global;
 use std::io;
@@ -99,8 +99,18 @@ pub fn explain_file<D: Disk, E: Hears>(
     }
 }
 
+/// Says why a name is refused that a run has for itself, if it is asked.
+pub fn explain_own<E: Hears>(alloc: Global, is_asked: bool, errors: &mut E)
+    ensures silent { is_asked ≡ false → errors.new ≡ errors.old }
+    ensures paged { SaysLines E.contents E.has_failed errors.old errors.new is_asked [] }
+{
+    let words = b"the checks of a run make files whose names begin with conftest";
+    explain_words(alloc, is_asked, words, errors);
+}
+
 /// Says why the template of this name was not read, if it is asked: `acrun: PATH: CAUSE`, as
-/// [`explain_file`] does, with the path at which it was looked for.
+/// [`explain_file`] does, with the path at which it was looked for; or that a run has the path for
+/// itself.
 #[tactic(auto, using(cmd_call::proofs::Pages::says_nothing))]
 pub fn explain_template<D: Disk, E: Hears>(
     alloc: Global,
@@ -114,6 +124,9 @@ pub fn explain_template<D: Disk, E: Hears>(
 {
     if let Ok(path) = path_in(alloc, why.srcdir, name) {
         let path = path.as_slice();
-        explain_file(alloc, disk, why.is_asked, path, path, errors);
+        match is_own(disk, path) {
+            Ok(true) => explain_own(alloc, why.is_asked, errors),
+            _ => explain_file(alloc, disk, why.is_asked, path, path, errors),
+        }
     }
 }

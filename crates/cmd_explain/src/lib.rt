@@ -58,7 +58,7 @@ pub use children::explain_cut;
 pub use compilers::explain_compilers;
 pub use directories::explain_directories;
 pub use doubts::{explain_doubts, explain_long_cache};
-pub use files::{explain_error, explain_file, explain_template};
+pub use files::{explain_error, explain_file, explain_own, explain_template};
 pub use helps::explain_help;
 pub use lines::explain_words;
 pub use precious::Given;

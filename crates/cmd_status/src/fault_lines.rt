@@ -12,7 +12,7 @@ ghost use Rattle.cmd_status.specs.declared.happened.Happened.TheVariants.{NotRea
 use crate::happened::{Happened, not_recorded, refused};
 use cmd_call::{FAULT, Hears, tell_file, tell_memory, tell_precious};
 use cmd_explain::{
-    Given, Why, explain_error, explain_fault, explain_file, explain_remake, explain_words,
+    Given, Why, explain_error, explain_fault, explain_file, explain_own, explain_remake,
 };
 use engine_frame::{Fault, RemakeFault};
 use fault_spots::{tell_fault, tell_remake_fault};
@@ -140,8 +140,7 @@ pub fn tell_own_cache<E: Hears>(
         error_line (codes "file") name.now ∷ []) }
 {
     let _ = tell_file(errors, name);
-    let words = b"the checks of a run make files whose names begin with conftest";
-    explain_words(alloc, is_asked, words, errors);
+    explain_own(alloc, is_asked, errors);
     Happened::NotRead
 }
 

@@ -370,6 +370,7 @@ run_is law = record {
   report = report;
   lines = disks.lines;
   given = given_before;
+  apart = λ file. refl;
   starts = starts;
   meant = meant;
   are_lines = subst (λ a. AreLines a disks.lines) (sym handed_is) (said cache_text (record_text recorded) makefile_text header_text_made log_text);
