@@ -60,7 +60,8 @@ fn tell_unknown<E: Hears>(alloc: Global, is_asked: bool, words: &[Bytes], errors
 
 /// Runs the command that the words name, if it is one that explains the program, and returns its
 /// exit status. Any other words are reported as no command.
-fn explain<D: Disk, R: Read, W: Write, E: Hears>(
+#[tactic(auto, using(crate::proofs::Refusals::help_told, crate::proofs::Refusals::version_told))]
+fn explain<D: Disk, R: Read, W: Hears, E: Hears>(
     terminal: &mut Terminal<'_, D, R, W, E>,
     words: &[Bytes],
 ) -> u8
@@ -76,7 +77,7 @@ fn explain<D: Disk, R: Read, W: Write, E: Hears>(
     ensures files { terminal.new.outputs ≡ terminal.old.outputs }
     ensures refused { result ≡ 2
         → TellsWhy E.contents E.has_failed terminal.old.errors terminal.new.errors
-        terminal.old.is_asked (call_of words.now) }
+        terminal.old.is_asked (W.has_failed terminal.new.output) (call_of words.now) }
 {
     let alloc = terminal.alloc;
     let output = &mut terminal.output;
@@ -332,7 +333,7 @@ pub fn run<M: Meeting, D: Disk, C: Crew + Causes, T: Tools, R: Read, W: Hears, E
     // error has its line. If it is asked why, it has pages too, and otherwise nothing more.
     ensures refused { result ≡ 2
         → TellsWhy E.contents E.has_failed terminal.old.errors terminal.new.errors
-        terminal.old.is_asked (call_of words.now) }
+        terminal.old.is_asked (W.has_failed terminal.new.output) (call_of words.now) }
     ensures filter_refused { IfFilter (call_of words.now) (
         result ≡ 2
         → FilterSays E.contents E.has_failed terminal.old.errors terminal.new.errors
