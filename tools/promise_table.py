@@ -37,6 +37,8 @@ from the sources.
 WHY_NONE = {
     "tool_start": "It takes what the program starts with. That the right program is started is tested.",
     "crew_launch": "They ask the system in which pipe there is something to read. Whatever it answers, no byte is lost.",
+    "cmd_standin": "It takes the handle by which files are made. Nothing is known of them.",
+    "cmd_call": "It gives the error of the last write. Which one the system gives is not known.",
     "lint_macros": "Each index is exact, whoever made it: it has a ghost field that says so, and its calls are stated by that.",
     "lint_words": "They choose words for a reader. Which words are right is a judgement, and examples hold it.",
     "run_words": "They choose words for a reader. Which words are right is a judgement, and examples hold it.",

@@ -17,7 +17,7 @@ pages_joined is_asked xs ys first_all second_all (page text {lines} {all} is fir
 no_pages : (xs every : List (List ℕ)) → WithPages false xs every → every ≡ xs
 no_pages xs every nothing = refl
 no_pages xs every (line text {lines} {all} rest) = ap (λ l. text ∷ l) (no_pages lines all rest)
-no_pages xs every (page text {lines} {all} is rest) = absurd is
+no_pages xs every (page text {lines} {all} is rest) = absurd (cc)
 
 -- Nothing was said.
 pub says_nothing : {E : Type 0} (contents : E → Option (List ℕ)) (has_failed : E → Bool) (e : E) (is_asked : Bool) → SaysLines contents has_failed e e is_asked []

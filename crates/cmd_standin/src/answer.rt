@@ -6,7 +6,7 @@
 //! other one is accepted. A list with `!meet` as its first line tests that children run at the same
 //! time: each makes a file, and one of them waits for the file of another.
 
-ghost use Rattle.std.specs.Prelude.{◌≡◌, ◌↔◌, ◌⊎◌, ℕ, List, [], ◌∷◌, ◌++◌, Some, IsTrue, codes, IfOk, OnErr, OnOk, IfSome, IfNone};
+ghost use Rattle.std.specs.Prelude.{◌≡◌, ◌↔◌, ◌⊎◌, ℕ, List, [], ◌∷◌, ◌++◌, Some, IsTrue, codes, string_bytes, IfOk, OnErr, OnOk, IfSome, IfNone};
 ghost use Rattle.std.specs.Option.{option_copied};
 ghost use Rattle.std.specs.Io.KnownBytes.{Appends};
 ghost use Rattle.cmd_standin.specs.Standin as meant;
@@ -182,16 +182,33 @@ fn meet<M: Meeting>(alloc: Global, meeting: &mut M, name: Option<&Bytes>) -> Res
 }
 
 /// Makes the file that shows that the conftest was seen, if that is possible.
-#[tactic(auto, using(crate::proofs::Meetings::none_made))]
+#[tactic(auto, using(crate::proofs::Meetings::none_made, crate::proofs::Meetings::made_as))]
 fn make_seen<M: Meeting>(alloc: Global, meeting: &mut M, name: &[u8]) -> Result<(), AllocError>
     ensures { IsMade (M.made meeting.old) (M.made meeting.new) (name.now ++ codes ".seen") }
 {
-    let Ok(name) = std::str::from_utf8(name) else {
+    let Some(name) = text_of_name(name) else {
         return Ok(());
     };
-    let seen = format!(in alloc; "{name}.seen")?;
+    let seen = seen_name(alloc, name)?;
     meeting.make(seen.as_str());
     Ok(())
+}
+
+/// Returns a name as a text, or `None` if it is none.
+fn text_of_name(name: &[u8]) -> Option<&str>
+    ensures { IfSome result (λ text. text.now ≡ name.now) }
+{
+    match std::str::from_utf8(name) {
+        Ok(text) => Some(text),
+        Err(_) => None,
+    }
+}
+
+/// Returns the name of the file that shows that a conftest of this name was seen.
+fn seen_name(alloc: Global, name: &str) -> Result<String, AllocError>
+    ensures { IfOk result (λ seen. string_bytes seen ≡ name.now ++ codes ".seen") }
+{
+    format!(in alloc; "{name}.seen")
 }
 
 /// Looks for the file that is waited for.

@@ -14,3 +14,6 @@ returns-clause-answer g c =
     judged_status _ c.args.words.now c.as_slice-2.result.now c.as_slice-3.result.now name c.judge.result (subst (ReadsText _ list_name) (sym c.as_slice-2.ensures) c.in_ok-list.ensures)
     (ap is_meeting (c.as_slice-2.ensures ∙ sym c.as_slice.ensures) ∙ sym c.asks_to_meet.ensures ∙ c.if-asks_to_meet.false)
     c.name_of_conftest-name.ensures (subst (ReadsConftest _ name) (sym c.as_slice-3.ensures) c.in_ok-conftest.ensures) c.judge.ensures.barred c.judge.ensures.passed c.judge.ensures.status
+
+pub returns-then-asks_to_meet-clause-meets : goal.returns-then-asks_to_meet-clause-meets
+returns-then-asks_to_meet-clause-meets g c = c.meet.ensures.meets c.args.words.now c.name_of_conftest-name.ensures
