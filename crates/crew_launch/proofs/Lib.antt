@@ -4,5 +4,6 @@ mod Explaining
 mod Freeing
 mod Naming
 mod Owning
+mod OwnNames
 mod Queue
 mod Spoilt

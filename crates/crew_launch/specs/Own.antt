@@ -1,11 +1,16 @@
 -- The files that a run has for itself, and the deeds that are done to no other.
 use Rattle.std.specs.Prelude.{◌≡◌, ◌⊎◌, ◌==◌, ◌&&◌, ℕ, not, Bool, true, List, codes, All, Option, Some}
 use Rattle.std.specs.List.{list_any, starts_with}
+use Rattle.crew_jobs.specs.Probe.{file_name}
 use Rattle.file_disk.specs.Known.{Deed, Failed, Filled, Made, MadeDirectories, Removed, Renamed}
 
 -- The name of a file that a run has for itself: it begins with `conftest`, and has no slash. (own)
 unfoldable pub is_own : List ℕ → Bool
 is_own name = starts_with ◌==◌ name (codes "conftest") && not (list_any (λ b. b == 47) name)
+
+-- The conftest of each job has such a name. (own)
+abbrev pub ConftestsAreOwn : Type 0
+ConftestsAreOwn = (number : ℕ) → is_own (file_name number) ≡ true
 
 -- Each name of a deed has this property. (own)
 abbrev pub IsDeedOn : (List ℕ → Type 0) → Deed → Type 0

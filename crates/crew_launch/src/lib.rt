@@ -43,6 +43,7 @@ mod watch;
 
 pub use ending::end_child;
 pub use launcher::{DiskLauncher, Launcher};
+pub use own::conftests_are_own;
 pub use pipe::Pipe;
 pub use pipe_end::PipeEnd;
 pub use queued::Queued;
