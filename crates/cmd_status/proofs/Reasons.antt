@@ -29,10 +29,11 @@ pub taken_unless : (start now : Option (List ℕ)) (has_failed is_cut is_taken :
 taken_unless start now has_failed is_cut is_taken text is begun = subst (λ b. IsBegun start now has_failed b text) is begun
 
 -- What is printed of a run.
-pub printed_unless : (start now : Option (List ℕ)) (has_failed is_cut is_taken quiet : Bool) (lent messages : List Note) (lines : List ℕ)
-    → lent ≡ messages → is_cut ≡ not is_taken → IsBegun start now has_failed is_cut (printed quiet lent lines) → IsBegun start now has_failed (not is_taken) (printed quiet messages lines)
-printed_unless start now has_failed is_cut is_taken quiet lent messages lines same is begun =
-    subst (λ ms. IsBegun start now has_failed (not is_taken) (printed quiet ms lines)) same (taken_unless start now has_failed is_cut is_taken (printed quiet lent lines) is begun)
+pub printed_unless : (start now : Option (List ℕ)) (has_failed is_cut is_taken quiet : Bool) (lent messages : List Note) (handed lines : List ℕ)
+    → lent ≡ messages → handed ≡ lines → is_cut ≡ not is_taken → IsBegun start now has_failed is_cut (printed quiet lent handed) → IsBegun start now has_failed (not is_taken) (printed quiet messages lines)
+printed_unless start now has_failed is_cut is_taken quiet lent messages handed lines same same_lines is begun =
+    subst (λ ls. IsBegun start now has_failed (not is_taken) (printed quiet messages ls)) same_lines
+    (subst (λ ms. IsBegun start now has_failed (not is_taken) (printed quiet ms handed)) same (taken_unless start now has_failed is_cut is_taken (printed quiet lent handed) is begun))
 
 -- The messages of a run were printed, and pages, and then lines were said.
 pub report_said : {E : Type 0} (contents : E → Option (List ℕ)) (has_failed : E → Bool) (old mid paged new : E) (is_asked : Bool) (lent messages : List Note) (lines : List (List ℕ)) → lent ≡ messages

@@ -40,7 +40,6 @@ fn tell_line<E: Hears>(given: Option<&Given<'_>>, errors: &mut E, fault: &Fault)
 /// Reports what is wrong with what a run is given, and says more of it if it is asked. Returns what
 /// happened. If the source was judged before the fault was found, `given` is what the run was given
 /// then.
-#[tactic(auto, using(cmd_call::proofs::Pages::line_paged))]
 pub fn tell_run<D: Disk, E: Hears>(
     alloc: Global,
     disk: &D,
@@ -71,7 +70,6 @@ pub fn no_memory<E: Hears>(errors: &mut E) -> Happened
 /// Reports why outputs are not made again, or a run is not done again, and returns the exit status.
 /// Says more of it if it is asked. `recorded` is the record, if it was read. If a put was refused,
 /// `cause` says why, and it is empty if that is not known.
-#[tactic(auto, using(cmd_call::proofs::Pages::line_paged))]
 pub fn tell_remake<D: Disk, E: Hears>(
     alloc: Global,
     disk: &D,
@@ -109,7 +107,6 @@ pub fn no_record<D: Disk, E: Hears>(
 
 /// Reports that the file at this path can't be read, and says why if it is asked. Returns the exit
 /// status.
-#[tactic(auto, using(cmd_call::proofs::Pages::line_paged))]
 pub fn tell_unread<D: Disk, E: Hears>(
     alloc: Global,
     disk: &D,
@@ -128,7 +125,6 @@ pub fn tell_unread<D: Disk, E: Hears>(
 
 /// Reports that the cache has a name that a run has for itself, and says why that is refused if it
 /// is asked. Returns what happened.
-#[tactic(auto, using(cmd_call::proofs::Pages::line_paged))]
 pub fn tell_own_cache<E: Hears>(
     alloc: Global,
     is_asked: bool,
@@ -145,7 +141,6 @@ pub fn tell_own_cache<E: Hears>(
 }
 
 /// Reports that the file of this name can't be written, and says why if it is asked.
-#[tactic(auto, using(cmd_call::proofs::Pages::line_paged))]
 pub(crate) fn tell_unwritten<E: Hears>(
     alloc: Global,
     is_asked: bool,

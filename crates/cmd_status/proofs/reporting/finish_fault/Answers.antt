@@ -1,4 +1,4 @@
-use Rattle.std.proofs.Common.{◌≡◌, [], ◌∷◌, Err, false, refl, subst, sym}
+use Rattle.std.proofs.Common.{◌≡◌, [], ◌∷◌, Err, Some, false, refl, subst, sym}
 use Rattle.cmd_status.specs.Happened.{is_all_done, is_output_cut}
 use Rattle.cmd_call.specs.Lines.{SaysLines}
 use Rattle.cmd_call.specs.Precious.{precious_in}
@@ -29,5 +29,5 @@ returns-in_default-clause-finished g c = (
   _,
   told_alone g.D.Disk.known c.args.given.now.settings.now.quiet _ _ (precious_in c.args.given.now.source.now) c.args.fault _ c.in_default.not-PutRefused c.tell_run.ensures.happened refl,
   uncut g.W.Write.contents g.W.Hears.has_failed g.E.Write.contents g.E.Hears.has_failed _ _ _ c.args.terminal.now.is_asked c.args.fault _ _ c.tell_run.ensures.happened
-      (subst (λ asked. SaysLines g.E.Write.contents g.E.Hears.has_failed c.args.terminal.now.errors c.tell_run.new.errors asked (run_line _ c.args.fault ∷ [])) c.requires.asked c.tell_run.ensures.told),
+      (subst (λ asked. SaysLines g.E.Write.contents g.E.Hears.has_failed c.args.terminal.now.errors c.tell_run.new.errors asked (run_line (Some (precious_in c.args.given.now.source.now)) c.args.fault ∷ [])) c.requires.asked c.tell_run.ensures.told),
 )

@@ -4,7 +4,7 @@ use Rattle.cmd_status.proofs.reporting.print_report.Goals as goal
 
 pub returns-clause-printed : goal.returns-clause-printed
 returns-clause-printed g c =
-    printed_unless _ _ _ _ _ c.args.settings.now.quiet _ _ _ c.as_slice-messages.ensures c.tell_written.ensures.done c.print_all-done.ensures.begun
+    printed_unless _ _ _ _ _ c.args.settings.now.quiet _ _ _ _ c.as_slice-messages.ensures c.lines-lines.ensures.value c.tell_written.ensures.done c.print_all-done.ensures.begun
 
 pub returns-clause-said : goal.returns-clause-said
 returns-clause-said g c =
