@@ -66,7 +66,7 @@ fn status_over<R: Read, W: Write, E: Write>(
         env: &[],
         outputs: FileOutputs::new(rt.alloc(), Host::new(rt)),
         input,
-        output,
+        output: Heard::new(output),
         errors: Heard::new(errors),
     };
     run(&mut terminal, words, false)

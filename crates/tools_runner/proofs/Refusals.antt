@@ -5,11 +5,11 @@ use Rattle.cmd_call.specs.Calls.{ProgramCall, Lint, Port, Why, Help, Version}
 use Rattle.tools_runner.specs.Refusals.{IsUsageTold, TellsWhy}
 
 -- The line of the words is told, whatever the call is.
-pub usage_told : {E : Type 0} (contents : E → Option (List ℕ)) (has_failed : E → Bool) (old new : E) (call : ProgramCall)
-    → IsUsageTold contents has_failed old new → TellsWhy contents has_failed old new call
-usage_told contents has_failed old new (Help words) told = inl told
-usage_told contents has_failed old new Version told = inl told
-usage_told contents has_failed old new (Lint words) told = λ e. told
-usage_told contents has_failed old new (Port words) told = λ e. told
-usage_told contents has_failed old new (Why words) told = tt
-usage_told contents has_failed old new call told = told
+pub usage_told : {E : Type 0} (contents : E → Option (List ℕ)) (has_failed : E → Bool) (old new : E) (is_full : Bool) (call : ProgramCall)
+    → IsUsageTold contents has_failed old new → TellsWhy contents has_failed old new is_full call
+usage_told contents has_failed old new is_full (Help words) told = inl told
+usage_told contents has_failed old new is_full Version told = inl told
+usage_told contents has_failed old new is_full (Lint words) told = λ e. told
+usage_told contents has_failed old new is_full (Port words) told = λ e. told
+usage_told contents has_failed old new is_full (Why words) told = tt
+usage_told contents has_failed old new is_full call told = told

@@ -10,19 +10,20 @@ use Rattle.cmd_port.specs.Asked.{request_of}
 abbrev pub IsUsageTold : {E : Type 0} → (E → Option (List ℕ)) → (E → Bool) → E → E → Type 0
 IsUsageTold contents has_failed old new = IsTold contents has_failed old new (error_line (codes "usage") [])
 
--- The line of standard output was written, which didn't take the text. (own)
-abbrev pub IsOutputTold : {E : Type 0} → (E → Option (List ℕ)) → (E → Bool) → E → E → Type 0
-IsOutputTold contents has_failed old new = IsTold contents has_failed old new (error_line (codes "file") (codes "standard output"))
+-- Standard output has failed to take the text, and the line that says so was written. (own)
+abbrev pub IsOutputTold : {E : Type 0} → (E → Option (List ℕ)) → (E → Bool) → E → E → Bool → Type 0
+IsOutputTold contents has_failed old new is_full = (is_full ≡ true) × IsTold contents has_failed old new (error_line (codes "file") (codes "standard output"))
 
--- What was said after a status of 2: for help and the version, the line of the words or of standard output; for options that `lint`
--- doesn't know, for wrong words of `port`, and for words that are no command of the tools, the line of the words. (own)
-abbrev pub TellsWhy : {E : Type 0} → (E → Option (List ℕ)) → (E → Bool) → E → E → ProgramCall → Type 0
-TellsWhy contents has_failed old new (Help words) = IsUsageTold contents has_failed old new ⊎ IsOutputTold contents has_failed old new
-TellsWhy contents has_failed old new Version = IsUsageTold contents has_failed old new ⊎ IsOutputTold contents has_failed old new
-TellsWhy contents has_failed old new (Lint words) = list_any is_unknown words ≡ true → IsUsageTold contents has_failed old new
-TellsWhy contents has_failed old new (Port words) = request_of words ≡ None → IsUsageTold contents has_failed old new
-TellsWhy contents has_failed old new (Why words) = Unit {0}
-TellsWhy contents has_failed old new call = IsUsageTold contents has_failed old new
+-- What was said after a status of 2: for help and the version, the line of the words, or that of standard output, if that has failed;
+-- for options that `lint` doesn't know, for wrong words of `port`, and for words that are no command of the tools, the line of the
+-- words. (own)
+abbrev pub TellsWhy : {E : Type 0} → (E → Option (List ℕ)) → (E → Bool) → E → E → Bool → ProgramCall → Type 0
+TellsWhy contents has_failed old new is_full (Help words) = IsUsageTold contents has_failed old new ⊎ IsOutputTold contents has_failed old new is_full
+TellsWhy contents has_failed old new is_full Version = IsUsageTold contents has_failed old new ⊎ IsOutputTold contents has_failed old new is_full
+TellsWhy contents has_failed old new is_full (Lint words) = list_any is_unknown words ≡ true → IsUsageTold contents has_failed old new
+TellsWhy contents has_failed old new is_full (Port words) = request_of words ≡ None → IsUsageTold contents has_failed old new
+TellsWhy contents has_failed old new is_full (Why words) = Unit {0}
+TellsWhy contents has_failed old new is_full call = IsUsageTold contents has_failed old new
 
 -- The call is none of the tools: it neither explains something nor rewrites a source. (own)
 abbrev pub IsOther : ProgramCall → Type 0

@@ -28,7 +28,7 @@ use file_disk::{Disk, Host};
 use file_texts::FileOutputs;
 use patient_writer::Patient;
 use std::alloc::Global;
-use std::io::{self, Input, IsTerminal, Read, Write};
+use std::io::{self, Input, IsTerminal, Read};
 use text_controls::Shown;
 
 /// Runs the command that the words name, and returns its exit status.
@@ -40,7 +40,7 @@ use text_controls::Shown;
 ///
 /// Each error is reported as one line on standard error. If that can't be written, only the status
 /// reports it.
-pub fn run<D: Disk, R: Read, W: Write, E: Hears>(
+pub fn run<D: Disk, R: Read, W: Hears, E: Hears>(
     terminal: &mut Terminal<'_, D, R, W, E>,
     words: &[Bytes],
     is_terminal: bool,
@@ -88,10 +88,10 @@ pub fn run<D: Disk, R: Read, W: Write, E: Hears>(
     ensures output { IsOther (call_of words.now) → terminal.new.output ≡ terminal.old.output }
     ensures files { terminal.new.outputs ≡ terminal.old.outputs }
     // A refusal is told, unless standard error failed: what refuses is one of these, and standard
-    // error has its line, and nothing more.
+    // error has its line, and nothing more. The line is about standard output only if that has failed.
     ensures refused { result ≡ 2
         → TellsWhy E.contents E.has_failed terminal.old.errors terminal.new.errors
-        (call_of words.now) }
+        (W.has_failed terminal.new.output) (call_of words.now) }
     ensures why_refused { IfWhy (call_of words.now) (λ asked.
         result ≡ 2
         → Tells E.contents E.has_failed terminal.old.errors terminal.new.errors (
@@ -189,7 +189,7 @@ fn command_of(rt: &HostRuntime, alloc: Global, words: &[Bytes], env: &[(Bytes, B
         env,
         outputs: FileOutputs::new(alloc, Host::from_here(rt)),
         input: rt.reader(),
-        output: Shown::new(Patient::new(io::writer(rt), rt), is_shown),
+        output: Heard::new(Shown::new(Patient::new(io::writer(rt), rt), is_shown)),
         errors: Heard::new(Shown::new(Patient::new(rt.stderr(), rt), is_seen)),
     };
     run(&mut terminal, words, is_terminal)

@@ -24,7 +24,7 @@ pub returns-in_default-clause-lint : goal.returns-in_default-clause-lint
 returns-in_default-clause-lint g c = unanswered_lint _ _ _ _ c.tell_usage.ensures.status
 
 pub returns-in_default-clause-refused : goal.returns-in_default-clause-refused
-returns-in_default-clause-refused g c = λ e. usage_told _ _ _ _ _ c.tell_usage.ensures.told
+returns-in_default-clause-refused g c = λ e. usage_told _ _ _ _ _ _ c.tell_usage.ensures.told
 
 pub returns-in_default-clause-lint_refused : goal.returns-in_default-clause-lint_refused
 returns-in_default-clause-lint_refused g c = no_lint c.call_of.result _ _ c.in_default.not-Lint c.call_of.ensures.call
