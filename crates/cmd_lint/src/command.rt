@@ -1,20 +1,22 @@
 //! The command.
 
-ghost use Rattle.std.specs.Prelude.{◌≡◌, ◌≢◌, ◌⊎◌, ◌≤◌, ◌&&◌, ◌||◌, ℕ, List, Bool, true, false, [], ◌∷◌, IfOk, IfSome, codes};
+ghost use Rattle.std.specs.Prelude.{◌≡◌, ◌≢◌, ◌⊎◌, ◌≤◌, ◌&&◌, ◌||◌, ℕ, List, Bool, true, false, [], ◌∷◌, Option, IfOk, MatchOption, OnErr, codes};
 ghost use Rattle.std.specs.List.{list_any, filter};
 ghost use Rattle.cmd_call.specs.Calls as calls;
 ghost use Rattle.cmd_call.specs.Lines.{AreSaid, IsTold, error_line};
 ghost use Rattle.cmd_lint.specs.Colours as colours;
 ghost use Rattle.cmd_lint.specs.Refusals.{AreSaidOf, IsSaidOf};
 ghost use Rattle.cmd_lint.specs.Status as specs;
+ghost use Rattle.file_disk.specs.Known.{Known};
+ghost use Rattle.lint_sources.specs.Sources.{IsUnread};
 
 use crate::words::{asks_json, has_name, has_unknown, is_name, names_one};
-use cmd_call::{Hears, tell_file, tell_memory, tell_usage};
+use cmd_call::{Hears, print_text, tell_file, tell_memory, tell_usage};
 use deftable::Bytes;
 use file_disk::Disk;
 use lint_sources::{FindingForm, SOURCE, has_input, linted_page, read_named};
 use std::alloc::{AllocError, Global};
-use std::io::{Read, Write};
+use std::io::{self, Read};
 
 /// The name of standard output in the line of a fault.
 const OUTPUT: &[u8] = b"standard output";
@@ -27,19 +29,32 @@ fn status_of(has_error: bool) -> u8
     if has_error { 1 } else { 0 }
 }
 
-/// Writes a page, and returns the exit status: that which is given, unless the page can't be
+/// Prints a text. If that fails, the stream has failed.
+fn put_text<W: Hears>(text: &[u8], output: &mut W) -> io::Result<()>
+    ensures cut { OnErr result (W.has_failed output.new ≡ true) }
+    ensures kept { W.has_failed output.new ≡ false → W.has_failed output.old ≡ false }
+{
+    match print_text(text, output) {
+        Ok(()) => Ok(()),
+        Err(error) => Err(error),
+    }
+}
+
+/// Prints a page, and returns the exit status: that which is given, unless the page can't be
 /// written.
 #[tactic(auto, using(crate::proofs::Saying::nothing_said, crate::proofs::Saying::output_said))]
-fn put_page<W: Write, E: Hears>(page: &[u8], status: u8, output: &mut W, errors: &mut E) -> u8
+fn put_page<W: Hears, E: Hears>(page: &[u8], status: u8, output: &mut W, errors: &mut E) -> u8
     requires { status ≤ 1 }
     ensures bound { result ≤ 2 }
     ensures status { result ≢ 2 → result ≡ status }
     ensures silent { result ≢ 2 → errors.new ≡ errors.old }
-    ensures said { (name : List ℕ)
-        → (lines : List (List ℕ)) × IsSaidOf name result lines
+    ensures kept { W.has_failed output.new ≡ false → W.has_failed output.old ≡ false }
+    ensures said { (files : Option Known) (is_stream : Bool) (name : List ℕ)
+        → (lines : List (List ℕ))
+        × IsSaidOf files (W.has_failed output.new) is_stream name result lines
         × AreSaid E.contents E.has_failed errors.old errors.new lines }
 {
-    match output.write_all(page) {
+    match put_text(page, output) {
         Ok(()) => status,
         Err(_) => tell_file(errors, OUTPUT),
     }
@@ -58,7 +73,8 @@ fn page_for<D: Disk, R: Read>(
 ) -> Result<Option<(Vec<u8>, bool)>, AllocError>
     ensures input { reads ≡ false → input.new ≡ input.old }
     ensures linted { IfOk result (λ o.
-        IfSome o (λ r.
+        MatchOption o (IsUnread (D.known disk.now) (reads && calls.is_input word.now) word.now)
+        (λ r.
         specs.IsLinted (D.known disk.now) (reads && calls.is_input word.now) word.now r.1)) }
 {
     match read_named(alloc, disk, reads, input, word)? {
@@ -69,7 +85,7 @@ fn page_for<D: Disk, R: Read>(
 
 /// Lints the source of a name, and returns the exit status.
 #[tactic(auto, using(crate::proofs::Saying::file_said))]
-fn lint_name<D: Disk, R: Read, W: Write, E: Hears>(
+fn lint_name<D: Disk, R: Read, W: Hears, E: Hears>(
     alloc: Global,
     disk: &D,
     form: FindingForm,
@@ -87,7 +103,10 @@ fn lint_name<D: Disk, R: Read, W: Write, E: Hears>(
         → (has : Bool)
         × specs.IsLinted (D.known disk.now) (reads && calls.is_input name.now) name.now has
         × (result ≡ specs.status_of has) }
-    ensures said { (lines : List (List ℕ)) × IsSaidOf name.now result lines
+    ensures kept { W.has_failed output.new ≡ false → W.has_failed output.old ≡ false }
+    ensures said { (lines : List (List ℕ))
+        × IsSaidOf (D.known disk.now) (W.has_failed output.new)
+        (reads && calls.is_input name.now) name.now result lines
         × AreSaid E.contents E.has_failed errors.old errors.new lines }
 {
     match page_for(alloc, disk, form, name, reads, is_last, input) {
@@ -115,7 +134,7 @@ fn worse(status: u8, next: u8) -> u8
 }
 
 /// Lints each source that words name, and returns the exit status, which is the largest of theirs.
-fn lint_names<D: Disk, R: Read, W: Write, E: Hears>(
+fn lint_names<D: Disk, R: Read, W: Hears, E: Hears>(
     alloc: Global,
     disk: &D,
     form: FindingForm,
@@ -132,7 +151,9 @@ fn lint_names<D: Disk, R: Read, W: Write, E: Hears>(
     ensures linted { result ≢ 2
         → (has : Bool) × specs.AreLinted (D.known disk.now) (filter specs.is_name words.now) has
         × (result ≡ specs.status_of has) }
-    ensures said { (lines : List (List ℕ)) × AreSaidOf (filter specs.is_name words.now) lines
+    ensures said { (lines : List (List ℕ))
+        × AreSaidOf (D.known disk.now) (W.has_failed output.new) (filter specs.is_name words.now)
+        lines
         × (result ≡ 2 → lines ≢ [])
         × AreSaid E.contents E.has_failed errors.old errors.new lines }
 {
@@ -152,7 +173,7 @@ fn lint_names<D: Disk, R: Read, W: Write, E: Hears>(
 
 /// Lints the source in the current directory, and returns the exit status.
 #[tactic(auto, using(crate::proofs::Statuses::here, crate::proofs::Saying::said_here))]
-fn lint_here<D: Disk, R: Read, W: Write, E: Hears>(
+fn lint_here<D: Disk, R: Read, W: Hears, E: Hears>(
     alloc: Global,
     disk: &D,
     form: FindingForm,
@@ -166,7 +187,8 @@ fn lint_here<D: Disk, R: Read, W: Write, E: Hears>(
     ensures linted { result ≢ 2
         → (has : Bool) × specs.AreLinted (D.known disk.now) (codes "configure.ac" ∷ []) has
         × (result ≡ specs.status_of has) }
-    ensures said { (lines : List (List ℕ)) × AreSaidOf (codes "configure.ac" ∷ []) lines
+    ensures said { (lines : List (List ℕ))
+        × AreSaidOf (D.known disk.now) (W.has_failed output.new) (codes "configure.ac" ∷ []) lines
         × (result ≡ 2 → lines ≢ [])
         × AreSaid E.contents E.has_failed errors.old errors.new lines }
 {
@@ -178,7 +200,7 @@ fn lint_here<D: Disk, R: Read, W: Write, E: Hears>(
 /// Lints each source that words name, or the one in the current directory, and returns the exit
 /// status.
 #[tactic(auto, using(crate::proofs::Statuses::by_names, crate::proofs::Statuses::by_none))]
-fn lint_all<D: Disk, R: Read, W: Write, E: Hears>(
+fn lint_all<D: Disk, R: Read, W: Hears, E: Hears>(
     alloc: Global,
     disk: &D,
     form: FindingForm,
@@ -191,7 +213,8 @@ fn lint_all<D: Disk, R: Read, W: Write, E: Hears>(
     ensures bound { result ≤ 2 }
     ensures silent { result ≢ 2 → errors.new ≡ errors.old }
     ensures linted { result ≢ 2 → specs.IsStatus (D.known disk.now) words.now result }
-    ensures said { (lines : List (List ℕ)) × AreSaidOf (specs.named_by words.now) lines
+    ensures said { (lines : List (List ℕ))
+        × AreSaidOf (D.known disk.now) (W.has_failed output.new) (specs.named_by words.now) lines
         × (result ≡ 2 → lines ≢ [])
         × AreSaid E.contents E.has_failed errors.old errors.new lines }
 {
@@ -213,7 +236,7 @@ fn lint_all<D: Disk, R: Read, W: Write, E: Hears>(
 /// The status is 0 if nothing is found, or warnings alone; 1 if there are errors; and 2 if a source
 /// can't be read, if the text can't be written, or if an option isn't known, and then standard
 /// error has a line for it (own).
-pub fn run_lint<D: Disk, R: Read, W: Write, E: Hears>(
+pub fn run_lint<D: Disk, R: Read, W: Hears, E: Hears>(
     alloc: Global,
     disk: &D,
     words: &[Bytes],
@@ -234,8 +257,10 @@ pub fn run_lint<D: Disk, R: Read, W: Write, E: Hears>(
     ensures refused { list_any specs.is_unknown words.now ≡ true
         → IsTold E.contents E.has_failed errors.old errors.new (error_line (codes "usage") []) }
     // Otherwise it has a line for each source that isn't linted, and there is one if the status is 2.
+    // The line says why: the source can't be read, standard output has failed, or memory ran out.
     ensures said { list_any specs.is_unknown words.now ≡ false
-        → (lines : List (List ℕ)) × AreSaidOf (specs.named_by words.now) lines
+        → (lines : List (List ℕ))
+        × AreSaidOf (D.known disk.now) (W.has_failed output.new) (specs.named_by words.now) lines
         × (result ≡ 2 → lines ≢ [])
         × AreSaid E.contents E.has_failed errors.old errors.new lines }
     // Unless it is 2, the sources that the words name were read, and it is 1 exactly if one of them

@@ -6,7 +6,7 @@ use Rattle.std.specs.Io.KnownBytes.{Appends}
 use Rattle.cmd_call.specs.Calls.{is_input}
 use Rattle.cmd_call.specs.Errors.{AreTold}
 use Rattle.cmd_call.specs.Lines.{IsTold, error_line}
-use Rattle.lint_sources.specs.Sources.{IsNamed}
+use Rattle.lint_sources.specs.Sources.{IsNamed, IsUnread}
 use Rattle.cmd_port.specs.Asked.{Request, request_of}
 use Rattle.cmd_port.specs.Refusals.{IsLost, IsSaid, IsSaidFor, IsSaidOf, Says, no_memory, unwritten, lost, wrong, unread, without, of_text}
 use Rattle.cmd_port.proofs.Written.{named_among, stream_is}
@@ -26,61 +26,61 @@ page_told contents has_failed old new text told whole kept = record { told = tol
 
 -- ---- what is lost
 
-pub output_lost : {E : Type 0} (contents : E → Option (List ℕ)) (has_failed : E → Bool) (old new : E) (status : ℕ)
-    → (status ≡ 2 → IsTold contents has_failed old new (error_line (codes "file") (codes "standard output"))) → status ≡ 2 → Says contents has_failed old new IsLost
-output_lost contents has_failed old new status told is = inr (_, unwritten, told is)
+pub output_lost : {E : Type 0} (contents : E → Option (List ℕ)) (has_failed : E → Bool) (old new : E) (is_full : Bool) (status : ℕ)
+    → (status ≡ 2 → (is_full ≡ true) × IsTold contents has_failed old new (error_line (codes "file") (codes "standard output"))) → status ≡ 2 → Says contents has_failed old new (IsLost is_full)
+output_lost contents has_failed old new is_full status told is = let h = told is in inr (_, unwritten h.0, h.1)
 
-pub stream_lost : {E : Type 0} (contents : E → Option (List ℕ)) (has_failed : E → Bool) (old new : E) (status : ℕ) → (status ≡ 2 → has_failed new ≡ true) → status ≡ 2 → Says contents has_failed old new IsLost
-stream_lost contents has_failed old new status failed is = inl (failed is)
+pub stream_lost : {E : Type 0} (contents : E → Option (List ℕ)) (has_failed : E → Bool) (old new : E) (is_full : Bool) (status : ℕ) → (status ≡ 2 → has_failed new ≡ true) → status ≡ 2 → Says contents has_failed old new (IsLost is_full)
+stream_lost contents has_failed old new is_full status failed is = inl (failed is)
 
-pub memory_lost : {E : Type 0} (contents : E → Option (List ℕ)) (has_failed : E → Bool) (old new : E) → IsTold contents has_failed old new (error_line (codes "memory") []) → Says contents has_failed old new IsLost
-memory_lost contents has_failed old new told = inr (_, no_memory, told)
+pub memory_lost : {E : Type 0} (contents : E → Option (List ℕ)) (has_failed : E → Bool) (old new : E) (is_full : Bool) → IsTold contents has_failed old new (error_line (codes "memory") []) → Says contents has_failed old new (IsLost is_full)
+memory_lost contents has_failed old new is_full told = inr (_, no_memory, told)
 
 -- ---- a text
 
-pub lost_of : {E : Type 0} (contents : E → Option (List ℕ)) (has_failed : E → Bool) (old new : E) (text : List ℕ) (status : ℕ)
-    → (status ≡ 2 → Says contents has_failed old new IsLost) → status ≡ 2 → Says contents has_failed old new (IsSaidOf text)
-lost_of contents has_failed old new text status says is = other contents has_failed old new IsLost (IsSaidOf text) (λ said l. lost l) (says is)
+pub lost_of : {E : Type 0} (contents : E → Option (List ℕ)) (has_failed : E → Bool) (old new : E) (is_full : Bool) (text : List ℕ) (status : ℕ)
+    → (status ≡ 2 → Says contents has_failed old new (IsLost is_full)) → status ≡ 2 → Says contents has_failed old new (IsSaidOf is_full text)
+lost_of contents has_failed old new is_full text status says is = other contents has_failed old new (IsLost is_full) (IsSaidOf is_full text) (λ said l. lost l) (says is)
 
-pub memory_said : {E : Type 0} (contents : E → Option (List ℕ)) (has_failed : E → Bool) (old new : E) (text : List ℕ)
-    → IsTold contents has_failed old new (error_line (codes "memory") []) → Says contents has_failed old new (IsSaidOf text)
-memory_said contents has_failed old new text told = inr (_, lost no_memory, told)
+pub memory_said : {E : Type 0} (contents : E → Option (List ℕ)) (has_failed : E → Bool) (old new : E) (is_full : Bool) (text : List ℕ)
+    → IsTold contents has_failed old new (error_line (codes "memory") []) → Says contents has_failed old new (IsSaidOf is_full text)
+memory_said contents has_failed old new is_full text told = inr (_, lost no_memory, told)
 
-pub wrong_said : {E : Type 0} (contents : E → Option (List ℕ)) (has_failed : E → Bool) (old new : E) (text page : List ℕ)
-    → IsTold contents has_failed old new page → (IsAccepted text → ⊥) → Says contents has_failed old new (IsSaidOf text)
-wrong_said contents has_failed old new text page told refused = inr (page, wrong page refused, told)
+pub wrong_said : {E : Type 0} (contents : E → Option (List ℕ)) (has_failed : E → Bool) (old new : E) (is_full : Bool) (text page : List ℕ)
+    → IsTold contents has_failed old new page → (IsAccepted text → ⊥) → Says contents has_failed old new (IsSaidOf is_full text)
+wrong_said contents has_failed old new is_full text page told refused = inr (page, wrong page refused, told)
 
-pub refused_text : {E : Type 0} (contents : E → Option (List ℕ)) (has_failed : E → Bool) (old new : E) (text slice : List ℕ) → slice ≡ text → (IsAccepted slice → ⊥)
-    → ((IsAccepted text → ⊥) → Says contents has_failed old new (IsSaidOf text)) → Says contents has_failed old new (IsSaidOf text)
-refused_text contents has_failed old new text slice is refused says = says (subst (λ t. IsAccepted t → ⊥) is refused)
+pub refused_text : {E : Type 0} (contents : E → Option (List ℕ)) (has_failed : E → Bool) (old new : E) (is_full : Bool) (text slice : List ℕ) → slice ≡ text → (IsAccepted slice → ⊥)
+    → ((full : Bool) → (IsAccepted text → ⊥) → Says contents has_failed old new (IsSaidOf full text)) → Says contents has_failed old new (IsSaidOf is_full text)
+refused_text contents has_failed old new is_full text slice is refused says = says is_full (subst (λ t. IsAccepted t → ⊥) is refused)
 
 -- ---- a name
 
-pub said_of_named : {E : Type 0} (contents : E → Option (List ℕ)) (has_failed : E → Bool) (old new : E) (files : Option Known) (is_stream : Bool) (name text directory : List ℕ) (status : ℕ)
-    → IsNamed files is_stream name text directory → (status ≡ 2 → Says contents has_failed old new (IsSaidOf text)) → status ≡ 2 → Says contents has_failed old new (IsSaidFor files is_stream name)
-said_of_named contents has_failed old new files is_stream name text directory status named says is =
-    other contents has_failed old new (IsSaidOf text) (IsSaidFor files is_stream name) (λ said s. of_text text directory named s) (says is)
+pub said_of_named : {E : Type 0} (contents : E → Option (List ℕ)) (has_failed : E → Bool) (old new : E) (files : Option Known) (is_full is_stream : Bool) (name text directory : List ℕ) (status : ℕ)
+    → IsNamed files is_stream name text directory → (status ≡ 2 → Says contents has_failed old new (IsSaidOf is_full text)) → status ≡ 2 → Says contents has_failed old new (IsSaidFor files is_full is_stream name)
+said_of_named contents has_failed old new files is_full is_stream name text directory status named says is =
+    other contents has_failed old new (IsSaidOf is_full text) (IsSaidFor files is_full is_stream name) (λ said s. of_text text directory named s) (says is)
 
-pub unread_said : {E : Type 0} (contents : E → Option (List ℕ)) (has_failed : E → Bool) (old new : E) (files : Option Known) (is_stream : Bool) (name : List ℕ)
-    → IsTold contents has_failed old new (error_line (codes "file") name) → Says contents has_failed old new (IsSaidFor files is_stream name)
-unread_said contents has_failed old new files is_stream name told = inr (_, unread, told)
+pub unread_said : {E : Type 0} (contents : E → Option (List ℕ)) (has_failed : E → Bool) (old new : E) (files : Option Known) (is_full is_stream : Bool) (name : List ℕ)
+    → IsUnread files is_stream name → IsTold contents has_failed old new (error_line (codes "file") name) → Says contents has_failed old new (IsSaidFor files is_full is_stream name)
+unread_said contents has_failed old new files is_full is_stream name lacks told = inr (_, unread lacks, told)
 
-pub memory_for : {E : Type 0} (contents : E → Option (List ℕ)) (has_failed : E → Bool) (old new : E) (files : Option Known) (is_stream : Bool) (name : List ℕ)
-    → IsTold contents has_failed old new (error_line (codes "memory") []) → Says contents has_failed old new (IsSaidFor files is_stream name)
-memory_for contents has_failed old new files is_stream name told = inr (_, without no_memory, told)
+pub memory_for : {E : Type 0} (contents : E → Option (List ℕ)) (has_failed : E → Bool) (old new : E) (files : Option Known) (is_full is_stream : Bool) (name : List ℕ)
+    → IsTold contents has_failed old new (error_line (codes "memory") []) → Says contents has_failed old new (IsSaidFor files is_full is_stream name)
+memory_for contents has_failed old new files is_full is_stream name told = inr (_, without no_memory, told)
 
 -- ---- words
 
-pub said_by_words : {E : Type 0} (contents : E → Option (List ℕ)) (has_failed : E → Bool) (old new : E) (files : Option Known) (words : List (List ℕ)) (asked : Option Request) (request : Request) (reads : Bool) (status : ℕ)
+pub said_by_words : {E : Type 0} (contents : E → Option (List ℕ)) (has_failed : E → Bool) (old new : E) (files : Option Known) (is_full : Bool) (words : List (List ℕ)) (asked : Option Request) (request : Request) (reads : Bool) (status : ℕ)
     → asked ≡ request_of words → asked ≡ Some request → reads ≡ list_any is_input words
-    → (status ≡ 2 → Says contents has_failed old new (IsSaidFor files (reads && is_input request.source) request.source)) → status ≡ 2 → Says contents has_failed old new (IsSaid files (request_of words))
-said_by_words contents has_failed old new files words asked request reads status is some all says two =
+    → (status ≡ 2 → Says contents has_failed old new (IsSaidFor files is_full (reads && is_input request.source) request.source)) → status ≡ 2 → Says contents has_failed old new (IsSaid files is_full (request_of words))
+said_by_words contents has_failed old new files is_full words asked request reads status is some all says two =
     let found : Some request ≡ request_of words = sym some ∙ is in
     let stream : (reads && is_input request.source) ≡ is_input request.source =
     stream_is reads request.source (is_input request.source) refl (λ input. all ∙ named_among words request (sym found) input) in
-    let said : Says contents has_failed old new (IsSaid files (Some request)) = subst (λ b. Says contents has_failed old new (IsSaidFor files b request.source)) stream (says two) in
-    subst (λ r. Says contents has_failed old new (IsSaid files r)) found said
+    let said : Says contents has_failed old new (IsSaid files is_full (Some request)) = subst (λ b. Says contents has_failed old new (IsSaidFor files is_full b request.source)) stream (says two) in
+    subst (λ r. Says contents has_failed old new (IsSaid files is_full r)) found said
 
-pub usage_said : {E : Type 0} (contents : E → Option (List ℕ)) (has_failed : E → Bool) (old new : E) (files : Option Known) (words : Option Request) → words ≡ None
-    → IsTold contents has_failed old new (error_line (codes "usage") []) → Says contents has_failed old new (IsSaid files words)
-usage_said contents has_failed old new files words is told = subst (λ r. Says contents has_failed old new (IsSaid files r)) (sym is) (inr (_, refl, told))
+pub usage_said : {E : Type 0} (contents : E → Option (List ℕ)) (has_failed : E → Bool) (old new : E) (files : Option Known) (is_full : Bool) (words : Option Request) → words ≡ None
+    → IsTold contents has_failed old new (error_line (codes "usage") []) → Says contents has_failed old new (IsSaid files is_full words)
+usage_said contents has_failed old new files is_full words is told = subst (λ r. Says contents has_failed old new (IsSaid files is_full r)) (sym is) (inr (_, refl, told))

@@ -1,6 +1,6 @@
 //! The command.
 
-ghost use Rattle.std.specs.Prelude.{◌≡◌, ◌≢◌, ◌⊎◌, ◌≤◌, ◌&&◌, true, false, ℕ, List, [], codes, option_map, None};
+ghost use Rattle.std.specs.Prelude.{◌≡◌, ◌≢◌, ◌⊎◌, ◌≤◌, ◌&&◌, true, false, Bool, ℕ, List, [], codes, option_map, None, OnErr, OnOk};
 ghost use Rattle.std.specs.List.{list_any};
 ghost use Rattle.std.specs.Io.KnownBytes.{Appends};
 ghost use Rattle.cmd_call.specs.Calls as calls;
@@ -13,7 +13,7 @@ ghost use Rattle.lint_errors.specs.Errors.{IsAccepted};
 
 use crate::asking::request_of;
 use crate::{Ported, port};
-use cmd_call::{FAULT, Hears, tell_file, tell_memory, tell_usage, write_errors};
+use cmd_call::{FAULT, Hears, print_text, tell_file, tell_memory, tell_usage, write_errors};
 use deftable::Bytes;
 use file_disk::Disk;
 use lint_errors::{errors_of, read};
@@ -22,7 +22,7 @@ use lint_sources::{Linted, differences_of, has_input, read_named};
 use port_calls::Package;
 use port_idioms::Idioms;
 use std::alloc::{AllocError, Global};
-use std::io::{Read, Write};
+use std::io::{self, Read};
 
 /// Returns what is said of the errors of a source.
 fn page_of(alloc: Global, linted: &Linted) -> Result<Vec<u8>, AllocError> {
@@ -50,8 +50,8 @@ fn tell_page<E: Hears>(page: &[u8], errors: &mut E) -> u8
 #[tactic(auto, using(crate::proofs::Saying::wrong_said, crate::proofs::Saying::memory_said))]
 fn tell_quotes<E: Hears>(alloc: Global, linted: &Linted, errors: &mut E) -> u8
     ensures status { result ≡ 2 }
-    ensures said { (IsAccepted linted.now.text → ⊥)
-        → Says E.contents E.has_failed errors.old errors.new (IsSaidOf linted.now.text) }
+    ensures said { (is_full : Bool) → (IsAccepted linted.now.text → ⊥)
+        → Says E.contents E.has_failed errors.old errors.new (IsSaidOf is_full linted.now.text) }
 {
     match page_of(alloc, linted) {
         Ok(page) => tell_page(page.as_slice(), errors),
@@ -107,19 +107,31 @@ fn put_warnings<E: Hears>(warnings: &[u8], answer: u8, errors: &mut E) -> u8
     }
 }
 
+/// Prints a text. If that fails, the stream has failed.
+fn print_whole<W: Hears>(text: &[u8], output: &mut W) -> io::Result<()>
+    ensures put { OnOk result (Appends (W.contents output.old) (W.contents output.new) text.now) }
+    ensures cut { OnErr result (W.has_failed output.new ≡ true) }
+{
+    match print_text(text, output) {
+        Ok(()) => Ok(()),
+        Err(error) => Err(error),
+    }
+}
+
 /// Writes a text, and returns the exit status: that which is given, unless the text can't be
 /// written.
-fn put_text<W: Write, E: Hears>(text: &[u8], status: u8, output: &mut W, errors: &mut E) -> u8
+fn put_text<W: Hears, E: Hears>(text: &[u8], status: u8, output: &mut W, errors: &mut E) -> u8
     requires { status ≤ 1 }
     ensures bound { result ≤ 2 }
     ensures status { result ≢ 2 → result ≡ status }
     ensures silent { result ≢ 2 → errors.new ≡ errors.old }
     ensures put { result ≢ 2 → Appends (W.contents output.old) (W.contents output.new) text.now }
     ensures refused { result ≡ 2
-        → IsTold E.contents E.has_failed errors.old errors.new (
+        → (W.has_failed output.new ≡ true)
+        × IsTold E.contents E.has_failed errors.old errors.new (
         error_line (codes "file") (codes "standard output")) }
 {
-    match output.write_all(text) {
+    match print_whole(text, output) {
         Ok(()) => status,
         Err(_) => tell_file(errors, OUTPUT),
     }
@@ -127,7 +139,7 @@ fn put_text<W: Write, E: Hears>(text: &[u8], status: u8, output: &mut W, errors:
 
 /// Writes a source that was rewritten, and returns the exit status.
 #[tactic(auto, using(crate::proofs::Written::put_lent, crate::proofs::Written::status_lent))]
-fn put_ported<W: Write, E: Hears>(ported: &Ported, output: &mut W, errors: &mut E) -> u8
+fn put_ported<W: Hears, E: Hears>(ported: &Ported, output: &mut W, errors: &mut E) -> u8
     ensures bound { result ≤ 2 }
     ensures status { result ≢ 2 → result ≡ specs.status_of ported.now.has_comments }
     ensures low { result ≢ 2 → result ≤ 1 }
@@ -135,7 +147,8 @@ fn put_ported<W: Write, E: Hears>(ported: &Ported, output: &mut W, errors: &mut 
     ensures put { result ≢ 2
         → Appends (W.contents output.old) (W.contents output.new) ported.now.text }
     ensures refused { result ≡ 2
-        → IsTold E.contents E.has_failed errors.old errors.new (
+        → (W.has_failed output.new ≡ true)
+        × IsTold E.contents E.has_failed errors.old errors.new (
         error_line (codes "file") (codes "standard output")) }
 {
     put_text(ported.text.as_slice(), status_of(ported), output, errors)
@@ -143,7 +156,7 @@ fn put_ported<W: Write, E: Hears>(ported: &Ported, output: &mut W, errors: &mut 
 
 /// Writes a source that was rewritten and the warnings about it, and returns the exit status.
 #[tactic(auto, using(crate::proofs::Written::status_after, crate::proofs::Written::put_after, crate::proofs::Written::warned_after, crate::proofs::Saying::output_lost, crate::proofs::Saying::stream_lost))]
-fn put_both<W: Write, E: Hears>(
+fn put_both<W: Hears, E: Hears>(
     ported: &Ported,
     warnings: &[u8],
     output: &mut W,
@@ -156,7 +169,8 @@ fn put_both<W: Write, E: Hears>(
         ⊎ ((page : List ℕ) × Appends (E.contents errors.old) (E.contents errors.new) page) }
     ensures put { result ≢ 2
         → Appends (W.contents output.old) (W.contents output.new) ported.now.text }
-    ensures refused { result ≡ 2 → Says E.contents E.has_failed errors.old errors.new IsLost }
+    ensures refused { result ≡ 2
+        → Says E.contents E.has_failed errors.old errors.new (IsLost (W.has_failed output.new)) }
 {
     let status = put_ported(ported, output, errors);
     if status == 2 {
@@ -167,7 +181,7 @@ fn put_both<W: Write, E: Hears>(
 
 /// Writes a source that was rewritten and the warnings about it, and returns the exit status.
 #[tactic(auto, using(crate::proofs::Saying::memory_lost))]
-fn print_ported<D: Disk, W: Write, E: Hears>(
+fn print_ported<D: Disk, W: Hears, E: Hears>(
     alloc: Global,
     disk: &D,
     linted: &Linted,
@@ -182,7 +196,8 @@ fn print_ported<D: Disk, W: Write, E: Hears>(
         ⊎ ((page : List ℕ) × Appends (E.contents errors.old) (E.contents errors.new) page) }
     ensures put { result ≢ 2
         → Appends (W.contents output.old) (W.contents output.new) ported.now.text }
-    ensures refused { result ≡ 2 → Says E.contents E.has_failed errors.old errors.new IsLost }
+    ensures refused { result ≡ 2
+        → Says E.contents E.has_failed errors.old errors.new (IsLost (W.has_failed output.new)) }
 {
     match warnings_of(alloc, disk, linted, ported) {
         Ok(warnings) => put_both(ported, warnings.as_slice(), output, errors),
@@ -192,7 +207,7 @@ fn print_ported<D: Disk, W: Write, E: Hears>(
 
 /// Prints a source with its calls rewritten, and returns the exit status.
 #[tactic(auto, using(crate::proofs::Written::answered, crate::proofs::Saying::lost_of, crate::proofs::Saying::memory_said, crate::proofs::Saying::refused_text))]
-fn port_source<D: Disk, W: Write, E: Hears>(
+fn port_source<D: Disk, W: Hears, E: Hears>(
     alloc: Global,
     disk: &D,
     idioms: Idioms,
@@ -211,7 +226,8 @@ fn port_source<D: Disk, W: Write, E: Hears>(
         result
         × Appends (W.contents output.old) (W.contents output.new) out }
     ensures refused { result ≡ 2
-        → Says E.contents E.has_failed errors.old errors.new (IsSaidOf linted.now.text) }
+        → Says E.contents E.has_failed errors.old errors.new (
+        IsSaidOf (W.has_failed output.new) linted.now.text) }
 {
     match port(alloc, idioms, naming, linted.text.as_slice()) {
         Ok(Some(ported)) => print_ported(alloc, disk, linted, &ported, output, errors),
@@ -222,7 +238,7 @@ fn port_source<D: Disk, W: Write, E: Hears>(
 
 /// Prints the source of this name with its calls rewritten, and returns the exit status.
 #[tactic(auto, using(crate::proofs::Written::read, crate::proofs::Saying::said_of_named, crate::proofs::Saying::unread_said, crate::proofs::Saying::memory_for))]
-fn port_named<D: Disk, R: Read, W: Write, E: Hears>(
+fn port_named<D: Disk, R: Read, W: Hears, E: Hears>(
     alloc: Global,
     disk: &D,
     reads: bool,
@@ -247,7 +263,8 @@ fn port_named<D: Disk, R: Read, W: Write, E: Hears>(
         × Appends (W.contents output.old) (W.contents output.new) out }
     ensures refused { result ≡ 2
         → Says E.contents E.has_failed errors.old errors.new (
-        IsSaidFor (D.known disk.now) (reads && calls.is_input name.now) name.now) }
+        IsSaidFor (D.known disk.now) (W.has_failed output.new)
+        (reads && calls.is_input name.now) name.now) }
 {
     match read_named(alloc, disk, reads, input, name) {
         Ok(Some(linted)) => port_source(alloc, disk, idioms, naming, &linted, output, errors),
@@ -270,7 +287,7 @@ fn port_named<D: Disk, R: Read, W: Write, E: Hears>(
 /// if the source can't be read, if its quotes have an error, if something can't be written, or if
 /// the words are wrong. Then standard error says so (own).
 #[tactic(auto, using(crate::proofs::Written::by_words, crate::proofs::Written::not_wrong, crate::proofs::Saying::said_by_words, crate::proofs::Saying::usage_said))]
-pub fn run_port<D: Disk, R: Read, W: Write, E: Hears>(
+pub fn run_port<D: Disk, R: Read, W: Hears, E: Hears>(
     alloc: Global,
     disk: &D,
     words: &[Bytes],
@@ -291,10 +308,11 @@ pub fn run_port<D: Disk, R: Read, W: Write, E: Hears>(
     // Then standard error has the line for that.
     ensures wrong { wanted.request_of words.now ≡ None
         → IsTold E.contents E.has_failed errors.old errors.new (error_line (codes "usage") []) }
-    // If it is 2, standard error has what says why, or it has failed.
+    // If it is 2, standard error has what says why, or it has failed. The line of standard output is
+    // there only if that has failed, and the line of a source only if it can't be read.
     ensures refused { result ≡ 2
         → Says E.contents E.has_failed errors.old errors.new (
-        IsSaid (D.known disk.now) (wanted.request_of words.now)) }
+        IsSaid (D.known disk.now) (W.has_failed output.new) (wanted.request_of words.now)) }
     // Unless it is 2, the source that the words name is written as it was rewritten. It is 1 if
     // that has comments about what is left, and 0 otherwise.
     ensures ported { result ≢ 2

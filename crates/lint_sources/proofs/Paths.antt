@@ -57,7 +57,8 @@ directory_at path r at is found some within = front_is at path some within ∙ a
 
 -- What was read at a path that was lent
 pub within_lent : {E : Type 0} (files : Option Known) (r : Result (Option Linted) E) (slice path wanted : List ℕ) → slice ≡ path → path ≡ wanted
-    → IfOk r (λ o. MatchOption o (ReadsWhole files slice None) (λ l. IsAt files slice l.text l.directory)) → IfOk r (λ o. IfSome o (λ l. IsAt files wanted l.text l.directory))
+    → IfOk r (λ o. MatchOption o (ReadsWhole files slice None) (λ l. IsAt files slice l.text l.directory))
+    → IfOk r (λ o. MatchOption o (ReadsWhole files wanted None) (λ l. IsAt files wanted l.text l.directory))
 within_lent files (Err e) slice path wanted lent is h = tt
-within_lent files (Ok None) slice path wanted lent is h = tt
+within_lent files (Ok None) slice path wanted lent is h = subst (λ p. ReadsWhole files p None) (lent ∙ is) h
 within_lent files (Ok (Some l)) slice path wanted lent is h = subst (λ p. IsAt files p l.text l.directory) (lent ∙ is) h

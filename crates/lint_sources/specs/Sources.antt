@@ -1,5 +1,5 @@
 -- Sources that words name, and whether they have errors. All of this is own.
-use Rattle.std.specs.Prelude.{◌≡◌, ◌⊎◌, ℕ, Bool, true, false, List, [], ◌∷◌, ◌++◌, All, Option, Some, None, Ok, codes}
+use Rattle.std.specs.Prelude.{◌≡◌, ◌⊎◌, ℕ, Bool, true, false, List, [], ◌∷◌, ◌++◌, All, Option, Some, None, Ok, codes, ⊤}
 use Rattle.std.specs.List.{Contains}
 use Rattle.acparse.specs.Profile.{source_of}
 use Rattle.file_disk.specs.Known.{Known}
@@ -37,6 +37,12 @@ pub record IsWithin (files : Option Known) (path text directory : List ℕ) : Ty
 abbrev pub IsNamed : Option Known → Bool → List ℕ → List ℕ → List ℕ → Type 0
 IsNamed files true name text directory = directory ≡ codes "."
 IsNamed files false name text directory = IsAt files name text directory ⊎ IsWithin files name text directory
+
+-- The source of a name can't be read: it is standard input, or neither the file at the name nor the `configure.ac` in the directory at
+-- the name can be read.
+abbrev pub IsUnread : Option Known → Bool → List ℕ → Type 0
+IsUnread files true name = ⊤
+IsUnread files false name = ReadsWhole files name None × ReadsWhole files (path_of name (codes "configure.ac")) None
 
 -- ---- its errors
 

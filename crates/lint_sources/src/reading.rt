@@ -1,6 +1,6 @@
 //! Reads the source that a word names.
 
-ghost use Rattle.std.specs.Prelude.{◌≡◌, ◌<◌, ◌&&◌, false, None, codes, length, IfOk, IfSome, MatchOption};
+ghost use Rattle.std.specs.Prelude.{◌≡◌, ◌<◌, ◌&&◌, false, None, codes, length, IfOk, IfSome, MatchOption, ⊤};
 ghost use Rattle.file_texts.specs.Names as names;
 ghost use Rattle.cmd_call.specs.Calls as calls;
 ghost use Rattle.cmd_call.specs.Supplies.{ReadsWhole, path_of};
@@ -74,7 +74,7 @@ fn source_at(alloc: Global, path: &[u8], text: Bytes) -> Result<Linted, AllocErr
 
 /// Returns the source that standard input gives.
 fn read_stream<R: Read>(alloc: Global, input: &mut R) -> Result<Option<Linted>, AllocError>
-    ensures { IfOk result (λ o. IfSome o (λ l. l.directory ≡ codes ".")) }
+    ensures { IfOk result (λ o. MatchOption o ⊤ (λ l. l.directory ≡ codes ".")) }
 {
     match read_input(alloc, input) {
         Ok(text) => Ok(Some(source_at(alloc, b"<stdin>", Bytes::from_vec(text))?)),
@@ -102,7 +102,9 @@ fn read_within<D: Disk>(
     directory: &[u8],
 ) -> Result<Option<Linted>, AllocError>
     ensures { IfOk result (λ o.
-        IfSome o (λ l.
+        MatchOption o (
+        ReadsWhole (D.known disk.now) (path_of directory.now (codes "configure.ac")) None)
+        (λ l.
         specs.IsAt (D.known disk.now) (path_of directory.now (codes "configure.ac")) l.text
         l.directory)) }
 {
@@ -113,12 +115,16 @@ fn read_within<D: Disk>(
 /// Returns the source at a path, or in the directory at that path, or `None` if it can't be read.
 fn read_path<D: Disk>(alloc: Global, disk: &D, word: &[u8]) -> Result<Option<Linted>, AllocError>
     ensures { IfOk result (λ o.
-        IfSome o (λ l. specs.IsNamed (D.known disk.now) false word.now l.text l.directory)) }
+        MatchOption o (specs.IsUnread (D.known disk.now) false word.now)
+        (λ l. specs.IsNamed (D.known disk.now) false word.now l.text l.directory)) }
 {
     if let Some(found) = read_at(alloc, disk, word)? {
         return Ok(Some(found));
     }
-    read_within(alloc, disk, word)
+    match read_within(alloc, disk, word)? {
+        Some(found) => Ok(Some(found)),
+        None => Ok(None),
+    }
 }
 
 /// Returns the source that a word names, or `None` if it can't be read. The word is the path of a
@@ -131,9 +137,12 @@ pub fn read_named<D: Disk, R: Read>(
     word: &[u8],
 ) -> Result<Option<Linted>, AllocError>
     ensures input { reads ≡ false → input.new ≡ input.old }
-    // Its text is that of the file, and its directory that of the path.
+    // Its text is that of the file, and its directory that of the path. If there is none, it can't be
+    // read.
     ensures named { IfOk result (λ o.
-        IfSome o (λ l.
+        MatchOption o (
+        specs.IsUnread (D.known disk.now) (reads && calls.is_input word.now) word.now)
+        (λ l.
         specs.IsNamed (D.known disk.now) (reads && calls.is_input word.now) word.now l.text
         l.directory)) }
 {

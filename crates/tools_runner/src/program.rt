@@ -98,13 +98,16 @@ pub fn run<D: Disk, R: Read, W: Hears, E: Hears>(
         unprinted.IsSaid (D.known terminal.old.outputs.disk) asked)) }
     ensures lint_refused { IfLint (call_of words.now) (λ asked.
         list_any is_unknown asked ≡ false
-        → (lines : List (List ℕ)) × AreSaidOf (named_by asked) lines
+        → (lines : List (List ℕ))
+        × AreSaidOf (D.known terminal.old.outputs.disk) (W.has_failed terminal.new.output)
+        (named_by asked) lines
         × (result ≡ 2 → lines ≢ [])
         × AreSaid E.contents E.has_failed terminal.old.errors terminal.new.errors lines) }
     ensures port_refused { IfPort (call_of words.now) (λ asked.
         result ≡ 2
         → Says E.contents E.has_failed terminal.old.errors terminal.new.errors (
-        IsSaid (D.known terminal.old.outputs.disk) (request_of asked))) }
+        IsSaid (D.known terminal.old.outputs.disk) (W.has_failed terminal.new.output)
+        (request_of asked))) }
 {
     let alloc = terminal.alloc;
     let has_colours = may_colour(terminal.env, is_terminal);

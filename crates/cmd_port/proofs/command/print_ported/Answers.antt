@@ -2,4 +2,4 @@ use Rattle.cmd_port.proofs.Saying.{memory_lost}
 use Rattle.cmd_port.proofs.command.print_ported.Goals as goal
 
 pub returns-in-Err-clause-refused : goal.returns-in-Err-clause-refused
-returns-in-Err-clause-refused g c = λ is. memory_lost _ _ _ _ c.tell_memory.ensures.told
+returns-in-Err-clause-refused g c = λ is. memory_lost _ _ _ _ _ c.tell_memory.ensures.told

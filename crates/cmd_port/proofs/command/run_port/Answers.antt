@@ -7,7 +7,7 @@ use Rattle.cmd_port.proofs.command.run_port.Goals as goal
 
 pub returns-in-Some-clause-refused : goal.returns-in-Some-clause-refused
 returns-in-Some-clause-refused g c =
-    said_by_words _ _ _ _ _ c.args.words.now _ (seen c.in-Some.request) c.has_input-reads.result _ c.request_of.ensures (ap (option_map seen) c.in-Some.is) c.has_input-reads.ensures c.port_named.ensures.refused
+    said_by_words _ _ _ _ _ _ c.args.words.now _ (seen c.in-Some.request) c.has_input-reads.result _ c.request_of.ensures (ap (option_map seen) c.in-Some.is) c.has_input-reads.ensures c.port_named.ensures.refused
 
 pub returns-in-Some-clause-ported : goal.returns-in-Some-clause-ported
 returns-in-Some-clause-ported g c =
