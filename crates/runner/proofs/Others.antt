@@ -6,6 +6,10 @@ use Rattle.cmd_call.specs.Lent.{call_seen}
 use Rattle.cmd_call.specs.declared.call.ProgramCall as lent
 use Rattle.cmd_call.specs.declared.call.ProgramCall.TheVariants as lends
 
+-- What is said of a call, by another one that it is.
+pub by_call : (P : ProgramCall → Type 0) (call other : lent.ProgramCall) (seen : ProgramCall) → call ≡ other → call_seen call ≡ seen → P (call_seen other) → P seen
+by_call P call other seen is e p = subst P (sym (ap call_seen is) ∙ e) p
+
 -- What is said of a call of this kind.
 pub is_filter : (call : lent.ProgramCall) (seen : ProgramCall) (P : Type 0) → call ≡ lends.Filter → call_seen call ≡ seen → P → IfFilter seen P
 is_filter call seen P is e p = subst (λ s. IfFilter s P) (sym (ap call_seen is) ∙ e) p

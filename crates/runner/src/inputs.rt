@@ -51,7 +51,6 @@ fn explain_filter<E: Hears>(
 
 /// Reports an error of the filter over this input, and says more of it if it is asked. Returns the
 /// exit status.
-#[tactic(auto, using(cmd_call::proofs::Pages::line_paged))]
 fn tell_filter<E: Hears>(
     alloc: Global,
     is_asked: bool,

@@ -18,6 +18,7 @@
 #![tactic(auto)]
 
 mod inputs;
+mod meeting;
 mod program;
 
 pub use cmd_call::{Heard, LOG, ProcessTexts, Terminal, Texts, environment, showing_of, words};

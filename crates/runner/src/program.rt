@@ -25,13 +25,14 @@ ghost use Rattle.runner.specs.Ends.{IsSummed};
 ghost use Rattle.cmd_standin.specs.Standin.{IsAnswered, Meets};
 
 use crate::inputs::run_filter;
+use crate::meeting::ProcessMeeting;
 use cmd_call::{
     FAULT, Heard, Hears, ProgramCall, Terminal, call_of, tell_memory, tell_named, tell_usage,
 };
 use cmd_configure::{run_configure, run_recheck};
 use cmd_explain::{asks_why, explain_help, explain_usage};
 use cmd_help::{run_help, run_version};
-use cmd_standin::{Meeting, MeetingFiles};
+use cmd_standin::Meeting;
 use cmd_status::{exit_status, run_standin, run_status};
 use crew_refusals::{Cause, Causes};
 use crew_tally::{Children, Counted, Tally, summary};
@@ -48,7 +49,6 @@ use tool_start::Tools;
 
 /// Reports that the words are no command, and says more of it if it is asked. Returns the exit
 /// status.
-#[tactic(auto, using(cmd_call::proofs::Pages::line_paged))]
 fn tell_unknown<E: Hears>(alloc: Global, is_asked: bool, words: &[Bytes], errors: &mut E) -> u8
     ensures status { result ≡ 2 }
     ensures told { IsUsageTold E.contents E.has_failed errors.old errors.new is_asked }
@@ -60,7 +60,6 @@ fn tell_unknown<E: Hears>(alloc: Global, is_asked: bool, words: &[Bytes], errors
 
 /// Runs the command that the words name, if it is one that explains the program, and returns its
 /// exit status. Any other words are reported as no command.
-#[tactic(auto, using(crate::proofs::Refusals::help_told, crate::proofs::Refusals::version_told))]
 fn explain<D: Disk, R: Read, W: Hears, E: Hears>(
     terminal: &mut Terminal<'_, D, R, W, E>,
     words: &[Bytes],
@@ -521,7 +520,7 @@ pub fn command<C: Crew + Causes + Children, T: Tools>(
         )),
         errors: Heard::new(Shown::new(Patient::new(rt.stderr(), &rt), is_seen)),
     };
-    let mut meeting = MeetingFiles::new(&rt);
+    let mut meeting = ProcessMeeting::new(rt);
     let status = run(&mut terminal, &mut meeting, words, crew, tools);
     let tally = terminal.output.stream().tally();
     let children = crew.children();

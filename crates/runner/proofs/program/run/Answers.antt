@@ -1,4 +1,7 @@
-use Rattle.runner.proofs.Others.{is_filter, is_status, no_filter, no_standin, no_configure, no_status, no_recheck}
+use Rattle.cmd_call.specs.Calls.{IfStandIn}
+use Rattle.cmd_call.specs.declared.call.ProgramCall.TheVariants as lends
+use Rattle.cmd_standin.specs.Standin.{Meets}
+use Rattle.runner.proofs.Others.{by_call, is_filter, is_status, no_filter, no_standin, no_configure, no_status, no_recheck}
 use Rattle.runner.proofs.program.run.Goals as goal
 
 pub returns-in_default-clause-filter : goal.returns-in_default-clause-filter
@@ -51,3 +54,8 @@ returns-in-Status-clause-status_refused g c = is_status c.call_of.result _ _ c.i
 
 pub returns-in_default-clause-meets : goal.returns-in_default-clause-meets
 returns-in_default-clause-meets g c = no_standin c.call_of.result _ _ c.in_default.not-StandIn c.call_of.ensures.call
+
+pub returns-in-StandIn-clause-meets : goal.returns-in-StandIn-clause-meets
+returns-in-StandIn-clause-meets g c =
+    by_call (λ call. IfStandIn call (λ others. Meets (g.M.Meeting.made c.args.meeting.now) (g.M.Meeting.made c.run_standin.new.meeting) others)) c.call_of.result (lends.StandIn c.in-StandIn.words) _ c.in-StandIn.is c.call_of.ensures.call
+    c.run_standin.ensures.meets
