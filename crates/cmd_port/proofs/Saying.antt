@@ -1,6 +1,6 @@
 -- What is said of a source that is not printed.
 use Rattle.std.proofs.Common.{◌≡◌, ◌⊎◌, inl, inr, ℕ, List, [], ◌∷◌, Option, Some, None, Bool, true, false, ◌&&◌, refl, sym, subst, ◌∙◌}
-use Rattle.std.specs.Prelude.{codes}
+use Rattle.std.specs.Prelude.{MatchOption, codes}
 use Rattle.std.specs.List.{list_any}
 use Rattle.std.specs.Io.KnownBytes.{Appends}
 use Rattle.cmd_call.specs.Calls.{is_input}
@@ -53,6 +53,10 @@ wrong_said contents has_failed old new is_full text page told refused = inr (pag
 pub refused_text : {E : Type 0} (contents : E → Option (List ℕ)) (has_failed : E → Bool) (old new : E) (is_full : Bool) (text slice : List ℕ) → slice ≡ text → (IsAccepted slice → ⊥)
     → ((full : Bool) → (IsAccepted text → ⊥) → Says contents has_failed old new (IsSaidOf full text)) → Says contents has_failed old new (IsSaidOf is_full text)
 refused_text contents has_failed old new is_full text slice is refused says = says is_full (subst (λ t. IsAccepted t → ⊥) is refused)
+
+-- What was made is there.
+pub none_left : {T : Type 0} (o : Option T) (P : T → Type 0) → o ≡ None → MatchOption o ⊥ P → ⊥
+none_left o P is made = subst (λ x. MatchOption x ⊥ P) is made
 
 -- ---- a name
 
