@@ -4,8 +4,8 @@ use Rattle.std.specs.List.{list_any, starts_with}
 
 -- What the program is asked to do: to filter its input; to answer in a compiler's place; to run a configure.ac with at most
 -- `window` children at once; to make the outputs of a record again; to run the configure.ac again with the arguments of a record;
--- to say what is wrong with sources; to rewrite a source; to say why a check has its answer; to explain itself or one of its commands;
--- to name its version; or it doesn't know. (own)
+-- to say what is wrong with sources; to rewrite a source; to print a header template of a source; to say why a check has its answer;
+-- to explain itself or one of its commands; to name its version; or it doesn't know. (own)
 pub data ProgramCall : Type 0 where
   Filter : ProgramCall
   StandIn : (words : List (List ℕ)) → ProgramCall
@@ -14,6 +14,7 @@ pub data ProgramCall : Type 0 where
   Recheck : ProgramCall
   Lint : (words : List (List ℕ)) → ProgramCall
   Port : (words : List (List ℕ)) → ProgramCall
+  Header : (words : List (List ℕ)) → ProgramCall
   Why : (words : List (List ℕ)) → ProgramCall
   Help : (words : List (List ℕ)) → ProgramCall
   Version : ProgramCall
@@ -76,6 +77,7 @@ abbrev pub asking_call : List ℕ → List (List ℕ) → ProgramCall
 asking_call word words =
     if bytes_eq word (codes "lint") then Lint words
     else if bytes_eq word (codes "port") then Port words
+    else if bytes_eq word (codes "header") then Header words
     else if bytes_eq word (codes "why") then Why words
     else if bytes_eq word (codes "help") then Help words
     else option_call word words
@@ -90,7 +92,7 @@ named_call word words =
 
 -- The command explains itself if its only word asks for help. `configure`, `status` and `standin` take that word as theirs. (own)
 abbrev pub explains_itself : List ℕ → Bool
-explains_itself word = bytes_eq word (codes "lint") || bytes_eq word (codes "port") || bytes_eq word (codes "why") || bytes_eq word (codes "help")
+explains_itself word = bytes_eq word (codes "lint") || bytes_eq word (codes "port") || bytes_eq word (codes "header") || bytes_eq word (codes "why") || bytes_eq word (codes "help")
 
 -- These are a command and its only word, which asks for help with it. (own)
 abbrev pub asks_own_help : List (List ℕ) → Bool
@@ -138,6 +140,11 @@ abbrev pub IfLint : ProgramCall → (List (List ℕ) → Type 0) → Type 0
 IfLint (Lint words) goes_on = goes_on words
 IfLint call goes_on = Unit {0}
 
+-- If it is asked to print a header template, this holds of the words after `header`. (own)
+abbrev pub IfHeader : ProgramCall → (List (List ℕ) → Type 0) → Type 0
+IfHeader (Header words) goes_on = goes_on words
+IfHeader call goes_on = Unit {0}
+
 -- If it is asked why a check has its answer, this holds of the words after `why`. (own)
 abbrev pub IfWhy : ProgramCall → (List (List ℕ) → Type 0) → Type 0
 IfWhy (Why words) goes_on = goes_on words
@@ -156,12 +163,13 @@ is_input word = bytes_eq word (codes "-")
 abbrev pub is_option : List ℕ → Bool
 is_option word = starts_with nat_eq word (codes "-") && not (is_input word)
 
--- The program is asked for nothing that reads standard input: only the filter does, and `lint` and `port` if `-` is one of their
--- words. (own)
+-- The program is asked for nothing that reads standard input: only the filter does, and `lint`, `port` and `header` if `-` is
+-- one of their words. (own)
 abbrev pub HasNoInput : ProgramCall → Type 0
 HasNoInput Filter = ⊥
 HasNoInput (Lint words) = list_any is_input words ≡ false
 HasNoInput (Port words) = list_any is_input words ≡ false
+HasNoInput (Header words) = list_any is_input words ≡ false
 HasNoInput call = Unit {0}
 
 -- The program is asked for nothing that writes to standard output. (own)

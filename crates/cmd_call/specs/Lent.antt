@@ -1,5 +1,5 @@
 -- What the program is asked to do, as the code has it, which borrows the words.
-use Rattle.cmd_call.specs.Calls.{ProgramCall, Filter, StandIn, Configure, Status, Recheck, Lint, Port, Why, Help, Version, Unknown}
+use Rattle.cmd_call.specs.Calls.{ProgramCall, Filter, StandIn, Configure, Status, Recheck, Lint, Port, Header, Why, Help, Version, Unknown}
 use Rattle.cmd_call.specs.declared.call.ProgramCall as lent
 use Rattle.cmd_call.specs.declared.call.ProgramCall.TheVariants as lends
 
@@ -12,6 +12,7 @@ call_seen (lends.Status tags) = Status tags.now
 call_seen lends.Recheck = Recheck
 call_seen (lends.Lint words) = Lint words.now
 call_seen (lends.Port words) = Port words.now
+call_seen (lends.Header words) = Header words.now
 call_seen (lends.Why words) = Why words.now
 call_seen (lends.Help words) = Help words.now
 call_seen lends.Version = Version

@@ -23,6 +23,8 @@ pub enum ProgramCall<'a> {
     Lint(&'a [Bytes]),
     /// To rewrite the source that these words name.
     Port(&'a [Bytes]),
+    /// To print a header template of the source that these words name.
+    Header(&'a [Bytes]),
     /// To say why a check has its answer.
     Why(&'a [Bytes]),
     /// To explain itself, or the command that these words name.
@@ -181,6 +183,9 @@ fn named_call<'a>(word: &[u8], words: &'a [Bytes]) -> ProgramCall<'a>
     if is(word, b"port") {
         return ProgramCall::Port(words);
     }
+    if is(word, b"header") {
+        return ProgramCall::Header(words);
+    }
     if is(word, b"why") {
         return ProgramCall::Why(words);
     }
@@ -194,7 +199,11 @@ fn named_call<'a>(word: &[u8], words: &'a [Bytes]) -> ProgramCall<'a>
 fn explains_itself(word: &[u8]) -> bool
     ensures { result ≡ meant.explains_itself word.now }
 {
-    is(word, b"lint") || is(word, b"port") || is(word, b"why") || is(word, b"help")
+    is(word, b"lint")
+        || is(word, b"port")
+        || is(word, b"header")
+        || is(word, b"why")
+        || is(word, b"help")
 }
 
 /// Returns whether these are a command and its only word, which asks for help with it.

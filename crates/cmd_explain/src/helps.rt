@@ -11,11 +11,12 @@ use run_words::usage_words;
 use std::alloc::{AllocError, Global};
 
 /// The names that `acrun help` has a page of.
-const PAGES: [&[u8]; 7] = [
+const PAGES: [&[u8]; 8] = [
     b"configure",
     b"status",
     b"lint",
     b"port",
+    b"header",
     b"why",
     b"standin",
     b"help",

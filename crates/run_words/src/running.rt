@@ -20,11 +20,12 @@ const OPTIONS: [&[u8]; 38] = [
 ];
 
 /// The commands of the program.
-const COMMANDS: [&[u8]; 7] = [
+const COMMANDS: [&[u8]; 8] = [
     b"configure",
     b"status",
     b"lint",
     b"port",
+    b"header",
     b"why",
     b"standin",
     b"help",

@@ -1,6 +1,6 @@
 -- What is asked of the program of the tools, and what of the streams a command leaves alone.
 use Rattle.std.specs.Prelude.{◌≡◌, ◌⊎◌, ℕ, Bool, List, [], Option, Some, None, codes}
-use Rattle.cmd_call.specs.Calls.{ProgramCall, Filter, StandIn, Lint, Port, Why, Unknown}
+use Rattle.cmd_call.specs.Calls.{ProgramCall, Filter, StandIn, Lint, Port, Header, Why, Unknown}
 use Rattle.cmd_call.specs.Lines.{IsTold, error_line}
 use Rattle.tool_start.specs.Starts.{AddsStart, ToolStart}
 
@@ -8,6 +8,7 @@ use Rattle.tool_start.specs.Starts.{AddsStart, ToolStart}
 abbrev pub IfTools : ProgramCall → Type 0 → Type 0
 IfTools (Lint words) goes_on = goes_on
 IfTools (Port words) goes_on = goes_on
+IfTools (Header words) goes_on = goes_on
 IfTools (Why words) goes_on = goes_on
 IfTools call goes_on = Unit {0}
 
@@ -15,6 +16,7 @@ IfTools call goes_on = Unit {0}
 abbrev pub HasNoTools : ProgramCall → Type 0
 HasNoTools (Lint words) = ⊥
 HasNoTools (Port words) = ⊥
+HasNoTools (Header words) = ⊥
 HasNoTools (Why words) = ⊥
 HasNoTools call = Unit {0}
 
@@ -28,6 +30,7 @@ abbrev pub WritesNothing : ProgramCall → Type 0
 WritesNothing (StandIn words) = Unit {0}
 WritesNothing (Lint words) = Unit {0}
 WritesNothing (Port words) = Unit {0}
+WritesNothing (Header words) = Unit {0}
 WritesNothing (Why words) = Unit {0}
 WritesNothing Unknown = Unit {0}
 WritesNothing call = ⊥

@@ -4,7 +4,7 @@
 //! whole run over files, and `status --recheck`, such a run again, are in the crate
 //! `cmd_configure`. `status`, which makes the outputs of a record again, and the stand-in for a
 //! compiler are in `cmd_status`. Without words the program is the filter, in `cmd_filter`. For
-//! `lint`, `port` and `why` another program is started, by `tool_start`.
+//! `lint`, `port`, `header` and `why` another program is started, by `tool_start`.
 //!
 //! For example, the words `status` and `Makefile` make one output again, and [`command`] returns
 //! the exit status.

@@ -188,7 +188,7 @@ fn recheck<D: Disk, C: Crew + Causes, R: Read, W: Hears, E: Hears>(
 /// the arguments of a run, which has at most one child at once, or N after `-jN`. After `status`
 /// they are the names of outputs of the run's record, which are made again; but `status --recheck`
 /// is the run again, with the arguments of its record. `help` says how commands are called. For
-/// `lint`, `port` and `why` the program of the tools is run with the same words, and the status is
+/// `lint`, `port`, `header` and `why` the program of the tools is run with the same words, and the status is
 /// its own. There is no other command. If anything is wrong, also with the words, the status is 2
 /// (own).
 ///
@@ -312,7 +312,7 @@ pub fn run<M: Meeting, D: Disk, C: Crew + Causes, T: Tools, R: Read, W: Hears, E
     ensures version { call_of words.now ≡ Version
         → ((result ≡ 0) ⊎ (result ≡ 2)) × (result ≡ 0 → terminal.new.errors ≡ terminal.old.errors) }
     ensures unknown { call_of words.now ≡ Unknown → result ≡ 2 }
-    // For `lint`, `port` and `why` the program of the tools is run once, with the same words. Its
+    // For `lint`, `port`, `header` and `why` the program of the tools is run once, with the same words. Its
     // status is that of the command, and nothing is written. If it can't be started, the status is
     // 2, and standard error has the line of the cause, or of memory. No other words run it.
     ensures tools { IfTools (call_of words.now) (
@@ -377,6 +377,7 @@ pub fn run<M: Meeting, D: Disk, C: Crew + Causes, T: Tools, R: Read, W: Hears, E
         ProgramCall::Recheck => recheck(terminal, crew),
         ProgramCall::Lint(_) => start_tools(words, tools, &mut terminal.errors),
         ProgramCall::Port(_) => start_tools(words, tools, &mut terminal.errors),
+        ProgramCall::Header(_) => start_tools(words, tools, &mut terminal.errors),
         ProgramCall::Why(_) => start_tools(words, tools, &mut terminal.errors),
         _ => explain(terminal, words),
     }
