@@ -31,4 +31,4 @@ pub use headers::{add_listed, warn_of_header, warn_of_unlisted};
 pub use outputs::{span_of_output, warn_of_outputs};
 pub use served::put_served;
 pub use shape::Shape;
-pub use wanted::add_wanted;
+pub use wanted::{add_wanted, wants_flags};

@@ -69,6 +69,12 @@ pub(crate) fn lacks_flags(shape: Shape, text: &[u8]) -> Option<(usize, usize)> {
     Some((at, 8))
 }
 
+/// Returns whether the template of a file wants CFLAGS of a source of this shape, which leaves it as
+/// the user gives it (own). A template of Automake wants nothing.
+pub fn wants_flags(shape: Shape, text: &[u8]) -> bool {
+    lacks_flags(shape, text).is_some() && !is_of_automake(text)
+}
+
 /// Adds a name between two `@`, if a line can set it.
 fn add_unset(
     given: &Given,
