@@ -42,13 +42,17 @@ pub const NEAR_MACRO: Key = Key(b"near-macro", b"", b"a macro of a similar name 
 #[rattlefmt::skip]
 pub const VARIABLE_IN_BRACKETS: Key = Key(b"variable-in-brackets", b"", b"acrun takes a name that begins so for that of a macro; write a\nvariable in brackets, as in [$\x01] and [\x01]=VALUE");
 
-/// if your package defines it (in m4/), write here what it does
+/// if m4/ or aclocal.m4 defines it, write here what it does
 #[rattlefmt::skip]
-pub const UNLISTED_MACRO: Key = Key(b"unlisted-macro", b"", b"if your package defines it (in m4/), write here what it does");
+pub const UNLISTED_MACRO: Key = Key(b"unlisted-macro", b"", b"if m4/ or aclocal.m4 defines it, write here what it does");
 
-/// if your package defines it (in m4/), write here what it does
+/// if m4/ or aclocal.m4 defines it, write here what it does
 #[rattlefmt::skip]
-pub const OWN_MACRO: Key = Key(b"own-macro", b"", b"if your package defines it (in m4/), write here what it does");
+pub const OWN_MACRO: Key = Key(b"own-macro", b"", b"if m4/ or aclocal.m4 defines it, write here what it does");
+
+/// this file defines it: write here what it does
+#[rattlefmt::skip]
+pub const DEFINED_MACRO: Key = Key(b"defined-macro", b"", b"this file defines it: write here what it does");
 
 /// write $VARIABLE
 #[rattlefmt::skip]
@@ -541,6 +545,30 @@ pub const FOLLOWED_ON_LINE: Key = Key(b"followed-on-line", b"something is after 
 /// a comment is in the condition of the `STATEMENT`
 #[rattlefmt::skip]
 pub const COMMENT_IN_CONDITION: Key = Key(b"comment-in-condition", b"a comment is in the condition of the `\x01`", b"");
+
+/// `OPERATOR` in an `elif` is not supported
+#[rattlefmt::skip]
+pub const OPERATOR_IN_BRANCH: Key = Key(b"operator-in-branch", b"`\x01` in an `elif` is not supported", b"");
+
+/// `OPERATOR` is supported only in a statement that begins its line
+#[rattlefmt::skip]
+pub const OPERATOR_IN_LINE: Key = Key(b"operator-in-line", b"`\x01` is supported only in a statement that begins its line", b"");
+
+/// `OPERATOR` in an argument without brackets is not supported
+#[rattlefmt::skip]
+pub const OPERATOR_IN_BARE: Key = Key(b"operator-in-bare", b"`\x01` in an argument without brackets is not supported", b"");
+
+/// `OPERATOR` before AC_PROG_CC is not supported
+#[rattlefmt::skip]
+pub const FILE_BEFORE_COMPILER: Key = Key(b"file-before-compiler", b"`\x01` before AC_PROG_CC is not supported", b"");
+
+/// `OPERATOR` of a file of srcdir is not supported
+#[rattlefmt::skip]
+pub const FILE_OF_SRCDIR: Key = Key(b"file-of-srcdir", b"`\x01` of a file of srcdir is not supported", b"");
+
+/// `OPERATOR` is supported only of a word of letters, digits, `$NAME` and `+-./:_`
+#[rattlefmt::skip]
+pub const FILE_WORD: Key = Key(b"file-word", b"`\x01` is supported only of a word of letters, digits, `$NAME` and `+-./:_`", b"");
 
 /// , and acrun port leaves it without --idioms, since Autoconf makes the checks that a macro in a call needs in any case
 #[rattlefmt::skip]
