@@ -546,29 +546,33 @@ pub const FOLLOWED_ON_LINE: Key = Key(b"followed-on-line", b"something is after 
 #[rattlefmt::skip]
 pub const COMMENT_IN_CONDITION: Key = Key(b"comment-in-condition", b"a comment is in the condition of the `\x01`", b"");
 
-/// `OPERATOR` in an `elif` is not supported
+/// `OPERATOR` is in an `elif`
 #[rattlefmt::skip]
-pub const OPERATOR_IN_BRANCH: Key = Key(b"operator-in-branch", b"`\x01` in an `elif` is not supported", b"");
+pub const OPERATOR_IN_BRANCH: Key = Key(b"operator-in-branch", b"`\x01` is in an `elif`", b"");
 
-/// `OPERATOR` is supported only in a statement that begins its line
+/// `OPERATOR` is in a statement that doesn't begin its line
 #[rattlefmt::skip]
-pub const OPERATOR_IN_LINE: Key = Key(b"operator-in-line", b"`\x01` is supported only in a statement that begins its line", b"");
+pub const OPERATOR_IN_LINE: Key = Key(b"operator-in-line", b"`\x01` is in a statement that doesn't begin its line", b"");
 
-/// `OPERATOR` in an argument without brackets is not supported
+/// `OPERATOR` is in an argument without brackets
 #[rattlefmt::skip]
-pub const OPERATOR_IN_BARE: Key = Key(b"operator-in-bare", b"`\x01` in an argument without brackets is not supported", b"");
+pub const OPERATOR_IN_BARE: Key = Key(b"operator-in-bare", b"`\x01` is in an argument without brackets", b"");
 
-/// `OPERATOR` before AC_PROG_CC is not supported
+/// `OPERATOR` is in a condition with a backslash, a bracket, a single quote or a backquote
 #[rattlefmt::skip]
-pub const FILE_BEFORE_COMPILER: Key = Key(b"file-before-compiler", b"`\x01` before AC_PROG_CC is not supported", b"");
+pub const OPERATOR_BESIDE_QUOTE: Key = Key(b"operator-beside-quote", b"`\x01` is in a condition with a backslash, a bracket, a single quote or a backquote", b"");
 
-/// `OPERATOR` of a file of srcdir is not supported
+/// `OPERATOR` is before AC_PROG_CC
 #[rattlefmt::skip]
-pub const FILE_OF_SRCDIR: Key = Key(b"file-of-srcdir", b"`\x01` of a file of srcdir is not supported", b"");
+pub const FILE_BEFORE_COMPILER: Key = Key(b"file-before-compiler", b"`\x01` is before AC_PROG_CC", b"");
 
-/// `OPERATOR` is supported only of a word of letters, digits, `$NAME` and `+-./:_`
+/// the word of `OPERATOR` has srcdir, which acrun doesn't set
 #[rattlefmt::skip]
-pub const FILE_WORD: Key = Key(b"file-word", b"`\x01` is supported only of a word of letters, digits, `$NAME` and `+-./:_`", b"");
+pub const FILE_OF_SRCDIR: Key = Key(b"file-of-srcdir", b"the word of `\x01` has srcdir, which acrun doesn't set", b"");
+
+/// the word of `OPERATOR` has more than letters, digits, `$NAME` and `+-./:_`
+#[rattlefmt::skip]
+pub const FILE_WORD: Key = Key(b"file-word", b"the word of `\x01` has more than letters, digits, `$NAME` and `+-./:_`", b"");
 
 /// , and acrun port leaves it without --idioms, since Autoconf makes the checks that a macro in a call needs in any case
 #[rattlefmt::skip]
