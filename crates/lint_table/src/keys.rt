@@ -42,13 +42,17 @@ pub const NEAR_MACRO: Key = Key(b"near-macro", b"", b"a macro of a similar name 
 #[rattlefmt::skip]
 pub const VARIABLE_IN_BRACKETS: Key = Key(b"variable-in-brackets", b"", b"acrun takes a name that begins so for that of a macro; write a\nvariable in brackets, as in [$\x01] and [\x01]=VALUE");
 
-/// if your package defines it (in m4/), write here what it does
+/// if m4/ or aclocal.m4 defines it, write here what it does
 #[rattlefmt::skip]
-pub const UNLISTED_MACRO: Key = Key(b"unlisted-macro", b"", b"if your package defines it (in m4/), write here what it does");
+pub const UNLISTED_MACRO: Key = Key(b"unlisted-macro", b"", b"if m4/ or aclocal.m4 defines it, write here what it does");
 
-/// if your package defines it (in m4/), write here what it does
+/// if m4/ or aclocal.m4 defines it, write here what it does
 #[rattlefmt::skip]
-pub const OWN_MACRO: Key = Key(b"own-macro", b"", b"if your package defines it (in m4/), write here what it does");
+pub const OWN_MACRO: Key = Key(b"own-macro", b"", b"if m4/ or aclocal.m4 defines it, write here what it does");
+
+/// this file defines it: write here what it does
+#[rattlefmt::skip]
+pub const DEFINED_MACRO: Key = Key(b"defined-macro", b"", b"this file defines it: write here what it does");
 
 /// write $VARIABLE
 #[rattlefmt::skip]
@@ -541,6 +545,34 @@ pub const FOLLOWED_ON_LINE: Key = Key(b"followed-on-line", b"something is after 
 /// a comment is in the condition of the `STATEMENT`
 #[rattlefmt::skip]
 pub const COMMENT_IN_CONDITION: Key = Key(b"comment-in-condition", b"a comment is in the condition of the `\x01`", b"");
+
+/// `OPERATOR` is in an `elif`
+#[rattlefmt::skip]
+pub const OPERATOR_IN_BRANCH: Key = Key(b"operator-in-branch", b"`\x01` is in an `elif`", b"");
+
+/// `OPERATOR` is in a statement that doesn't begin its line
+#[rattlefmt::skip]
+pub const OPERATOR_IN_LINE: Key = Key(b"operator-in-line", b"`\x01` is in a statement that doesn't begin its line", b"");
+
+/// `OPERATOR` is in an argument without brackets
+#[rattlefmt::skip]
+pub const OPERATOR_IN_BARE: Key = Key(b"operator-in-bare", b"`\x01` is in an argument without brackets", b"");
+
+/// `OPERATOR` is in a condition with a backslash, a bracket, a single quote or a backquote
+#[rattlefmt::skip]
+pub const OPERATOR_BESIDE_QUOTE: Key = Key(b"operator-beside-quote", b"`\x01` is in a condition with a backslash, a bracket, a single quote or a backquote", b"");
+
+/// `OPERATOR` is before AC_PROG_CC
+#[rattlefmt::skip]
+pub const FILE_BEFORE_COMPILER: Key = Key(b"file-before-compiler", b"`\x01` is before AC_PROG_CC", b"");
+
+/// the word of `OPERATOR` has srcdir, which acrun doesn't set
+#[rattlefmt::skip]
+pub const FILE_OF_SRCDIR: Key = Key(b"file-of-srcdir", b"the word of `\x01` has srcdir, which acrun doesn't set", b"");
+
+/// the word of `OPERATOR` has more than letters, digits, `$NAME` and `+-./:_`
+#[rattlefmt::skip]
+pub const FILE_WORD: Key = Key(b"file-word", b"the word of `\x01` has more than letters, digits, `$NAME` and `+-./:_`", b"");
 
 /// , and acrun port leaves it without --idioms, since Autoconf makes the checks that a macro in a call needs in any case
 #[rattlefmt::skip]
