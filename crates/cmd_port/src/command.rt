@@ -275,7 +275,7 @@ fn port_source<D: Disk, W: Hears, E: Hears>(
 fn is_stream(reads: bool, name: &[u8]) -> bool
     ensures { result ≡ (reads && calls.is_input name.now) }
 {
-    reads && name == b"-"
+    reads && name == b"-".as_slice()
 }
 
 /// Prints the source of this name with its calls rewritten, and returns the exit status.

@@ -12,7 +12,7 @@ use crate::wanted::{directory_in, is_of_automake, lacks_flags};
 use bstr::ByteSlice;
 use deftable::{SubstList, is_shell_name};
 use lint_findings::{Finding, Span};
-use lint_table::{Key, keys};
+use lint_table::{Key, is_left, keys};
 use lint_text::first_line;
 use std::alloc::{AllocError, Global};
 
@@ -337,4 +337,39 @@ pub fn warn_of_file(
         keys::NO_NEWLINE_AT_END,
     )?;
     Ok(())
+}
+
+/// Appends the warnings about a file that was made of a template.
+fn warn_of_made(
+    alloc: Global,
+    given: &Given,
+    text: &[u8],
+    out: &mut Vec<Finding>,
+) -> Result<(), AllocError> {
+    if is_of_automake(text) {
+        let first = Some((0, first_line(text).len()));
+        return warn_at(alloc, out, text, 1, first, keys::AUTOMAKE_TEMPLATE);
+    }
+    let runs = record_runs(alloc, text)?;
+    warn_of_names(alloc, given, Shape::made(), 1, text, out)?;
+    warn_of_runs(alloc, 1, text, runs.as_slice(), out)
+}
+
+/// Returns what is left to do in a file that was made of a template: that Automake made the
+/// template; or else names between two `@` that Autoconf sets itself, and each rule that runs
+/// `config.status` (own). In order of place.
+///
+/// # Errors
+///
+/// Fails only if memory runs out.
+pub fn left_in_made(alloc: Global, text: &[u8]) -> Result<Vec<Finding>, AllocError> {
+    let given = Given {
+        variables: SubstList::new(alloc),
+        defined: SubstList::new(alloc),
+    };
+    let mut found = Vec::new(alloc);
+    warn_of_made(alloc, &given, text, &mut found)?;
+    found.retain(|finding| is_left(finding.code.as_slice()));
+    found.sort_by_key(|finding| finding.start)?;
+    Ok(found)
 }

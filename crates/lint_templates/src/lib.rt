@@ -25,7 +25,7 @@ mod served;
 mod shape;
 mod wanted;
 
-pub use files::warn_of_file;
+pub use files::{left_in_made, warn_of_file};
 pub use given::Given;
 pub use headers::{add_listed, warn_of_header, warn_of_unlisted};
 pub use outputs::{span_of_output, warn_of_outputs};

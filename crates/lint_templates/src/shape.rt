@@ -147,6 +147,15 @@ fn lacks_flags(statements: &[Stmt]) -> bool {
 }
 
 impl Shape {
+    /// Returns what is taken of a source of which only what it made is known.
+    pub(crate) fn made() -> Shape {
+        Shape {
+            has_compiler: true,
+            lacks_flags: false,
+            adds_objects: false,
+        }
+    }
+
     /// Returns what a source with this text has.
     pub fn of(text: &[u8], source: &Source) -> Shape {
         let has_compiler = list_has_compiler(source.statements());
