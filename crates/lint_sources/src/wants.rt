@@ -134,16 +134,22 @@ fn put_number(out: &mut Vec<u8>, number: usize) -> Result<(), AllocError> {
 }
 
 /// Returns what is said in the source of a finding in a template: the template's name and the line,
-/// what is wrong, and what to write.
-fn told(alloc: Global, name: &[u8], text: &[u8], finding: &Finding) -> Result<Bytes, AllocError> {
+/// what is wrong, and this help.
+fn told(
+    alloc: Global,
+    name: &[u8],
+    text: &[u8],
+    finding: &Finding,
+    help: &[u8],
+) -> Result<Bytes, AllocError> {
     let mut out = Vec::from_slice(alloc, name)?;
     out.push(b':')?;
     put_number(&mut out, position_of(text, finding.start).line)?;
     out.extend_from_slice(b": ")?;
     out.extend_from_slice(finding.message.as_slice())?;
-    if !finding.help.is_empty() {
+    if !help.is_empty() {
         out.extend_from_slice(b"; ")?;
-        put_on_line(&mut out, finding.help.as_slice())?;
+        put_on_line(&mut out, help)?;
     }
     Ok(Bytes::from_vec(out))
 }
@@ -170,15 +176,16 @@ fn span_of_template(
     Ok(span_of_output(text, b""))
 }
 
-/// Returns a finding of a template at its output in the source.
+/// Returns a finding of a template at its output in the source, with this help.
 fn moved(
     alloc: Global,
     span: Span,
     name: &[u8],
     text: &[u8],
     finding: &Finding,
+    help: &[u8],
 ) -> Result<Finding, AllocError> {
-    let message = told(alloc, name, text, finding)?;
+    let message = told(alloc, name, text, finding, help)?;
     Finding::from_slices(
         alloc,
         span,
@@ -189,7 +196,8 @@ fn moved(
     )
 }
 
-/// Appends those of a template's findings that are left to do, at its output in the source.
+/// Appends those of a template's findings that are left to do, at its output in the source. If
+/// several in a row have the same help, the first one alone has it.
 fn add_left(
     alloc: Global,
     span: Span,
@@ -198,10 +206,14 @@ fn add_left(
     found: &[Finding],
     left: &mut Vec<Finding>,
 ) -> Result<(), AllocError> {
+    let mut before = b"".as_slice();
     for finding in found {
         if is_left(finding.code.as_slice()) {
-            let moved = moved(alloc, span, name, text, finding)?;
+            let help = finding.help.as_slice();
+            let new = if help == before { b"".as_slice() } else { help };
+            let moved = moved(alloc, span, name, text, finding, new)?;
             left.push(moved)?;
+            before = help;
         }
     }
     Ok(())

@@ -850,9 +850,9 @@ pub const SET_BY_AUTOCONF: Key = Key(b"set-by-autoconf", b"no statement sets @\x
 #[rattlefmt::skip]
 pub const NEAR_VARIABLE: Key = Key(b"near-variable", b"", b"did you mean @\x01@?");
 
-/// its value begins with ${datarootdir}, which this template does not set: files would go to /man, /doc and the like
+/// the value of NAME begins with ${datarootdir}, which this template does not set: files would go to /man, /doc and the like
 #[rattlefmt::skip]
-pub const NO_DATAROOTDIR: Key = Key(b"no-datarootdir", b"its value begins with ${datarootdir}, which this template does not set: files would go to /man, /doc and the like", b"add the line\n  datarootdir = @datarootdir@");
+pub const NO_DATAROOTDIR: Key = Key(b"no-datarootdir", b"the value of \x01 begins with ${datarootdir}, which this template does not set: files would go to /man, /doc and the like", b"add the line\n  datarootdir = @datarootdir@");
 
 /// this rule runs config.status, which is a record here: a shell takes the values in it for commands
 #[rattlefmt::skip]

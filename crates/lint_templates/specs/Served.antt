@@ -1,5 +1,5 @@
 -- The output variables that Autoconf sets itself, and the lines that set them in a source. All of this is own.
-use Rattle.std.specs.Prelude.{ℕ, Bool, true, false, List, [], ◌∷◌, ◌++◌, Option, Some, None, bytes_eq, codes, if◌then◌else◌}
+use Rattle.std.specs.Prelude.{ℕ, Bool, true, false, List, [], ◌∷◌, ◌++◌, bytes_eq, codes, if◌then◌else◌}
 use Rattle.std.specs.List.{flat_map}
 
 -- The names, each with words that say in what its line differs from what Autoconf does, or none if it differs in nothing, and with the
@@ -27,33 +27,46 @@ served =
     ∷ (codes "CFLAGS", codes "an empty value of the user is replaced too, and the compiler is not asked whether it takes -g", codes "AS_IF([test \"x$CFLAGS\" = x], [CFLAGS='-g -O2'])")
     ∷ []
 
--- The first of these rows with this name.
-abbrev pub row_among : List ℕ → List (List ℕ × List ℕ × List ℕ) → Option (List ℕ × List ℕ × List ℕ)
-row_among name [] = None
-row_among name (row ∷ rows) = if bytes_eq row.0 name then Some row else row_among name rows
+-- The words of the first of these rows with this name, or none.
+abbrev pub words_among : List ℕ → List (List ℕ × List ℕ × List ℕ) → List ℕ
+words_among name [] = []
+words_among name (row ∷ rows) = if bytes_eq row.0 name then row.1 else words_among name rows
+
+-- The line of the first of these rows with this name, or none.
+abbrev pub line_among : List ℕ → List (List ℕ × List ℕ × List ℕ) → List ℕ
+line_among name [] = []
+line_among name (row ∷ rows) = if bytes_eq row.0 name then row.2 else line_among name rows
 
 -- A line with its newline.
 abbrev pub line_of : List ℕ → List ℕ
 line_of line = line ++ 10 ∷ []
 
--- The line that says in what the line of a name differs.
-unfoldable pub words_of : List ℕ → List ℕ → List ℕ
-words_of name words = codes "dnl acrun: in place of @" ++ name ++ codes "@: " ++ line_of words
+-- What the line begins with that says in what the line of a name differs.
+unfoldable pub front : List ℕ
+front = codes "dnl acrun: in place of @"
 
--- The lines of a row: those that differ in something only if all are wanted.
+-- What is after the name in it.
+unfoldable pub rest_of : List ℕ → List ℕ
+rest_of words = codes "@: " ++ line_of words
+
+-- The line that says in what the line of a name differs.
+abbrev pub words_of : List ℕ → List ℕ → List ℕ
+words_of name words = front ++ (name ++ rest_of words)
+
+-- A line, below the line that says in what it differs, if there are words for that. Then it is there only if all lines are wanted.
 abbrev pub lines_by : Bool → List ℕ → List ℕ → List ℕ → List ℕ
 lines_by all name [] line = line_of line
 lines_by true name (word ∷ words) line = words_of name (word ∷ words) ++ line_of line
 lines_by false name (word ∷ words) line = []
 
--- The lines of a row, if there is one.
-abbrev pub lines_of_row : Bool → Option (List ℕ × List ℕ × List ℕ) → List ℕ
-lines_of_row all None = []
-lines_of_row all (Some row) = lines_by all row.0 row.1 row.2
+-- The same, if there is a line.
+abbrev pub lines_if : Bool → List ℕ → List ℕ → List ℕ → List ℕ
+lines_if all name words [] = []
+lines_if all name words (byte ∷ line) = lines_by all name words (byte ∷ line)
 
 -- The lines that set a name, or none.
 unfoldable pub lines_for : Bool → List ℕ → List ℕ
-lines_for all name = lines_of_row all (row_among name served)
+lines_for all name = lines_if all name (words_among name served) (line_among name served)
 
 -- The lines that set names, one after the other.
 abbrev pub lines_for_all : Bool → List (List ℕ) → List ℕ

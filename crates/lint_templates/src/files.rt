@@ -12,8 +12,8 @@ use crate::wanted::{directory_in, is_of_automake, lacks_flags};
 use bstr::ByteSlice;
 use deftable::{SubstList, is_shell_name};
 use lint_findings::{Finding, Span};
-use lint_table::{Key, is_left, keys};
-use lint_text::first_line;
+use lint_table::{Key, WordPart, is_left, keys, warn_by_key};
+use lint_text::{first_line, part as text_between};
 use std::alloc::{AllocError, Global};
 
 /// What ends a name of the directory of the source.
@@ -251,6 +251,33 @@ fn sources_in(text: &[u8]) -> Option<(usize, usize)> {
     None
 }
 
+/// Warns of a directory below `datarootdir` between two `@`, if it is there: its offset and its
+/// length.
+fn warn_of_directory(
+    alloc: Global,
+    out: &mut Vec<Finding>,
+    text: &[u8],
+    file: usize,
+    part: Option<(usize, usize)>,
+) -> Result<(), AllocError>
+    ensures within { OnOk result (KeepsWithin file text.now out.old.items out.new.items) }
+{
+    let Some((start, length)) = part else {
+        return Ok(());
+    };
+    let end = start.saturating_add(length);
+    let span = Span { file, start, end };
+    let name = text_between(text, start, end);
+    warn_by_key(
+        alloc,
+        out,
+        text,
+        span,
+        keys::NO_DATAROOTDIR,
+        &[WordPart::AsItIs(name)],
+    )
+}
+
 /// Warns of each of these runs of a record.
 fn warn_of_runs(
     alloc: Global,
@@ -290,8 +317,7 @@ fn warn_of_uses(
 {
     let runs = record_runs(alloc, text)?;
     warn_of_names(alloc, given, shape, file, text, out)?;
-    let directory = directory_in(source, text);
-    warn_at(alloc, out, text, file, directory, keys::NO_DATAROOTDIR)?;
+    warn_of_directory(alloc, out, text, file, directory_in(source, text))?;
     let flags = lacks_flags(shape, text);
     warn_at(alloc, out, text, file, flags, keys::NO_FLAGS)?;
     warn_of_runs(alloc, file, text, runs.as_slice(), out)?;

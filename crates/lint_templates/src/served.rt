@@ -1,6 +1,6 @@
 //! The output variables that Autoconf sets itself, and the lines that set them in a source.
 
-ghost use Rattle.std.specs.Prelude.{◌≡◌, ◌++◌, ◌∷◌, [], map, option_map, IfOk, OnOk};
+ghost use Rattle.std.specs.Prelude.{◌≡◌, ◌++◌, map, OnOk};
 ghost use Rattle.lint_templates.specs.Served as specs;
 
 use std::alloc::{AllocError, Global};
@@ -61,17 +61,30 @@ fn served() -> &'static [Row]
     &SERVED
 }
 
-/// Returns the first of these rows with this name.
-fn find<'a>(rows: &'a [Row], name: &[u8]) -> Option<&'a Row>
-    ensures { option_map (λ row. (row.now.0.now, row.now.1.now, row.now.2.now)) result
-        ≡ specs.row_among name.now (map (λ row. (row.0.now, row.1.now, row.2.now)) rows.now) }
+/// Returns the words of the first of these rows with this name, or none.
+fn words_in(rows: &[Row], name: &[u8]) -> &'static [u8]
+    ensures { result.now
+        ≡ specs.words_among name.now (map (λ row. (row.0.now, row.1.now, row.2.now)) rows.now) }
 {
     for row in rows {
         if row.0 == name {
-            return Some(row);
+            return row.1;
         }
     }
-    None
+    b""
+}
+
+/// Returns the line of the first of these rows with this name, or none.
+fn line_in(rows: &[Row], name: &[u8]) -> &'static [u8]
+    ensures { result.now
+        ≡ specs.line_among name.now (map (λ row. (row.0.now, row.1.now, row.2.now)) rows.now) }
+{
+    for row in rows {
+        if row.0 == name {
+            return row.2;
+        }
+    }
+    b""
 }
 
 /// Appends a line.
@@ -83,18 +96,38 @@ fn put_line(out: &mut Vec<u8>, line: &[u8]) -> Result<(), AllocError>
     Ok(())
 }
 
+/// Appends what a line begins with that says in what the line of a name differs.
+#[tactic(auto, unfolding(crate::specs::Served::front))]
+fn put_front(out: &mut Vec<u8>) -> Result<(), AllocError>
+    ensures { OnOk result (out.new.items ≡ out.old.items ++ specs.front) }
+{
+    out.extend_from_slice(b"dnl acrun: in place of @")
+}
+
+/// Appends what is after the name in such a line.
+#[tactic(auto, unfolding(crate::specs::Served::rest_of), using(std::proofs::lemmas::List::append_assoc))]
+fn put_rest(out: &mut Vec<u8>, words: &[u8]) -> Result<(), AllocError>
+    ensures { OnOk result (out.new.items ≡ out.old.items ++ specs.rest_of words.now) }
+{
+    out.extend_from_slice(b"@: ")?;
+    put_line(out, words)?;
+    Ok(())
+}
+
 /// Appends a line that says in what the line of a name differs.
+#[tactic(auto, using(std::proofs::lemmas::List::append_assoc))]
 fn put_words(out: &mut Vec<u8>, name: &[u8], words: &[u8]) -> Result<(), AllocError>
     ensures { OnOk result (out.new.items ≡ out.old.items ++ specs.words_of name.now words.now) }
 {
-    out.extend_from_slice(b"dnl acrun: in place of @")?;
+    put_front(out)?;
     out.extend_from_slice(name)?;
-    out.extend_from_slice(b"@: ")?;
-    put_line(out, words)
+    put_rest(out, words)?;
+    Ok(())
 }
 
-/// Appends the lines of a row: those that differ in something only if all are wanted.
-fn put_row(
+/// Appends a line, below the line that says in what it differs, if there are words for that. Then it
+/// is appended only if all lines are wanted.
+fn put_lines(
     out: &mut Vec<u8>,
     all: bool,
     name: &[u8],
@@ -115,21 +148,43 @@ fn put_row(
     Ok(())
 }
 
+/// Appends the lines of a name, if there is a line.
+fn put_if(
+    out: &mut Vec<u8>,
+    all: bool,
+    name: &[u8],
+    words: &[u8],
+    line: &[u8],
+) -> Result<(), AllocError>
+    ensures { OnOk result (
+        out.new.items ≡ out.old.items ++ specs.lines_if all name.now words.now line.now) }
+{
+    if line.is_empty() {
+        return Ok(());
+    }
+    put_lines(out, all, name, words, line)
+}
+
 /// Appends the lines that set a name, if there are such: those that differ from what Autoconf does
 /// only if all are wanted.
+///
+/// # Errors
+///
+/// Fails only if memory runs out.
+#[tactic(auto, unfolding(crate::specs::Served::lines_for))]
 pub fn put_served(out: &mut Vec<u8>, all: bool, name: &[u8]) -> Result<(), AllocError>
     ensures { OnOk result (out.new.items ≡ out.old.items ++ specs.lines_for all name.now) }
 {
-    match find(served(), name) {
-        Some(row) => put_row(out, all, row.0, row.1, row.2),
-        None => Ok(()),
-    }
+    put_if(
+        out,
+        all,
+        name,
+        words_in(served(), name),
+        line_in(served(), name),
+    )
 }
 
 /// Returns the line that sets a name, or an empty text.
 pub(crate) fn served_line(name: &[u8]) -> &'static [u8] {
-    match find(served(), name) {
-        Some(row) => row.2,
-        None => b"",
-    }
+    line_in(served(), name)
 }
