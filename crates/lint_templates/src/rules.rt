@@ -187,16 +187,30 @@ fn run_in(line: &[u8]) -> Option<usize> {
     None
 }
 
-/// Returns the offset and the length of a record that a line of a text runs, if the line is one of a
+/// Returns the offset of the recipe in a line: after its tab, or after the semicolon of a rule.
+fn recipe_at(line: &[u8]) -> Option<usize> {
+    if line.starts_with(b"\t") {
+        return Some(1);
+    }
+    let end = line.find_byte(b';')?;
+    let rule = before(line, end);
+    if rule.starts_with(b"#") || rule.contains(&b'=') || !rule.contains(&b':') {
+        return None;
+    }
+    end.checked_add(1)
+}
+
+/// Returns the offset and the length of a record that a line of a text runs, if the line has a
 /// recipe.
 fn run_of_line(line: &[u8], at: usize) -> Option<(usize, usize)> {
-    let recipe = line.strip_prefix(b"\t")?;
+    let front = recipe_at(line)?;
+    let recipe = from(line, front);
     if recipe.trim_start().starts_with(b"#") {
         return None;
     }
     let start = run_in(recipe)?;
     let len = word_len(from(recipe, start));
-    Some((at.saturating_add(1).saturating_add(start), len))
+    Some((at.saturating_add(front).saturating_add(start), len))
 }
 
 /// Returns where the recipes of a makefile run a record: by its name as a command, or as the script
