@@ -183,6 +183,7 @@ fn unused_definitions(rt: HostRuntime) -> Result<(), Fail> {
 const WORDS: &[u8] = br##"
 define(my_word, 1.2)^Ja=my_word => ^Ja=1.2
 m4_define([my_word], [1.2])dnl^Ja="x-my_word.b" b=1my_word => dnl^Ja="x-1.2.b" b=11.2
+m4_define([my_word], [1.2])^Ja=x1my_word b=2my_word c=_3my_word => ^Ja=x1my_word b=21.2 c=_3my_word
   define([MyWord],^J  a.b)^JAC_SUBST([X], [MyWord]) =>   ^JAC_SUBST([X], [a.b])
 define(my_word, 1-b)^Jif test "$a" = my_word; then^J  a=my_word^Jfi => ^Jif test "$a" = 1-b; then^J  a=1-b^Jfi
 define(my_word, 1)^JAC_INIT([a], [my_word])^JAC_DEFINE([X], "my_word")^JAC_MSG_NOTICE([it is my_word]) => ^JAC_INIT([a], [1])^JAC_DEFINE([X], "1")^JAC_MSG_NOTICE([it is 1])
