@@ -11,7 +11,7 @@ use deftable::SubstList;
 use lint_errors::Reading;
 use lint_findings::Finding;
 use lint_templates::{
-    Given, add_listed, warn_of_file, warn_of_header, warn_of_outputs, warn_of_unlisted,
+    Given, Shape, add_listed, warn_of_file, warn_of_header, warn_of_outputs, warn_of_unlisted,
 };
 use lint_warnings::{warn_of_calls, warn_of_compiler, warn_of_source};
 use std::alloc::{AllocError, Global};
@@ -72,7 +72,10 @@ fn warn_of_part(
         Part::Compiler => warn_of_compiler(alloc, text, calls, out),
         Part::Outputs => warn_of_outputs(alloc, text, source, out),
         Part::Template(number) => match given {
-            Some(given) => warn_of_template(alloc, given, sheets, number, out),
+            Some(given) => {
+                let shape = Shape::of(text, source);
+                warn_of_template(alloc, given, text, shape, sheets, number, out)
+            }
             None => Ok(()),
         },
         Part::Unlisted => match given {
@@ -82,10 +85,12 @@ fn warn_of_part(
     }
 }
 
-/// Appends the warnings about the template of this number.
+/// Appends the warnings about the template of this number, for a source with this text.
 fn warn_of_template(
     alloc: Global,
     given: &Given,
+    source: &[u8],
+    shape: Shape,
     sheets: &Sheets,
     number: usize,
     out: &mut Vec<Finding>,
@@ -95,7 +100,7 @@ fn warn_of_template(
     };
     let text = sheet.text.as_slice();
     if number <= sheets.files() {
-        return warn_of_file(alloc, given, number, text, out);
+        return warn_of_file(alloc, given, source, shape, number, text, out);
     }
     warn_of_header(alloc, given, number, text, out)
 }
