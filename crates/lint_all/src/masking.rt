@@ -86,18 +86,26 @@ pub(crate) fn blank_call(text: &mut [u8], calls: &[CallAt], call: &CallAt) -> bo
     has_changed | blank(text, at, end)
 }
 
-/// Returns where the text between calls that has the place ends: at the next call, at the end of
-/// the argument, or at the end.
-fn bare_end(text: &[u8], calls: &[CallAt], place: usize) -> usize {
+/// Returns where the argument that has the place ends, without its bracket, or the end.
+fn argument_end(text: &[u8], calls: &[CallAt], place: usize) -> usize {
     let mut end = text.len();
     for call in calls {
-        if place < call.start {
-            end = end.min(call.start);
-        }
         for arg in &call.args {
             if holds(arg, place) {
                 end = end.min(inner_end(text, arg));
             }
+        }
+    }
+    end
+}
+
+/// Returns where the text between calls that has the place ends: at the next call, at the end of
+/// the argument, or at the end.
+fn bare_end(text: &[u8], calls: &[CallAt], place: usize) -> usize {
+    let mut end = argument_end(text, calls, place);
+    for call in calls {
+        if place < call.start {
+            end = end.min(call.start);
         }
     }
     end
@@ -195,12 +203,31 @@ fn blank_statement(before: Scan, text: &mut [u8], start: usize, end: usize) -> b
     has_changed
 }
 
-/// Blanks the statement between calls that begins at the place. Returns whether that changed
-/// anything.
+/// Returns the length of what looks like a call at the place, with the calls in it.
+fn called_at(text: &[u8], calls: &[CallAt], place: usize) -> usize {
+    called_len(part(text, place, argument_end(text, calls, place)))
+}
+
+/// Blanks what looks like a call between the place and an offset, with the calls in it, and what is
+/// after it on its line up to the next call. Returns whether that changed anything.
+fn blank_called(text: &mut [u8], calls: &[CallAt], place: usize, end: usize) -> bool {
+    let last = end.saturating_sub(1);
+    let len = line_len(part(text, end, bare_end(text, calls, last)));
+    let has_changed = blank(text, place, end);
+    let after = end.saturating_add(len);
+    has_changed | blank_statement(scan_after(b""), text, end, after)
+}
+
+/// Blanks the statement between calls that begins at the place. One that looks like a call has the
+/// calls in it too. Returns whether that changed anything.
 pub(crate) fn blank_bare(text: &mut [u8], calls: &[CallAt], place: usize) -> bool {
     let end = bare_end(text, calls, place);
+    let called = called_at(text, calls, place);
+    if called > end.saturating_sub(place) {
+        return blank_called(text, calls, place, place.saturating_add(called));
+    }
     let before = scan_after(part(text, bare_start(text, calls, place), place));
     let statement = part(text, place, end);
-    let len = statement_len(before, statement).max(called_len(statement));
+    let len = statement_len(before, statement).max(called);
     blank_statement(before, text, place, place.saturating_add(len.max(1)))
 }
