@@ -171,9 +171,12 @@ by_words files words asked request reads result a b is some all gives ne =
     let found : Some request ≡ request_of words = sym some ∙ is in
     let stream : (reads && is_input request.source) ≡ is_input request.source =
     stream_is reads request.source (is_input request.source) refl (λ input. all ∙ named_among words request (sym found) input) in
-    let answer : IsAnswer files (Some request) g.0 result =
-    (g.1.0, g.1.1, subst (λ s. IsNamed files s request.source g.1.0 g.1.1) stream g.1.2,
-    subst (λ s. IsPrinted request.idioms request.naming s g.1.0 g.0 result) stream g.1.3) in
+    let answer : IsAnswer files (Some request) g.0 result = (
+      g.1.0,
+      g.1.1,
+      subst (λ s. IsNamed files s request.source g.1.0 g.1.1) stream g.1.2,
+      subst (λ s. IsPrinted request.idioms request.naming s g.1.0 g.0 result) stream g.1.3,
+    ) in
     (g.0, subst (λ w. IsAnswer files w g.0 result) found answer, g.2)
 
 pub not_wrong : (words : Option Request) (request : Request) (result : ℕ) → Some request ≡ words → words ≡ None → result ≡ 2

@@ -1,7 +1,8 @@
 -- What a source that acrun accepts gets for its templates. The offsets are those of the text that is read. All of this is own.
-use Rattle.std.specs.Prelude.{◌≡◌, ℕ, ◌≤◌, nat_eq, Bool, true, false, List, ◌++◌, length, slice_range, take, drop, ◌&&◌, codes}
+use Rattle.std.specs.Prelude.{◌≡◌, ℕ, ◌≤◌, nat_eq, Bool, true, false, List, [], ◌∷◌, ◌++◌, length, take, drop, ◌&&◌, codes}
 use Rattle.std.specs.List.{starts_with}
 use Rattle.lint_errors.specs.Errors.{IsAccepted}
+use Rattle.lint_findings.specs.declared.finding.Finding.{Finding}
 use Rattle.lint_templates.specs.Served.{lines_for, lines_for_all}
 use Rattle.lint_text.specs.Parts.{after_blanks, from}
 use Rattle.port_idioms.specs.declared.idioms.Idioms.{Idioms}
@@ -30,16 +31,17 @@ pub data IsServed (all : Bool) (text : List ℕ) : List ℕ → Type 0 where
   flagged : {mid out : List ℕ} (at : ℕ) → IsServed all text mid → is_line_start mid at ≡ true → IsPut (lines_for all (codes "CFLAGS")) mid at out → IsServed all text out
 
 -- What is left to do in the templates is said in comments, one of which is there; or nothing is left, and the text stays.
-abbrev pub IsLeftSaid : Bool → List ℕ → List ℕ → Type 0
-IsLeftSaid false text out = out ≡ text
-IsLeftSaid true text out = IsCommented text (length text) out × HasLeft out
+abbrev pub IsLeftSaid : List Finding → List ℕ → Bool → List ℕ → Type 0
+IsLeftSaid [] text has_comments out = (out ≡ text) × (has_comments ≡ false)
+IsLeftSaid (finding ∷ more) text has_comments out = IsCommented text (length text) out × HasLeft out × (has_comments ≡ true)
 
 -- A text that acrun accepts gets lines for its templates, and what it becomes is accepted too. Comments say what is left to do in them.
 pub record IsFinished (idioms : Idioms) (text : List ℕ) (has_comments : Bool) (out : List ℕ) : Type 0 where
   pub next : List ℕ
   pub served : IsServed (are_all idioms) text next
   pub accepted : IsAccepted next
-  pub said : IsLeftSaid has_comments next out
+  pub left : List Finding
+  pub said : IsLeftSaid left next has_comments out
 
 -- What a text that was rewritten becomes for its templates. If it is standard input's, or has comments about what is left in itself, it
 -- stays.

@@ -326,6 +326,10 @@ fn port_named<D: Disk, R: Read, W: Hears, E: Hears>(
 /// name, `configure.ac` is read. Without `--idioms`, exact idioms alone are written. NAME and VERSION
 /// come into an AC_INIT that has none that are kept. Nothing is run, and no file is written.
 ///
+/// If the source is a file, and acrun accepts what it becomes, its templates are read. Lines before
+/// AC_OUTPUT and after AC_PROG_CC set what they use and Autoconf sets itself, and comments say what is
+/// left to do in them.
+///
 /// Standard error gets the warnings of `lint` that something in the text that is printed means
 /// another thing to Autoconf. They don't change the status.
 ///

@@ -206,7 +206,7 @@ fn served(alloc: Global, all: bool, wanted: &Wanted, text: &[u8]) -> Result<Vec<
 
 /// Returns the text with comments about what is left to do, or as it is if nothing is.
 fn with_left(alloc: Global, text: Vec<u8>, left: &[Finding]) -> Result<Ported, AllocError>
-    ensures { IfOk result (λ p. specs.IsLeftSaid p.has_comments text.items p.text) }
+    ensures { IfOk result (λ p. specs.IsLeftSaid left.now text.items p.has_comments p.text) }
 {
     if left.is_empty() {
         return Ok(whole(text));
