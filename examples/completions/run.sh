@@ -77,7 +77,7 @@ row() {
     done
 }
 
-row configure status lint port why help -j4 -- acrun ''
+row configure status lint port header why help -j4 -- acrun ''
 row status standin -- acrun st
 row configure -- acrun -j4 ''
 row --bindir= -- acrun -j2 configure --bi
@@ -92,6 +92,7 @@ row configure.ac -- acrun lint conf
 row --idioms --package= -- acrun port --
 row --package= -- acrun port --p
 row configure.ac -- acrun port conf
+row configure.ac -- acrun header conf
 row sys/stat.h -- acrun why sys
 row why -- acrun help w
 

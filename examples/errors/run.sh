@@ -66,7 +66,7 @@ all() {
 
 # compare WORD..: what two programs say and leave for these words, if they are those of a run, of status, of standin or of the filter
 compare() {
-    case ${1-} in lint | port | why | help | -h | --help | -v | -V | --version) return ;; esac
+    case ${1-} in lint | port | header | why | help | -h | --help | -v | -V | --version) return ;; esac
     rows=$((rows + 1))
     first=$(all "$program" "$@")
     second=$(all "$other" "$@")

@@ -28,6 +28,7 @@ expect 0 'Usage: acrun [-jN] configure [ARG]..' help configure
 expect 0 'Usage: acrun status [NAME]..' help status
 expect 0 'Usage: acrun lint [--json] [FILE]..' help lint
 expect 0 'Usage: acrun port [--idioms [--package=NAME,VERSION]] [FILE]' help port
+expect 0 'Usage: acrun header [FILE]' help header
 expect 0 'Usage: acrun why [WORD [LOG]]' help why
 expect 0 'Usage: acrun standin [WORD]..' help standin
 expect 0 'Usage: acrun help [COMMAND]' help help
@@ -35,7 +36,7 @@ for words in 'help nothing' 'help status lint' '--help status' '--version status
     # Each word by itself.
     expect 2 'acrun: usage' $words
 done
-for command in configure status lint port why standin help; do
+for command in configure status lint port header why standin help; do
     "$acrun" help | grep -q "^  acrun .*$command" || { wrong=1; echo "help does not list $command"; }
     grep -q "$command" "$root/share/acrun.1" || { wrong=1; echo "the manual page does not name $command"; }
 done
@@ -53,7 +54,7 @@ for option in --srcdir= --cache-file= -C --prefix= --bindir= --enable- --disable
 done
 has configure 'Besides its outputs a run may leave: config.log config.status config.cache conftest* acrun-*.tmp'
 
-for command in '' configure status lint port why standin help; do
+for command in '' configure status lint port header why standin help; do
     wide=$("$acrun" help $command | grep -E '^.{80}') && { wrong=1; echo "help $command is wider than 79 columns: $wide"; }
 done
 

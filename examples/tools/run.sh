@@ -1,5 +1,5 @@
 #!/bin/sh
-# Puts other programs in the place of acrun-tools, which acrun starts for lint, port and why, and looks at what acrun then does.
+# Puts other programs in the place of acrun-tools, which acrun starts for lint, port, header and why, and looks at what acrun then does.
 #   run.sh PROGRAM      PROGRAM has its own acrun-tools beside it
 set -u
 acrun=$(realpath "$1") || exit 2
@@ -45,7 +45,7 @@ expect() {
 
 # What can't be started. Nothing is read before: what comes on standard input is left for the next command.
 rest() { echo text | { "$@"; status=$?; cat; exit "$status"; }; }
-for words in 'lint -' 'port -' 'why a'; do
+for words in 'lint -' 'port -' 'header -' 'why a'; do
     rm -rf "$tools"
     expect "no tools, $words" 2 text "acrun: tools $tools: No such file or directory" rest acrun $words
     ln -s nothing "$tools"
@@ -75,7 +75,7 @@ stub << 'END'
 printf '<%s>' "$@"
 END
 long=$(yes 'a long word' | head -n 5000 | tr -d '\n')
-for command in lint port why; do
+for command in lint port header why; do
     expect "words of $command" 0 "<--acrun=$version><$command>" '' acrun "$command"
     expect "more words of $command" 0 "<--acrun=$version><$command><><a b><'><\"><\$HOME \`x\` \\><*><--acrun=0><--><-><
 ><é>" '' \
@@ -176,7 +176,7 @@ done
 
 # acrun-tools by hand does the same as acrun.
 cp "$own" "$tools"
-for words in lint 'lint --json' 'lint -' 'lint nothing' port 'port -' 'port --idioms' 'port nothing' why 'why AC_NOPE' 'lint --nope'; do
+for words in lint 'lint --json' 'lint -' 'lint nothing' port 'port -' 'port --idioms' 'port nothing' header 'header -' 'header nothing' why 'why AC_NOPE' 'lint --nope'; do
     acrun $words < configure.ac > "$folder/first" 2>&1
     status=$?
     for front in '' "--acrun=$version"; do

@@ -34,7 +34,7 @@ _acrun() {
     if [[ ${COMP_WORDS[1]} == -j* ]]; then at=2; fi
     if ((COMP_CWORD == at)); then
         words=(configure)
-        if ((at == 1)); then words+=(status lint port why standin help --help --version -j1 -j2 -j4 -j8 -j16); fi
+        if ((at == 1)); then words+=(status lint port header why standin help --help --version -j1 -j2 -j4 -j8 -j16); fi
         _acrun_offer "$word" "${words[@]}"
         return
     fi
@@ -62,6 +62,7 @@ _acrun() {
         # What begins with no dash is a file, which bash completes by itself.
         if [[ $word == -* ]]; then _acrun_offer "$word" "${words[@]}"; else compopt -o default; fi
         ;;
+    header) compopt -o default ;;
     why)
         if ((COMP_CWORD == at + 1)); then
             mapfile -t words < <(_acrun_checks)
@@ -70,7 +71,7 @@ _acrun() {
             compopt -o default
         fi
         ;;
-    help) _acrun_offer "$word" configure status lint port why standin help ;;
+    help) _acrun_offer "$word" configure status lint port header why standin help ;;
     esac
 }
 

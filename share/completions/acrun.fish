@@ -45,6 +45,7 @@ complete -c acrun -n '__acrun_begins; or __acrun_has_window' -a configure -d 'Ru
 complete -c acrun -n __acrun_begins -a status -d 'Make the outputs again'
 complete -c acrun -n __acrun_begins -a lint -d 'Say what is wrong with a configure.ac'
 complete -c acrun -n __acrun_begins -a port -d 'Print a configure.ac with other macros rewritten'
+complete -c acrun -n __acrun_begins -a header -d 'Print a header template for a configure.ac'
 complete -c acrun -n __acrun_begins -a why -d 'Say why a check has its answer'
 complete -c acrun -n __acrun_begins -a standin -d "Answer in a compiler's place"
 complete -c acrun -n __acrun_begins -a help -d 'Print the commands'
@@ -67,5 +68,6 @@ complete -c acrun -n '__acrun_uses lint' -F
 complete -c acrun -n '__acrun_uses port' -l idioms -d 'Write idioms too that differ'
 complete -c acrun -n '__acrun_uses port' -l package -x -d 'NAME,VERSION for AC_INIT'
 complete -c acrun -n '__acrun_uses port' -F
+complete -c acrun -n '__acrun_uses header' -F
 complete -c acrun -n '__acrun_uses why' -F -a '(__acrun_checks)'
-complete -c acrun -n '__acrun_uses help' -a 'configure status lint port why standin help'
+complete -c acrun -n '__acrun_uses help' -a 'configure status lint port header why standin help'

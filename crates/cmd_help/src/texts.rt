@@ -19,6 +19,8 @@ Usage:
                                   its templates
   acrun port [--idioms] [FILE]    print a configure.ac with other macros
                                   rewritten
+  acrun header [FILE]             print a header template, such as config.h.in,
+                                  for what a configure.ac may define
   acrun why [WORD [LOG]]          say why a check in config.log has its
                                   answer
   acrun standin [WORD]..          answer in a compiler's place, for trials
@@ -111,6 +113,24 @@ Exit status: 0 nothing is left to do; 1 there are such lines; 2 a file can't be
 read, its quotes have an error, or the words are wrong.
 ";
 
+const HEADER: &str = "\
+Usage: acrun header [FILE]
+
+Reads FILE, a configure.ac or a directory of one (by default ./configure.ac; -
+is standard input), and prints the template of a header, such as config.h.in:
+each name that a run may define, once and in order, as `#undef NAME`, with a
+comment that describes it. The comments are those of autoheader: the third
+argument of AC_DEFINE and AC_DEFINE_UNQUOTED, and its own words for checks and
+AC_INIT. Standard error gets a line `acrun: undescribed NAME` for each name
+without one. FILE needs no AC_CONFIG_HEADERS. Nothing is written; to make the
+template:
+
+  acrun header >config.h.in
+
+Exit status: 0 it is printed; 2 a file can't be read, FILE is refused (its
+errors are on standard error), or the words are wrong.
+";
+
 const WHY: &str = "\
 Usage: acrun why [WORD [LOG]]
 
@@ -142,9 +162,9 @@ Prints the commands, or how COMMAND is called.
 
 /// The commands, each with its text.
 #[rattlefmt::skip]
-const COMMANDS: [(&[u8], &str); 7] = [
-    (b"configure", CONFIGURE), (b"status", STATUS), (b"lint", LINT), (b"port", PORT), (b"why", WHY), (b"standin", STANDIN),
-    (b"help", HELP),
+const COMMANDS: [(&[u8], &str); 8] = [
+    (b"configure", CONFIGURE), (b"status", STATUS), (b"lint", LINT), (b"port", PORT), (b"header", HEADER), (b"why", WHY),
+    (b"standin", STANDIN), (b"help", HELP),
 ];
 
 /// Returns what is printed of the program as a whole.

@@ -12,7 +12,8 @@ use test_rows::{Page, RowCall, cut, try_rows_in};
 use tools_runner::run;
 
 /// The words with commas between them, the input, and the text of `configure.ac`, with semicolons
-/// between them: the exit status, standard output and standard error. An empty text is no file.
+/// between them: the exit status, standard output and standard error, with `~` in place of `^`. An
+/// empty text is no file.
 const COMMANDS: &[u8] = b"
 // each command by its name
 lint;;AC_INIT([x],[1])^JAC_OUTPUT^J => 0[][]
@@ -24,6 +25,12 @@ port;;AC_INIT([x],[1])^JAC_OUTPUT^J => 0[AC_INIT([x],[1])^JAC_OUTPUT^J][]
 port,-;AC_INIT([x],[1])^JAC_NOPE^JAC_OUTPUT^J; => 1[AC_INIT([x],[1])^Jdnl acrun: acrun does not know the macro AC_NOPE; if m4/ or aclocal.m4 defines it, write here what it does^JAC_NOPE^JAC_OUTPUT^J][]
 port; => 2[][acrun: file configure.ac^J]
 port,a,b; => 2[][acrun: usage^J]
+header;;AC_INIT([x],[1])^JAC_PROG_CC^JAC_CHECK_HEADERS([stdio.h])^JAC_DEFINE([X],[1],[Define to 1^J  to use X.])^JAC_DEFINE([X])^JAC_OUTPUT^J => 0[/* Generated from configure.ac by acrun header.  */^J^J/* Define to 1 if you have the <stdio.h> header file. */^J#undef HAVE_STDIO_H^J^J/* Define to the address where bug reports for this package should be sent. */^J#undef PACKAGE_BUGREPORT^J^J/* Define to the full name of this package. */^J#undef PACKAGE_NAME^J^J/* Define to the full name and version of this package. */^J#undef PACKAGE_STRING^J^J/* Define to the one symbol short name of this package. */^J#undef PACKAGE_TARNAME^J^J/* Define to the home page for this package. */^J#undef PACKAGE_URL^J^J/* Define to the version of this package. */^J#undef PACKAGE_VERSION^J^J/* Define to 1 to use X. */^J#undef X^J][]
+header,-;AC_INIT([x],[1])^JAC_DEFINE([X])^JAC_OUTPUT^J; => 0[/* Generated from configure.ac by acrun header.  */^J^J/* Define to the address where bug reports for this package should be sent. */^J#undef PACKAGE_BUGREPORT^J^J/* Define to the full name of this package. */^J#undef PACKAGE_NAME^J^J/* Define to the full name and version of this package. */^J#undef PACKAGE_STRING^J^J/* Define to the one symbol short name of this package. */^J#undef PACKAGE_TARNAME^J^J/* Define to the home page for this package. */^J#undef PACKAGE_URL^J^J/* Define to the version of this package. */^J#undef PACKAGE_VERSION^J^J#undef X^J][acrun: undescribed X^J]
+header,configure.ac;;AC_INIT([x],[1])^JAC_NOPE^JAC_OUTPUT^J => 2[][configure.ac:2:1: error: acrun does not know the macro AC_NOPE^J    2 | AC_NOPE^J      | ~~~~~~~^J   = help: if your package defines it (in m4/), write here what it does^J]
+header; => 2[][acrun: file configure.ac^J]
+header,--json;;AC_INIT([x],[1])^JAC_OUTPUT^J => 2[][acrun: usage^J]
+header,a,b; => 2[][acrun: usage^J]
 why; => 2[][acrun: usage^J]
 why,a; => 2[][acrun: file config.log^J]
 why,a,b,c; => 2[][acrun: usage^J]
@@ -72,6 +79,15 @@ fn status_over<R: Read, W: Write, E: Write>(
     run(&mut terminal, words, false)
 }
 
+/// Puts a text with `~` in place of `^`, which no row has.
+fn put_shown(page: &mut Page, text: &[u8]) {
+    let mut shown = Page::new(page.alloc());
+    for byte in text {
+        shown.put_byte(if *byte == b'^' { b'~' } else { *byte });
+    }
+    page.put_text(shown.text());
+}
+
 /// Puts what the commands do with these words and this input.
 fn put_run(page: &mut Page, rt: &HostRuntime, words: &[u8], input: &[u8]) {
     let words = words_of(page, words);
@@ -81,7 +97,7 @@ fn put_run(page: &mut Page, rt: &HostRuntime, words: &[u8], input: &[u8]) {
     let status = status_over(rt, words.as_slice(), &mut input, &mut output, &mut errors);
     page.put_number(usize::from(status));
     page.put_text(output.as_slice());
-    page.put_text(errors.as_slice());
+    put_shown(page, errors.as_slice());
 }
 
 /// Writes a file, or removes it if it has no text.

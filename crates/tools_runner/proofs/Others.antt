@@ -1,7 +1,7 @@
 -- What is said of a call of one kind, for a call of another kind.
 use Rattle.std.specs.Prelude.{◌≡◌, ◌⊎◌, ℕ, List, length, refl}
 use Rattle.std.proofs.Common.{◌≢◌, ◌≤◌, ◌<◌, ◌∙◌, arith, inr, subst, sym}
-use Rattle.cmd_call.specs.Calls.{ProgramCall, Why, Help, Lint, Port, IfWhy, IfHelp, IfLint}
+use Rattle.cmd_call.specs.Calls.{ProgramCall, Why, Help, Header, Lint, Port, IfWhy, IfHeader, IfHelp, IfLint}
 use Rattle.cmd_call.specs.Lent.{call_seen}
 use Rattle.tools_runner.specs.Ports.{IfPort}
 use Rattle.cmd_call.specs.declared.call.ProgramCall as lent
@@ -18,6 +18,10 @@ no_lint call seen P ne e = subst (λ s. IfLint s P) e tt
 pub no_port : (call : lent.ProgramCall) (seen : ProgramCall) (P : List (List ℕ) → Type 0) → ((words : _) → call ≡ lends.Port words → ⊥) → call_seen call ≡ seen → IfPort seen P
 no_port (lends.Port words) seen P ne e = absurd (ne words refl)
 no_port call seen P ne e = subst (λ s. IfPort s P) e tt
+
+pub no_header : (call : lent.ProgramCall) (seen : ProgramCall) (P : List (List ℕ) → Type 0) → ((words : _) → call ≡ lends.Header words → ⊥) → call_seen call ≡ seen → IfHeader seen P
+no_header (lends.Header words) seen P ne e = absurd (ne words refl)
+no_header call seen P ne e = subst (λ s. IfHeader s P) e tt
 
 pub failed_why : (n : ℕ) (P : Type 0) (seen : ProgramCall) → n ≡ 2 → IfWhy seen (λ words. (n ≤ 2) × (n ≢ 2 → P))
 failed_why n P (Why words) e = (omega (arith, e), λ ne. absurd (ne e))
@@ -49,3 +53,7 @@ unanswered_port n P Q call e = tt
 pub unanswered_lint : (n : ℕ) (P Q : List (List ℕ) → Type 0) (seen : ProgramCall) → n ≡ 2 → IfLint seen (λ words. (P words → n ≡ 2) × (n ≢ 2 → Q words))
 unanswered_lint n P Q (Lint words) e = (λ unknown. e, λ ne. absurd (ne e))
 unanswered_lint n P Q call e = tt
+
+pub unanswered_header : (n : ℕ) (P Q : List (List ℕ) → Type 0) (R : Type 0) (seen : ProgramCall) → n ≡ 2 → IfHeader seen (λ words. (P words → n ≡ 2) × (n ≢ 2 → R) × (n ≢ 2 → Q words))
+unanswered_header n P Q R (Header words) e = (λ wrong. e, λ ne. absurd (ne e), λ ne. absurd (ne e))
+unanswered_header n P Q R call e = tt

@@ -1,7 +1,7 @@
 -- What is said of words that are no command.
 use Rattle.std.specs.Prelude.{ℕ, Bool, List, Option}
 use Rattle.std.proofs.Common.{inl}
-use Rattle.cmd_call.specs.Calls.{ProgramCall, Lint, Port, Why, Help, Version}
+use Rattle.cmd_call.specs.Calls.{ProgramCall, Header, Lint, Port, Why, Help, Version}
 use Rattle.tools_runner.specs.Refusals.{IsUsageTold, TellsWhy}
 
 -- The line of the words is told, whatever the call is.
@@ -11,5 +11,6 @@ usage_told contents has_failed old new is_full (Help words) told = inl told
 usage_told contents has_failed old new is_full Version told = inl told
 usage_told contents has_failed old new is_full (Lint words) told = λ e. told
 usage_told contents has_failed old new is_full (Port words) told = λ e. told
+usage_told contents has_failed old new is_full (Header words) told = λ e. told
 usage_told contents has_failed old new is_full (Why words) told = tt
 usage_told contents has_failed old new is_full call told = told

@@ -3,8 +3,10 @@
 ghost use Rattle.std.specs.Prelude.{◌≡◌, true, false, ◌≢◌, ◌⊎◌, ◌≤◌, ◌<◌, ℕ, List, [], length, None, IfSome, codes, option_map};
 ghost use Rattle.std.specs.Io.KnownBytes.{Appends};
 ghost use Rattle.std.specs.List.{list_any};
-ghost use Rattle.cmd_call.specs.Calls.{call_of, Version, IfWhy, IfHelp, IfLint, HasNoInput};
+ghost use Rattle.cmd_call.specs.Calls.{call_of, Version, IfWhy, IfHelp, IfHeader, IfLint, HasNoInput};
 ghost use Rattle.cmd_call.specs.Lines.{AreSaid, IsTold, error_line};
+ghost use Rattle.cmd_header.specs.Answers as headers;
+ghost use Rattle.cmd_header.specs.Refusals as unmade;
 ghost use Rattle.cmd_lint.specs.Refusals.{AreSaidOf};
 ghost use Rattle.cmd_lint.specs.Status.{IsStatus, is_unknown, named_by};
 ghost use Rattle.cmd_port.specs.Asked.{request_of};
@@ -19,6 +21,7 @@ ghost use Rattle.tools_runner.specs.Refusals.{IsOther, TellsWhy};
 ghost use Rattle.tools_runner.specs.Words as specs;
 
 use cmd_call::{Heard, Hears, ProgramCall, Terminal, call_of, tell_named, tell_usage};
+use cmd_header::run_header;
 use cmd_help::{run_help, run_version};
 use cmd_lint::{may_colour, run_lint};
 use cmd_port::run_port;
@@ -33,10 +36,10 @@ use text_controls::Shown;
 
 /// Runs the command that the words name, and returns its exit status.
 ///
-/// `lint` says what is wrong with sources, `port` rewrites one, `why` says why a check has its
-/// answer, and `help` how commands are called. There is no other command. If anything is wrong,
-/// also with the words, the status is 2 (own). `is_terminal` is whether standard output is a
-/// terminal, for colours.
+/// `lint` says what is wrong with sources, `port` rewrites one, `header` makes a template of what one
+/// may define, `why` says why a check has its answer, and `help` how commands are called. There is
+/// no other command. If anything is wrong, also with the words, the status is 2 (own). `is_terminal`
+/// is whether standard output is a terminal, for colours.
 ///
 /// Each error is reported as one line on standard error. If that can't be written, only the status
 /// reports it.
@@ -82,8 +85,18 @@ pub fn run<D: Disk, R: Read, W: Hears, E: Hears>(
         × IsAnswer (D.known terminal.old.outputs.disk) (request_of asked) out result
         × Appends (W.contents terminal.old.output) (W.contents terminal.new.output)
         out)) }
+    // Unless the status of `header` is 2, the page of the source that the words name is written: it
+    // has each name that the source may define once, and no other. If the words are wrong, it is 2.
+    ensures header { IfHeader (call_of words.now) (λ asked.
+        (headers.name_of asked ≡ None → result ≡ 2)
+        × (result ≢ 2 → result ≡ 0)
+        × (result ≢ 2
+        → (page : List ℕ) × (said : List ℕ)
+        × headers.IsAnswer (D.known terminal.old.outputs.disk) (headers.name_of asked) page said
+        × Appends (W.contents terminal.old.output) (W.contents terminal.new.output) page
+        × unmade.HasSaid E.contents terminal.old.errors terminal.new.errors said)) }
     ensures other { IsOther (call_of words.now) → result ≡ 2 }
-    // Only `lint` and `port` read the input, and no command changes a file.
+    // Only `lint`, `port` and `header` read the input, and no command changes a file.
     ensures input { HasNoInput (call_of words.now) → terminal.new.input ≡ terminal.old.input }
     ensures output { IsOther (call_of words.now) → terminal.new.output ≡ terminal.old.output }
     ensures files { terminal.new.outputs ≡ terminal.old.outputs }
@@ -108,6 +121,11 @@ pub fn run<D: Disk, R: Read, W: Hears, E: Hears>(
         → Says E.contents E.has_failed terminal.old.errors terminal.new.errors (
         IsSaid (D.known terminal.old.outputs.disk) (W.has_failed terminal.new.output)
         (request_of asked))) }
+    ensures header_refused { IfHeader (call_of words.now) (λ asked.
+        result ≡ 2
+        → unmade.Says E.contents E.has_failed terminal.old.errors terminal.new.errors (
+        unmade.IsSaid (D.known terminal.old.outputs.disk) (W.has_failed terminal.new.output)
+        (headers.name_of asked))) }
 {
     let alloc = terminal.alloc;
     let has_colours = may_colour(terminal.env, is_terminal);
@@ -120,6 +138,7 @@ pub fn run<D: Disk, R: Read, W: Hears, E: Hears>(
         ProgramCall::Version => run_version(output, errors),
         ProgramCall::Why(words) => run_why(alloc, disk, words, output, errors),
         ProgramCall::Port(words) => run_port(alloc, disk, words, input, output, errors),
+        ProgramCall::Header(words) => run_header(alloc, disk, words, input, output, errors),
         ProgramCall::Lint(words) => run_lint(
             alloc,
             disk,
@@ -181,6 +200,12 @@ fn command_of(rt: &HostRuntime, alloc: Global, words: &[Bytes], env: &[(Bytes, B
     ensures port { IfPort (call_of words.now) (λ asked.
         (result ≤ 2) × (request_of asked ≡ None → result ≡ 2)
         × (result ≢ 2 → (out : List ℕ) × IsAnswer None (request_of asked) out result)) }
+    ensures header { IfHeader (call_of words.now) (λ asked.
+        (headers.name_of asked ≡ None → result ≡ 2)
+        × (result ≢ 2 → result ≡ 0)
+        × (result ≢ 2
+        → (page : List ℕ) × (said : List ℕ)
+        × headers.IsAnswer None (headers.name_of asked) page said)) }
     ensures other { IsOther (call_of words.now) → result ≡ 2 }
 {
     let is_terminal = rt.stdout().is_terminal();
@@ -238,6 +263,13 @@ pub fn command(
         IfPort (call_of words) (λ asked.
         (result ≤ 2) × (request_of asked ≡ None → result ≡ 2)
         × (result ≢ 2 → (out : List ℕ) × IsAnswer None (request_of asked) out result))) }
+    ensures header { IfSome (specs.words_for version.now words.now) (λ words.
+        IfHeader (call_of words) (λ asked.
+        (headers.name_of asked ≡ None → result ≡ 2)
+        × (result ≢ 2 → result ≡ 0)
+        × (result ≢ 2
+        → (page : List ℕ) × (said : List ℕ)
+        × headers.IsAnswer None (headers.name_of asked) page said))) }
     ensures other { IfSome (specs.words_for version.now words.now) (λ words.
         IsOther (call_of words) → result ≡ 2) }
     ensures another { specs.words_for version.now words.now ≡ None → result ≡ 2 }

@@ -1,4 +1,4 @@
-use Rattle.tools_runner.proofs.Others.{failed_help, failed_lint, failed_port, failed_why, no_lint, no_port, no_why, unanswered_lint, unanswered_port, unanswered_why}
+use Rattle.tools_runner.proofs.Others.{failed_help, failed_lint, failed_port, failed_why, no_header, no_lint, no_port, no_why, unanswered_header, unanswered_lint, unanswered_port, unanswered_why}
 use Rattle.tools_runner.proofs.Refusals.{usage_told}
 use Rattle.tools_runner.proofs.program.run.Goals as goal
 
@@ -34,3 +34,9 @@ returns-in_default-clause-port_refused g c = no_port c.call_of.result _ _ c.in_d
 
 pub returns-in_default-clause-why_refused : goal.returns-in_default-clause-why_refused
 returns-in_default-clause-why_refused g c = no_why c.call_of.result _ _ c.in_default.not-Why c.call_of.ensures.call
+
+pub returns-in_default-clause-header : goal.returns-in_default-clause-header
+returns-in_default-clause-header g c = unanswered_header _ _ _ _ _ c.tell_usage.ensures.status
+
+pub returns-in_default-clause-header_refused : goal.returns-in_default-clause-header_refused
+returns-in_default-clause-header_refused g c = no_header c.call_of.result _ _ c.in_default.not-Header c.call_of.ensures.call

@@ -1,0 +1,4 @@
+mod Adding
+mod Held
+mod Tables
+mod Wrapping

@@ -1,0 +1,4 @@
+pub mod Mentions
+pub mod Notes
+pub mod Pages
+pub mod Table
