@@ -3,7 +3,7 @@
 use crate::calling::called_len;
 use ac_calls::{CallAt, Extent};
 use lint_marks::{QuotePart, Scan};
-use lint_text::{after_blanks, from, part};
+use lint_text::{after_blanks, from, is_word_byte, part};
 
 /// Writes a space for each byte between two offsets, but for newlines. Returns whether that changed
 /// anything.
@@ -203,9 +203,25 @@ fn blank_statement(before: Scan, text: &mut [u8], start: usize, end: usize) -> b
     has_changed
 }
 
-/// Returns the length of what looks like a call at the place, with the calls in it.
-fn called_at(text: &[u8], calls: &[CallAt], place: usize) -> usize {
-    called_len(part(text, place, argument_end(text, calls, place)))
+/// Returns the offset after what looks like a call that begins between two offsets, and ends after
+/// the second but before a limit, with the calls in it. If there is none, returns 0.
+fn after_called(text: &[u8], start: usize, end: usize, limit: usize) -> usize {
+    let mut is_word = false;
+    for at in start..end {
+        let len = if is_word {
+            0
+        } else {
+            called_len(part(text, at, limit))
+        };
+        let after = at.saturating_add(len);
+        if after > end {
+            return after;
+        }
+        is_word = from(text, at)
+            .first()
+            .is_some_and(|byte| is_word_byte(*byte));
+    }
+    0
 }
 
 /// Blanks what looks like a call between the place and an offset, with the calls in it, and what is
@@ -222,12 +238,15 @@ fn blank_called(text: &mut [u8], calls: &[CallAt], place: usize, end: usize) -> 
 /// calls in it too. Returns whether that changed anything.
 pub(crate) fn blank_bare(text: &mut [u8], calls: &[CallAt], place: usize) -> bool {
     let end = bare_end(text, calls, place);
-    let called = called_at(text, calls, place);
-    if called > end.saturating_sub(place) {
-        return blank_called(text, calls, place, place.saturating_add(called));
-    }
+    let limit = argument_end(text, calls, place);
     let before = scan_after(part(text, bare_start(text, calls, place), place));
     let statement = part(text, place, end);
-    let len = statement_len(before, statement).max(called);
+    let len = statement_len(before, statement);
+    // One that is cut by a call may have it in its arguments.
+    let most = if len < statement.len() { 1 } else { len };
+    let called = after_called(text, place, place.saturating_add(most), limit);
+    if called > place.saturating_add(len) {
+        return blank_called(text, calls, place, called);
+    }
     blank_statement(before, text, place, place.saturating_add(len.max(1)))
 }

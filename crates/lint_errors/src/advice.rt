@@ -303,6 +303,9 @@ fn help_in_text(
     start: usize,
 ) -> Result<Option<Bytes>, AllocError> {
     let name = name_in_text(from(text, start));
+    if name.is_empty() {
+        return Ok(None);
+    }
     match entry_in_text(alloc, known.index, name)? {
         None => known.definitions.help_of(alloc, name),
         Some(entry) => said(alloc, text, &[], entry).map(|help| Some(help)),

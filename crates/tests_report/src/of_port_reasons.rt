@@ -41,8 +41,6 @@ if test "$a" -eq 1; then^J  b=1^Jfi => [`-eq` in a test is not supported]
 AC_PROG_CC^Jif test -f a && test "$b" == c; then^J  d=1^Jfi => [`test -f` is not supported]
 // what keeps port --idioms from writing another text
 if test "$a" -eq 1; then b=1; fi; if test "$c" == d; then^J  e=1^Jfi => [`-eq` in a test is not supported][`==` is in a statement that doesn't begin its line]
-AS_IF([a], if test "$c" == d; then^J  e=1^J  fi) => [`==` is in a statement that doesn't begin its line]
-AS_IF([a],^J  if test "$c" == d; then^J  e=1^J  fi) => [`==` is in an argument without brackets]
 if test 'a' == "$b"; then^J  c=1^Jfi => [`==` is in a condition with a backslash, a bracket, a single quote or a backquote]
 if test -d a; then^J  b=1^Jfi => [`test -d` is before AC_PROG_CC]
 AC_PROG_CC^Jif test -n "$a"; then^J  b=1^Jelif test -d c; then^J  d=1^Jfi => [`test -d` is in an `elif`]
