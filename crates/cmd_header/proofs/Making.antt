@@ -1,15 +1,20 @@
 -- The template that is printed.
-use Rattle.std.proofs.Common.{◌≡◌, ◌≢◌, ℕ, List, Option, Some, None, Bool, ◌&&◌, Result, Ok, Err, ap, subst, sym, refl, ◌∙◌}
+use Rattle.std.proofs.Common.{◌≡◌, ◌≢◌, ◌⊎◌, ◌↔◌, ◌==◌, inl, inr, ℕ, List, [], ◌∷◌, Option, Some, None, Bool, true, false, ◌&&◌, Result, Ok, Err, length, map, ap, subst, sym, refl, arith, ◌∙◌}
+use Rattle.std.proofs.lemmas.Bool.Decides.{eqb_tells}
 use Rattle.std.specs.List.{list_any}
 use Rattle.std.specs.Io.KnownBytes.{Appends}
 use Rattle.file_disk.specs.Known.{Known}
-use Rattle.ac_calls.specs.Calls.{MacroCall, calls_in}
+use Rattle.ac_calls.specs.Calls.{calls_in, macro_call_of}
+use Rattle.ac_calls.specs.declared.call.CallAt.{CallAt}
 use Rattle.ac_statement.specs.declared.fault.ParseFault.{ParseFault}
-use Rattle.ac_tree.specs.Script.{Script}
+use Rattle.ac_tree.specs.declared.tree.Stmt.{Stmt}
+use Rattle.ac_tree.specs.Script.{Script, script_of}
 use Rattle.acparse.specs.Profile.{source_of}
 use Rattle.cmd_call.specs.Calls.{is_input}
 use Rattle.header_template.specs.Pages.{IsTemplate}
 use Rattle.lint_errors.specs.Errors.{IsAccepted}
+use Rattle.lint_errors.specs.Readings.{IsRead}
+use Rattle.lint_findings.specs.declared.finding.Finding.{Finding}
 use Rattle.lint_sources.specs.Sources.{IsNamed}
 use Rattle.cmd_header.specs.Answers.{IsAnswer, IsMade, name_of}
 use Rattle.cmd_header.specs.Refusals.{HasSaid}
@@ -20,17 +25,48 @@ same_script : (text : List ℕ) (script : Script) (accepted : IsAccepted text) �
 same_script text script accepted read =
     let e : Ok script ≡ Ok accepted.script = sym read ∙ accepted.read in cc
 
-pub made : (text : List ℕ) (script : Script) (calls : List MacroCall) (page said : List ℕ) → IsAccepted text → source_of text ≡ Ok script → calls ≡ calls_in text
-    → IsTemplate text script calls page said → IsMade text page said
-made text script calls page said accepted read are template = record {
-  accepted = accepted;
-  template = subst (λ c. IsTemplate text accepted.script c page said) are (subst (λ s. IsTemplate text s calls page said) (same_script text script accepted read) template);
-}
+pub made : (text : List ℕ) (reading : Result (List Stmt) ParseFault) (statements : List Stmt) (calls lent : List CallAt) (page said : List ℕ) → IsAccepted text → IsRead text reading → reading ≡ Ok statements
+    → map macro_call_of calls ≡ calls_in text → lent ≡ calls → IsTemplate text (script_of statements) (map macro_call_of lent) page said → IsMade text page said
+made text reading statements calls lent page said accepted read is are same template =
+    let found : source_of text ≡ Ok (script_of statements) = subst (IsRead text) is read in
+    record {
+      accepted = accepted;
+      template = subst (λ c. IsTemplate text accepted.script c page said) (ap (map macro_call_of) same ∙ are)
+          (subst (λ s. IsTemplate text s (map macro_call_of lent) page said) (same_script text (script_of statements) accepted found) template);
+    }
 
 -- A source that is not read is not accepted.
-pub refused : (text : List ℕ) (fault : ParseFault) → source_of text ≡ Err fault → IsAccepted text → ⊥
-refused text fault unread accepted =
+pub refused : (text : List ℕ) (reading : Result (List Stmt) ParseFault) (fault : ParseFault) → IsRead text reading → reading ≡ Err fault → IsAccepted text → ⊥
+refused text reading fault read is accepted =
+    let unread : source_of text ≡ Err fault = subst (IsRead text) is read in
     let e : Err fault ≡ Ok accepted.script = sym unread ∙ accepted.read in absurd cc
+
+pub no_errors : (items : List Finding) (count : ℕ) (P : Type 0) (is : Bool) → count ≡ length items → is ≡ (count == 0) → ((items ≡ []) ↔ P) → is ≡ true → P
+no_errors [] count P is counted empty both yes = both.0 refl
+no_errors (f ∷ more) count P is counted empty both yes =
+    elim (eqb_tells (length (f ∷ more)) 0) [
+      | inl w ↦ (let z = w.1 in absurd (omega (arith, z)))
+      | inr w ↦ (let e : true ≡ false = sym yes ∙ empty ∙ ap (λ n. n == 0) counted ∙ w.0 in absurd cc)
+    ]
+
+pub some_errors : (items : List Finding) (count : ℕ) (P : Type 0) (is : Bool) → count ≡ length items → is ≡ (count == 0) → ((items ≡ []) ↔ P) → is ≡ false → P → ⊥
+some_errors items count P is counted empty both no_error holds =
+    let none : items ≡ [] = both.1 holds in
+    let e : true ≡ false = sym (empty ∙ ap (λ n. n == 0) (counted ∙ ap length none)) ∙ no_error in cc
+
+pub answered : {E : Type 0} (contents : E → Option (List ℕ)) (old new : E) (text lent page said : List ℕ) (status : ℕ) (a b : Option (List ℕ)) → lent ≡ text → IsMade lent page said
+    → (status ≢ 2 → Appends a b page) → (status ≢ 2 → HasSaid contents old new said)
+    → status ≢ 2 → (p : List ℕ) × (s : List ℕ) × IsMade text p s × Appends a b p × HasSaid contents old new s
+answered contents old new text lent page said status a b same made put told ne = (page, said, subst (λ t. IsMade t page said) same made, put ne, told ne)
+
+pub refused_text : (text lent : List ℕ) → lent ≡ text → (IsAccepted lent → ⊥) → IsAccepted text → ⊥
+refused_text text lent same no_one = subst (λ t. IsAccepted t → ⊥) same no_one
+
+pub answered_named : {E : Type 0} (contents : E → Option (List ℕ)) (old new : E) (files : Option Known) (is_stream : Bool) (name text directory : List ℕ) (status : ℕ) (a b : Option (List ℕ)) → IsNamed files is_stream name text directory
+    → (status ≢ 2 → (page : List ℕ) × (said : List ℕ) × IsMade text page said × Appends a b page × HasSaid contents old new said)
+    → status ≢ 2 → (page : List ℕ) × (said : List ℕ) × ((t : List ℕ) × (d : List ℕ) × IsNamed files is_stream name t d × IsMade t page said) × Appends a b page × HasSaid contents old new said
+answered_named contents old new files is_stream name text directory status a b named gives ne =
+    let g = gives ne in (g.0, g.1, (text, directory, named, g.2), g.3, g.4)
 
 pub by_words : {E : Type 0} (contents : E → Option (List ℕ)) (old new : E) (files : Option Known) (words : List (List ℕ)) (asked : Option (List ℕ)) (name : List ℕ) (reads : Bool) (status : ℕ) (a b : Option (List ℕ))
     → asked ≡ name_of words → asked ≡ Some name → reads ≡ list_any is_input words

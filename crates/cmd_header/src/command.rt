@@ -68,6 +68,7 @@ fn has_no_error(alloc: Global, text: &[u8], reading: &Reading) -> Result<bool, A
 }
 
 /// Returns the template of a source with this reading, if it is accepted.
+#[tactic(auto, using(crate::proofs::Making::made, crate::proofs::Making::refused))]
 fn template_with(
     alloc: Global,
     text: &[u8],
@@ -130,6 +131,7 @@ fn put_said<E: Hears>(said: &[u8], errors: &mut E) -> u8
 
 /// Writes a template, and what is said of its names without a description, and returns the exit
 /// status.
+#[tactic(auto, using(crate::proofs::Saying::output_lost, crate::proofs::Saying::stream_lost))]
 fn put_template<W: Hears, E: Hears>(template: &Template, output: &mut W, errors: &mut E) -> u8
     ensures status { result ≢ 2 → result ≡ 0 }
     ensures put { result ≢ 2
@@ -145,6 +147,7 @@ fn put_template<W: Hears, E: Hears>(template: &Template, output: &mut W, errors:
 }
 
 /// Prints the template of a source, and returns the exit status.
+#[tactic(auto, using(crate::proofs::Saying::lost_of, crate::proofs::Saying::memory_said, crate::proofs::Making::answered, crate::proofs::Making::refused_text))]
 fn print_template<W: Hears, E: Hears>(
     alloc: Global,
     linted: &Linted,
@@ -168,6 +171,7 @@ fn print_template<W: Hears, E: Hears>(
 }
 
 /// Prints the template of the source of this name, and returns the exit status.
+#[tactic(auto, using(crate::proofs::Making::answered_named, crate::proofs::Saying::said_of_named, crate::proofs::Saying::unread_said, crate::proofs::Saying::memory_for))]
 fn print_named<D: Disk, R: Read, W: Hears, E: Hears>(
     alloc: Global,
     disk: &D,
@@ -211,6 +215,7 @@ fn print_named<D: Disk, R: Read, W: Hears, E: Hears>(
 ///
 /// The status is 0 if the text is printed, and 2 if the source can't be read or is refused, if
 /// something can't be written, or if the words are wrong. Then standard error says so (own).
+#[tactic(auto, using(crate::proofs::Making::by_words, crate::proofs::Saying::said_by_words, crate::proofs::Saying::usage_said))]
 pub fn run_header<D: Disk, R: Read, W: Hears, E: Hears>(
     alloc: Global,
     disk: &D,

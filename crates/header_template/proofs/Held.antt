@@ -1,5 +1,5 @@
 -- What a table holds of names and descriptions.
-use Rattle.std.proofs.Common.{◌≡◌, ℕ, Bool, List, [], ◌∷◌, Vec, Global, Bor, Option, Some, None, map, cond, refl, ap, ◌∙◌, sym, Ordering, Less, Equal, Greater}
+use Rattle.std.proofs.Common.{◌≡◌, ℕ, Bool, true, false, List, [], ◌∷◌, Vec, Global, Bor, Option, Some, None, map, cond, refl, ap, ◌∙◌, sym, Ordering, Less, Equal, Greater}
 use Rattle.std.specs.Prelude.{bytes_eq, is_some, option_map}
 use Rattle.std.specs.Option.{option_copied}
 use Rattle.std.specs.List.{AllByRecursion}
@@ -10,7 +10,7 @@ use Rattle.std.specs.Ordering.{nat_cmp, match_ordering, is_eq}
 use Rattle.std.specs.Cmp.Lexicographic.{slice_cmp}
 use Rattle.std.proofs.lemmas.Map.Text.{is_eq-slice_cmp}
 use Rattle.deftable.specs.Table.{value_of}
-use Rattle.header_template.specs.Table.{with_placed, AreInOrder, described}
+use Rattle.header_template.specs.Table.{with_placed, AreInOrder, described, or_empty}
 
 abbrev pub Text : Type 0
 Text = List ℕ
@@ -37,6 +37,11 @@ placed_seen (e ∷ es) name description =
     seen_by (held_order name e.0) ((name, description) ∷ e ∷ es) ((e.0, description) ∷ es) (e ∷ insert_entry held_order es name description)
     ∙ ap (λ rest. match_ordering (held_order name e.0) ((name.items, description.items) ∷ seen e ∷ map seen es) ((e.0.items, description.items) ∷ map seen es) (seen e ∷ rest))
     (placed_seen es name description)
+
+pub placed : (old new : List Owned) (key value : Vec ℕ Global) (name description : Text) → new ≡ insert_entry held_order old key value → key.items ≡ name → value.items ≡ description
+    → map seen new ≡ with_placed (map seen old) (name, description)
+placed old new key value name description put is has =
+    ap (map seen) put ∙ placed_seen old key value ∙ ap (λ n. with_placed (map seen old) (n, value.items)) is ∙ ap (λ d. with_placed (map seen old) (name, d)) has
 
 below_seen : (name : Vec ℕ Global) (es : List Owned) → AllByRecursion (λ n. held_order name n ≡ Less) (map (λ e. e.0) es)
     → AllByRecursion (λ n. slice_cmp nat_cmp name.items n ≡ Less) (map (λ e. e.0) (map seen es))
@@ -76,3 +81,21 @@ some_mapped (Some v) = refl
 
 pub has_seen : (es : List Owned) (q : Text) → is_some (found_in es q) ≡ is_some (value_of (map seen es) q)
 has_seen es q = some_mapped (found_in es q) ∙ ap is_some (value_seen es q)
+
+copied_is : (o : Option (Bor (Vec ℕ Global))) (d : Bor (Vec ℕ Global)) → o ≡ Some d → option_copied o ≡ Some d.now
+copied_is o d is = ap option_copied is
+
+some_is : (o : Option (Vec ℕ Global)) (v : Vec ℕ Global) (known : Option Text) → o ≡ Some v → option_map (λ x. x.items) o ≡ known → known ≡ Some v.items
+some_is o v known is mapped = sym mapped ∙ ap (option_map (λ x. x.items)) is
+
+pub found_description : (es : List Owned) (q : Text) (o : Option (Bor (Vec ℕ Global))) (d : Bor (Vec ℕ Global)) (slice : Text) → option_copied o ≡ found_in es q → o ≡ Some d → slice ≡ d.now.items
+    → slice ≡ described (map seen es) q
+found_description es q o d slice got is lent =
+    let found : found_in es q ≡ Some d.now = sym got ∙ copied_is o d is in
+    lent ∙ sym (ap or_empty (some_is (found_in es q) d.now (value_of (map seen es) q) found (value_seen es q)))
+
+pub no_description : (es : List Owned) (q : Text) (o : Option (Bor (Vec ℕ Global))) → option_copied o ≡ found_in es q → o ≡ None → [] ≡ described (map seen es) q
+no_description es q o got is =
+    let lost : found_in es q ≡ None = sym got ∙ ap option_copied is in
+    let none : value_of (map seen es) q ≡ None = sym (value_seen es q) ∙ ap (option_map (λ x. x.items)) lost in
+    sym (ap or_empty none)

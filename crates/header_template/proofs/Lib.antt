@@ -1,4 +1,5 @@
 mod Adding
 mod Held
+mod Making
 mod Tables
 mod Wrapping

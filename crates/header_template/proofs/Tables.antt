@@ -1,5 +1,5 @@
 -- What is known of names after entries are added.
-use Rattle.std.proofs.Common.{◌≡◌, ℕ, ◌+◌, ◌==◌, Bool, true, false, List, [], ◌∷◌, ◌++◌, ◌⊎◌, inl, inr, Option, Some, None, cond, length, refl, arith, sym, ap, ◌∙◌, subst, Ordering, Less, Equal, Greater}
+use Rattle.std.proofs.Common.{◌≡◌, ℕ, ◌+◌, ◌==◌, Bool, true, false, List, [], ◌∷◌, ◌++◌, ◌⊎◌, inl, inr, Option, Some, None, cond, length, map, refl, arith, sym, ap, ◌∙◌, subst, Ordering, Less, Equal, Greater}
 use Rattle.std.specs.Prelude.{fold, bytes_eq, is_some, ◌||◌, ◌&&◌}
 use Rattle.std.specs.BTreeMap.{insert_entry}
 use Rattle.std.specs.Ordering.{nat_cmp, match_ordering, is_eq}
@@ -10,6 +10,7 @@ use Rattle.std.proofs.lemmas.Slice.Eq.{bytes_eq-Decides}
 use Rattle.deftable.specs.NameList.{has_name}
 use Rattle.deftable.specs.Table.{value_of, names_of}
 use Rattle.deftable.proofs.Names.{has_name-names_of}
+use Rattle.header_template.proofs.Held.{Owned, seen}
 use Rattle.header_template.specs.Table.{joined, after, known_of, is_none, with_placed, with_entry, with_all, AreInOrder, IsTable}
 
 abbrev pub Entries : Type 0
@@ -27,7 +28,7 @@ order x y = slice_cmp nat_cmp x y
 pub none_is : (d : List ℕ) → (length d == 0) ≡ is_none d
 none_is [] = refl
 none_is (b ∷ bs) = elim (eqb_tells (length (b ∷ bs)) 0) [
-  | inl h ↦ absurd (let z : length bs + 1 ≡ 0 = h.1 in omega (arith, z))
+  | inl h ↦ let z = h.1 in absurd (omega (arith, z))
   | inr h ↦ h.0
 ]
 
@@ -76,9 +77,9 @@ stays (Some x) (b ∷ bs) empty some = absurd cc
 
 -- Any other one takes its place.
 replaces : (known : Option (List ℕ)) (d : List ℕ) → (is_none d && is_some known) ≡ false → Some d ≡ joined known d
-replaces None d no = refl
-replaces (Some x) [] no = absurd cc
-replaces (Some x) (b ∷ bs) no = refl
+replaces None d other = refl
+replaces (Some x) [] other = absurd (true_is_false other)
+replaces (Some x) (b ∷ bs) other = refl
 
 and_first : (a b : Bool) → (a && b) ≡ true → a ≡ true
 and_first true b is = refl
@@ -154,9 +155,9 @@ descriptions entries q = all_known [] entries q ∙ ap (λ o. fold (after q) o e
 names : (entries : Entries) (q : List ℕ) → has_name (names_of (with_all [] entries)) q ≡ has_name (names_of entries) q
 names entries q = has_name-names_of (with_all [] entries) q ∙ ap is_some (descriptions entries q) ∙ all_named None entries q
 
-pub made : (entries empty table : Entries) → empty ≡ [] → table ≡ with_all empty entries → AreInOrder table → IsTable entries table
+pub made : (entries : Entries) (empty : List Owned) (table : Entries) → empty ≡ [] → table ≡ with_all (map seen empty) entries → AreInOrder table → IsTable entries table
 made entries empty table none is sorted =
-    let all : table ≡ with_all [] entries = is ∙ ap (λ t. with_all t entries) none in
+    let all : table ≡ with_all [] entries = is ∙ ap (λ t. with_all (map seen t) entries) none in
     record {
       in_order = sorted;
       names = λ q. ap (λ t. has_name (names_of t) q) all ∙ names entries q;

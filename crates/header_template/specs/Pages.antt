@@ -1,5 +1,5 @@
 -- The text of a header template. All of this is own, where no other source is given.
-use Rattle.std.specs.Prelude.{◌≡◌, ℕ, ◌-◌, nat_lt, List, [], ◌∷◌, ◌++◌, length, codes, if◌then◌else◌}
+use Rattle.std.specs.Prelude.{◌≡◌, ℕ, ◌+◌, ◌-◌, nat_lt, List, [], ◌∷◌, ◌++◌, length, codes, if◌then◌else◌}
 use Rattle.std.specs.List.{flat_map}
 use Rattle.text_cut.specs.Cuts.{fields}
 use Rattle.ac_calls.specs.Calls.{MacroCall}
@@ -38,9 +38,13 @@ comment_line description = if is_none description then [] else comment descripti
 abbrev pub lines_of : List ℕ × List ℕ → List ℕ
 lines_of entry = codes "\n" ++ (comment_line entry.1 ++ (codes "#undef " ++ (entry.0 ++ codes "\n")))
 
+-- What a line about a name without a description begins with.
+unfoldable pub undescribed : List ℕ
+undescribed = codes "acrun: undescribed "
+
 -- What is said of a name without a description.
 abbrev pub said_of : List ℕ × List ℕ → List ℕ
-said_of entry = if is_none entry.1 then codes "acrun: undescribed " ++ (entry.0 ++ codes "\n") else []
+said_of entry = if is_none entry.1 then undescribed ++ (entry.0 ++ codes "\n") else []
 
 -- The first line.
 unfoldable pub head : List ℕ

@@ -145,6 +145,7 @@ fn add_statement(
 
 /// Adds what the subject of a choice and the statements of its cases may define.
 #[cycle(list)]
+#[tactic(auto, using(crate::proofs::Adding::then_all))]
 fn add_choice(
     alloc: Global,
     notes: &Table,
@@ -166,6 +167,7 @@ fn add_choice(
 
 /// Adds what the statements of cases may define.
 #[cycle(list)]
+#[tactic(auto, using(crate::proofs::Adding::on_case))]
 fn add_cases(
     alloc: Global,
     notes: &Table,

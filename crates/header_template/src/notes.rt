@@ -1,6 +1,6 @@
 //! The descriptions in the calls of a source.
 
-ghost use Rattle.std.specs.Prelude.{◌≡◌, ◌++◌, map, IfOk, OnOk};
+ghost use Rattle.std.specs.Prelude.{◌≡◌, ◌++◌, [], ◌∷◌, map, IfOk, OnOk};
 ghost use Rattle.m4quote.specs.Scan.{used, bare_value_of};
 ghost use Rattle.ac_calls.specs.Calls.{macro_call_of};
 ghost use Rattle.header_template.specs.Notes as specs;

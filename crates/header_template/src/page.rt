@@ -53,6 +53,7 @@ fn put_word(room: usize, word: &[u8], text: &mut Vec<u8>) -> Result<(), AllocErr
 }
 
 /// Adds words, each after what separates it.
+#[tactic(auto, using(crate::proofs::Wrapping::on_word))]
 fn put_words(words: &[&[u8]], text: &mut Vec<u8>) -> Result<(), AllocError>
     ensures { OnOk result (
         text.new.items
@@ -114,6 +115,17 @@ fn put_lines(
     page.extend_from_slice(b"\n")
 }
 
+/// What a line about a name without a description begins with.
+const UNDESCRIBED: &[u8] = b"acrun: undescribed ";
+
+/// Adds what such a line begins with.
+#[tactic(auto, unfolding(crate::specs::Pages::undescribed))]
+fn put_undescribed(said: &mut Vec<u8>) -> Result<(), AllocError>
+    ensures { OnOk result (said.new.items ≡ said.old.items ++ specs.undescribed) }
+{
+    said.extend_from_slice(UNDESCRIBED)
+}
+
 /// Adds what is said of a name, if it has no description.
 fn put_said(name: &[u8], description: &[u8], said: &mut Vec<u8>) -> Result<(), AllocError>
     ensures { OnOk result (
@@ -122,7 +134,7 @@ fn put_said(name: &[u8], description: &[u8], said: &mut Vec<u8>) -> Result<(), A
     if !is_none(description) {
         return Ok(());
     }
-    said.extend_from_slice(b"acrun: undescribed ")?;
+    put_undescribed(said)?;
     said.extend_from_slice(name)?;
     said.extend_from_slice(b"\n")
 }
@@ -142,10 +154,10 @@ fn head(alloc: Global) -> Result<Vec<u8>, AllocError>
 fn written(alloc: Global, table: Table) -> Result<Template, AllocError>
     ensures page { IfOk result (λ t. t.page ≡ specs.head
         ++ flat_map specs.lines_of
-        (map (λ e. (e.0.items, e.1.items)) table.entry.entries)) }
+        (map (λ e. (e.0.items, e.1.items)) table.entries)) }
     ensures said { IfOk result (λ t. t.said
         ≡ flat_map specs.said_of
-        (map (λ e. (e.0.items, e.1.items)) table.entry.entries)) }
+        (map (λ e. (e.0.items, e.1.items)) table.entries)) }
 {
     let mut page = head(alloc)?;
     let mut said = Vec::new(alloc);
@@ -170,6 +182,7 @@ fn written(alloc: Global, table: Table) -> Result<Template, AllocError>
 /// # Errors
 ///
 /// Fails only if memory runs out.
+#[tactic(auto, using(crate::proofs::Making::template))]
 pub fn template_of(
     alloc: Global,
     text: &[u8],
