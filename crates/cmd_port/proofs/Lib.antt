@@ -2,4 +2,4 @@ pub mod Left
 pub mod Saying
 pub mod Steps
 pub mod Written
-mod Putting
+pub mod Putting
