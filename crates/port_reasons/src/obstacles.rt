@@ -196,7 +196,7 @@ fn obstacle_of_guard(
 
 /// Returns what keeps `acrun port --idioms` from writing another text in the place of an operator in
 /// a condition of a statement, if that is known.
-pub(crate) fn obstacle(
+pub(crate) fn obstacle_at(
     alloc: Global,
     text: &[u8],
     calls: &[CallAt],

@@ -1,6 +1,6 @@
 //! Why statements of a shell stay.
 
-use crate::obstacles::obstacle;
+use crate::obstacles::obstacle_at;
 use crate::softened::softened;
 use ac_calls::{CallAt, calls_of};
 use deftable::Bytes;
@@ -115,7 +115,7 @@ fn with_bodies<'a>(
 
 /// What is wrong with a call in the place of a statement.
 #[derive(Drop)]
-struct Refusal {
+struct Objection {
     reason: Reason,
     /// Whether it is an operator of a test alone, in whose place `acrun port --idioms` may write
     /// another text.
@@ -123,9 +123,9 @@ struct Refusal {
 }
 
 /// Returns a reason that is no operator alone.
-fn hard(reason: Option<Reason>) -> Option<Refusal> {
+fn hard(reason: Option<Reason>) -> Option<Objection> {
     let reason = reason?;
-    Some(Refusal {
+    Some(Objection {
         reason,
         is_soft: false,
     })
@@ -179,7 +179,7 @@ fn refusal_with(
     alloc: Global,
     parts: &[&[u8]],
     has_bodies: bool,
-) -> Result<Option<Refusal>, AllocError> {
+) -> Result<Option<Objection>, AllocError> {
     let parts = with_bodies(alloc, parts, 0, has_bodies)?;
     let Some(reason) = refusal_joined(alloc, parts.as_slice())? else {
         return Ok(None);
@@ -187,7 +187,7 @@ fn refusal_with(
     let other = refusal_softened(alloc, parts.as_slice())?;
     let is_soft = other.is_none();
     let reason = other.unwrap_or(reason);
-    Ok(Some(Refusal { reason, is_soft }))
+    Ok(Some(Objection { reason, is_soft }))
 }
 
 /// Returns whether something is after a statement, on its line.
@@ -225,7 +225,7 @@ fn refusal_of_if(
     text: &[u8],
     cut: &IfCut,
     has_bodies: bool,
-) -> Result<Option<Refusal>, AllocError> {
+) -> Result<Option<Objection>, AllocError> {
     match if_parts(alloc, text, cut)? {
         Some(parts) => refusal_with(alloc, parts.as_slice(), has_bodies),
         None => Ok(hard(unread_if(text, cut))),
@@ -238,7 +238,7 @@ fn refusal_of_case(
     text: &[u8],
     cut: &CaseCut,
     has_bodies: bool,
-) -> Result<Option<Refusal>, AllocError> {
+) -> Result<Option<Objection>, AllocError> {
     match case_parts(alloc, text, cut)? {
         Some(parts) => {
             let parts = with_bodies(alloc, parts.as_slice(), 1, has_bodies)?;
@@ -255,7 +255,7 @@ fn refusal_of_guard(
     alloc: Global,
     text: &[u8],
     cut: GuardCut,
-) -> Result<Option<Refusal>, AllocError> {
+) -> Result<Option<Objection>, AllocError> {
     match guard_parts(alloc, text, cut)? {
         Some(parts) => refusal_with(alloc, parts.as_slice(), true),
         None => Ok(None),
@@ -268,7 +268,7 @@ fn refusal_of(
     text: &[u8],
     cut: &StatementCut,
     has_bodies: bool,
-) -> Result<Option<Refusal>, AllocError> {
+) -> Result<Option<Objection>, AllocError> {
     match cut {
         StatementCut::If(cut) => refusal_of_if(alloc, text, cut, has_bodies),
         StatementCut::Case(cut) => refusal_of_case(alloc, text, cut, has_bodies),
@@ -287,17 +287,17 @@ fn explained(
     text: &[u8],
     calls: &[CallAt],
     cut: &StatementCut,
-    refusal: Refusal,
-) -> Result<Refusal, AllocError> {
-    if !refusal.is_soft {
-        return Ok(refusal);
+    objection: Objection,
+) -> Result<Objection, AllocError> {
+    if !objection.is_soft {
+        return Ok(objection);
     }
-    match obstacle(alloc, text, calls, cut)? {
-        Some(words) => Ok(Refusal {
+    match obstacle_at(alloc, text, calls, cut)? {
+        Some(words) => Ok(Objection {
             reason: Reason::Refused(words),
             is_soft: false,
         }),
-        None => Ok(refusal),
+        None => Ok(objection),
     }
 }
 
@@ -308,7 +308,7 @@ fn reason_of(
     drawing: &[usize],
     text: &[u8],
     cut: &StatementCut,
-) -> Result<Option<Refusal>, AllocError> {
+) -> Result<Option<Objection>, AllocError> {
     if matches!(
         cut,
         StatementCut::Assigned(_) | StatementCut::Default(_) | StatementCut::For(_)
@@ -316,7 +316,7 @@ fn reason_of(
         return Ok(None);
     }
     match refusal_of(alloc, text, cut, true)? {
-        Some(refusal) => explained(alloc, text, calls, cut, refusal).map(|found| Some(found)),
+        Some(objection) => explained(alloc, text, calls, cut, objection).map(|found| Some(found)),
         None if draws(drawing, cut.start(), cut.end()) => Ok(hard(Some(Reason::Draws))),
         None => Ok(None),
     }
@@ -410,7 +410,7 @@ fn refusal_of_head(
     text: &[u8],
     cut: &StatementCut,
     left: &mut usize,
-) -> Result<Option<Refusal>, AllocError> {
+) -> Result<Option<Objection>, AllocError> {
     if spend(cut, left) {
         refusal_of(alloc, text, cut, false)
     } else {
@@ -426,10 +426,10 @@ fn reason_of_kept(
     text: &[u8],
     kept: &Kept,
     left: &mut usize,
-) -> Result<Refusal, AllocError> {
+) -> Result<Objection, AllocError> {
     if let Some(around) = kept.around {
         let reason = reason_around(alloc, text, around)?;
-        return Ok(Refusal {
+        return Ok(Objection {
             reason,
             is_soft: false,
         });
@@ -439,9 +439,9 @@ fn reason_of_kept(
 }
 
 /// Returns whether something is wrong that is no operator alone.
-fn is_hard(found: &Option<Refusal>) -> bool {
+fn is_hard(found: &Option<Objection>) -> bool {
     match found {
-        Some(refusal) => !refusal.is_soft,
+        Some(objection) => !objection.is_soft,
         None => false,
     }
 }
@@ -452,15 +452,15 @@ fn reason_inside(
     calls: &[CallAt],
     text: &[u8],
     kept: &Kept,
-    found: Option<Refusal>,
-) -> Result<Refusal, AllocError> {
+    found: Option<Objection>,
+) -> Result<Objection, AllocError> {
     if is_hard(&found) {
         return reason_of_head(alloc, calls, text, kept, found);
     }
     match kept.at_other {
         Some(at) => {
             let reason = other_in(alloc, text, at)?;
-            Ok(Refusal {
+            Ok(Objection {
                 reason,
                 is_soft: false,
             })
@@ -475,11 +475,11 @@ fn reason_of_head(
     calls: &[CallAt],
     text: &[u8],
     kept: &Kept,
-    found: Option<Refusal>,
-) -> Result<Refusal, AllocError> {
+    found: Option<Objection>,
+) -> Result<Objection, AllocError> {
     match found {
-        Some(refusal) => explained(alloc, text, calls, &kept.cut, refusal),
-        None => Ok(Refusal {
+        Some(objection) => explained(alloc, text, calls, &kept.cut, objection),
+        None => Ok(Objection {
             reason: Reason::Inner,
             is_soft: true,
         }),
@@ -564,12 +564,12 @@ fn whole_offset(cuts: &[(usize, usize)], at: usize) -> usize {
 fn push_staying(
     bare: &Bare,
     cut: &StatementCut,
-    refusal: Refusal,
+    objection: Objection,
     out: &mut Vec<Staying>,
 ) -> Result<(), AllocError> {
     let cuts = bare.cuts.as_slice();
     let last = cut.end().saturating_sub(1);
-    let Refusal { reason, is_soft } = refusal;
+    let Objection { reason, is_soft } = objection;
     out.push(Staying {
         start: whole_offset(cuts, cut.start()),
         end: whole_offset(cuts, last).saturating_add(1),
@@ -625,14 +625,14 @@ pub fn kept_statements(alloc: Global, text: &[u8]) -> Result<Vec<Staying>, Alloc
     let mut out = Vec::new(alloc);
     for cut in &found.cuts {
         let calls = calls.as_slice();
-        if let Some(refusal) = reason_of(alloc, calls, drawing.as_slice(), text, cut)? {
-            push_staying(&bare, cut, refusal, &mut out)?;
+        if let Some(objection) = reason_of(alloc, calls, drawing.as_slice(), text, cut)? {
+            push_staying(&bare, cut, objection, &mut out)?;
         }
     }
     let mut left = text.len().saturating_mul(OFTEN).saturating_add(LEAST);
     for kept in &found.kept {
-        let refusal = reason_of_kept(alloc, calls.as_slice(), text, kept, &mut left)?;
-        push_staying(&bare, &kept.cut, refusal, &mut out)?;
+        let objection = reason_of_kept(alloc, calls.as_slice(), text, kept, &mut left)?;
+        push_staying(&bare, &kept.cut, objection, &mut out)?;
     }
     out.sort_by_key(|staying| staying.start)?;
     hand_inside(out.as_mut_slice());
