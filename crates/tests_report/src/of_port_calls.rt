@@ -299,7 +299,7 @@ const AROUND: &[u8] = br##"
 if :; then^J  AC_PROG_MKDIR_P^Jfi^JAC_PROG_MKDIR_P => the same
 dnl AC_PROG_MKDIR_P^JAC_PROG_MKDIR_P => dnl AC_PROG_MKDIR_P^JAS_IF([test -z "$MKDIR_P"], [AC_SUBST([MKDIR_P], ["mkdir -p"])])
 // a word that is left may be forbidden
-m4_pattern_allow([AC_FOO])^Ja=AC_BAR => a=[AC_BAR]
+m4_pattern_allow([AC_FOO])^Ja=AC_BAR => a=AC_BAR
 m4_pattern_allow([AC_FOO])^JAC_FOO=1 => m4_pattern_allow([AC_FOO])^J[AC_FOO]=1
 m4_pattern_allow([FOO])^Ja="AM_[FOO]" => the same
 m4_pattern_allow([^FOO$])^Ja="MY_FOO LIB" => a="MY_FOO LIB"
@@ -318,9 +318,9 @@ AC_PREFIX_DEFAULT([/a])^Jb=1^JAC_OUTPUT^Jc=$prefix => dnl acrun: in place of AC_
 AC_PREFIX_DEFAULT([/a])^Jtest "$prefix" = NONE && b=1^JAC_OUTPUT => the same
 AC_PREFIX_DEFAULT([/a])^JAC_MSG_NOTICE([in ${libdir}])^JAC_OUTPUT => the same
 // a word is taken for text, unless it is a macro
-AC_PATH_PROGS(MY_X,a b) => AC_PATH_PROG([MY_X], [a])^JAS_IF([test -z "$MY_X"], [AC_PATH_PROG([MY_X], [b])])
-AC_PATH_PROGS(AC_X,a b) => the same
-AC_DEFUN([MY_X], [$1])^JAC_PATH_PROGS(MY_X,a b) => the same
+AC_HAVE_FUNCS(MY_X) => AC_CHECK_FUNCS([MY_X])
+AC_HAVE_FUNCS(AC_X) => the same
+AC_DEFUN([MY_X], [$1])^JAC_HAVE_FUNCS(MY_X) => the same
 "##;
 
 #[test]
