@@ -23,7 +23,7 @@ CRATES = ROOT / "crates"
 FAULTS = {"": ("ac_statement", "ParseFault"), "1.": ("m4quote", "QuoteFault"), "6.": ("shellword", "ShellFault")}
 END = "<!-- up to here -->"
 PAGE, MANUAL = ROOT / "docs/errors.md", ROOT / "share/acrun.1"
-SEVERITIES = {"error": "error", "warning": "warning", "difference": "warning, difference"}
+SEVERITIES = {"error": "error", "warning": "warning", "difference": "warning, difference", "left": "warning, left to do"}
 # The faults that are a number of an error line: their crate, the titles of the last columns, and those of each variant. Of a cache and of a
 # record the example is the text, in which `\n` is a newline.
 NUMBERED = {

@@ -39,6 +39,9 @@ WHY_NONE = {
     "crew_launch": "They ask the system in which pipe there is something to read. Whatever it answers, no byte is lost.",
     "cmd_standin": "It takes the handle by which files are made. Nothing is known of them.",
     "cmd_call": "It gives the error of the last write. Which one the system gives is not known.",
+    "lint_sources": "What templates want, and what is left to do in them, is a judgement, name by name and rule by rule. What a source gets for it "
+    "is stated by `cmd_port`.",
+    "lint_templates": "What a template wants, and what a rule runs, is a judgement. Examples hold it.",
     "lint_macros": "Each index is exact, whoever made it: it has a ghost field that says so, and its calls are stated by that.",
     "lint_words": "They choose words for a reader. Which words are right is a judgement, and examples hold it.",
     "run_words": "They choose words for a reader. Which words are right is a judgement, and examples hold it.",

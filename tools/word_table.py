@@ -2,7 +2,7 @@
 """Writes the crate lint_table's keys from crates/lint_table/words.txt, which has what acrun says of errors and warnings, and a list of
 these texts into docs/errors.md.
 
-    tools/word_table.py            writes crates/lint_table/src/keys.rt, crates/lint_table/specs/Differences.antt and the list
+    tools/word_table.py            writes crates/lint_table/src/keys.rt, Differences.antt and Lefts.antt of crates/lint_table/specs, and the list
     tools/word_table.py --check    prints what is wrong with the words and with the calls that name them, and then exits with status 1
     tools/word_table.py --show     prints each key with its message and its help, as a reader sees them
     tools/word_table.py --unseen   prints the keys whose message or help is in no text that a test of the gate compares
@@ -13,10 +13,11 @@ A line of the file that begins with a letter is a key, with the names of its pla
     error: TEXT      the message of an error that lint finds, whose code is the key
     warning: TEXT    the message of a warning that lint finds, whose code is the key
     difference: TEXT the same, of a warning that something means another thing to Autoconf, which port prints too
+    left: TEXT       the same, of a warning about a template that port counts as left to do
         TEXT         a line of help, after four blanks
     = KEY            the help is that of another key
 
-A warning whose message says what Autoconf does is a difference. A line of help has at most 68 characters if it is the first, and 70
+A warning whose message says what Autoconf does is a difference, or is left to do. A line of help has at most 68 characters if it is the first, and 70
 otherwise, so that what lint prints has at most 79 columns, except where a place is filled with more.
 
 In a text `%1`, `%2` and `%3` are the places of the first name, the second and the third, and `%%` is a percent sign. A place is filled with
@@ -41,6 +42,8 @@ CRATES = ROOT / "crates"
 WORDS, KEYS = CRATES / "lint_table/words.txt", CRATES / "lint_table/src/keys.rt"
 # The definition of which warnings are differences.
 DIFFERENCES = CRATES / "lint_table/specs/Differences.antt"
+# The definition of which warnings port counts as left to do.
+LEFTS = CRATES / "lint_table/specs/Lefts.antt"
 # The forms of calls: the file that has them for the program, and the document that explains them.
 FORMS, LANGUAGE = CRATES / "lint_words/src/forms.rt", ROOT / "docs/language.md"
 # The page that lists the texts, the marks around its list, and what a line of help begins with that is to be written as it is.
@@ -92,7 +95,7 @@ def entries():
             if key in found:
                 sys.exit(f"{WORDS}:{number}: {key} is there twice")
             entry = found[key] = Entry(key, places, heading)
-        elif entry and sign in (":", "error:", "warning:", "difference:") and not entry.message:
+        elif entry and sign in (":", "error:", "warning:", "difference:", "left:") and not entry.message:
             entry.message, entry.severity = text, sign[:-1] or None
         elif entry and sign == "=" and not entry.same:
             entry.same = text
@@ -192,34 +195,50 @@ def literal(text):
     return 'b"%s"' % re.sub(r'[\x01-\x03\n"\\]', lambda it: {"\n": "\\n", '"': '\\"', "\\": "\\\\"}.get(it[0], f"\\x0{ord(it[0])}"), text)
 
 
-def differing():
-    """Returns the codes of the warnings that are differences."""
-    return [entry.key for entry in entries().values() if entry.severity == "difference"]
+def marked(severity):
+    """Returns the codes of the warnings with this mark."""
+    return [entry.key for entry in entries().values() if entry.severity == severity]
 
 
-def text_of_definition():
-    """Returns the file that defines which warnings are differences."""
-    names = " ∷ ".join(f'codes "{key}"' for key in differing())
-    return ("-- The warnings that something means another thing to Autoconf. tools/word_table.py writes this file from words.txt, where they have a\n"
-            "-- mark of their own.\n"
+def text_of_definition(severity, listed, asked, first, what):
+    """Returns the file that defines which warnings have this mark."""
+    names = " ∷ ".join(f'codes "{key}"' for key in marked(severity))
+    return (f"{first}"
             "use Rattle.std.specs.Prelude.{ℕ, List, [], ◌∷◌, Bool, bytes_eq, codes}\n"
             "use Rattle.std.specs.List.{list_any}\n\n"
             "-- Their codes.\n"
-            "abbrev pub differences : List (List ℕ)\n"
-            f"differences = {names} ∷ []\n\n"
-            "-- The code is that of a warning that something means another thing to Autoconf.\n"
-            "unfoldable pub is_difference : List ℕ → Bool\n"
-            "is_difference code = list_any (λ other. bytes_eq other code) differences\n")
+            f"abbrev pub {listed} : List (List ℕ)\n"
+            f"{listed} = {names} ∷ []\n\n"
+            f"-- {what}\n"
+            f"unfoldable pub {asked} : List ℕ → Bool\n"
+            f"{asked} code = list_any (λ other. bytes_eq other code) {listed}\n")
+
+
+def definition_of_differences():
+    first = ("-- The warnings that something means another thing to Autoconf. tools/word_table.py writes this file from words.txt, where they have a\n"
+             "-- mark of their own.\n")
+    return text_of_definition("difference", "differences", "is_difference", first, "The code is that of a warning that something means another thing to Autoconf.")
+
+
+def definition_of_lefts():
+    first = ("-- The warnings about templates that `port` counts as left to do. tools/word_table.py writes this file from words.txt, where they have a\n"
+             "-- mark of their own. (own)\n")
+    return text_of_definition("left", "lefts", "is_left", first, "The code is that of a warning about a template that is left to do.")
+
+
+def list_of(severity, constant, what):
+    """Returns the constant with the codes of this mark."""
+    names = "".join(f'\n    b"{key}",' for key in marked(severity))
+    return f"\n/// {what}\n#[rattlefmt::skip]\npub(crate) const {constant}: [&[u8]; {len(marked(severity))}] = [{names}\n];\n"
 
 
 def text_of_crate():
-    """Returns the crate's file: a constant for each key, with its texts, and the list of differences."""
+    """Returns the crate's file: a constant for each key, with its texts, and the lists of those with a mark."""
     rows = "".join(
         f"\n/// {shown(entry)}\n#[rattlefmt::skip]\npub const {entry.constant()}: Key = Key({', '.join(map(literal, (entry.key, entry.message, help_of(entry))))});\n"
         for entry in entries().values())
-    names = "".join(f'\n    b"{key}",' for key in differing())
-    listed = (f"\n/// The codes of the warnings that something means another thing to Autoconf.\n#[rattlefmt::skip]\n"
-              f"pub(crate) const DIFFERENCES: [&[u8]; {len(differing())}] = [{names}\n];\n")
+    listed = (list_of("difference", "DIFFERENCES", "The codes of the warnings that something means another thing to Autoconf.")
+              + list_of("left", "LEFTS", "The codes of the warnings about templates that `port` counts as left to do."))
     return f"//! What is said. `tools/word_table.py` writes this file from `words.txt`.\n\nuse crate::key::Key;\n{rows}{listed}"
 
 
@@ -312,7 +331,7 @@ def differences():
     yield from wrong_calls()
     yield from unknown_macros()
     yield from wrong_forms()
-    for file, text in ((KEYS, text_of_crate()), (DIFFERENCES, text_of_definition()), (ERRORS, text_of_page())):
+    for file, text in ((KEYS, text_of_crate()), (DIFFERENCES, definition_of_differences()), (LEFTS, definition_of_lefts()), (ERRORS, text_of_page())):
         if not file.exists() or file.read_text() != text:
             yield f"{file.relative_to(ROOT)} is not what tools/word_table.py writes"
 
@@ -349,7 +368,8 @@ def main(words):
     print("".join(f"{line}\n" for line in wrong), end="")
     if not wrong:
         KEYS.write_text(text_of_crate())
-        DIFFERENCES.write_text(text_of_definition())
+        DIFFERENCES.write_text(definition_of_differences())
+        LEFTS.write_text(definition_of_lefts())
         ERRORS.write_text(text_of_page())
     return int(bool(wrong))
 

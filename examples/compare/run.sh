@@ -399,6 +399,88 @@ echo '#define LIMIT 3' > out3/config.h
 echo '#define LIMIT 4' > out4/config.h
 printf '\nAC_DEFINE([LIMIT], [3])\n' > source/configure.ac
 mkdir out5 && ln -s ../secret out5/config.status
+# Definitions that moved: after other lines, before them, and not at all, since only lines of one directory are between.
+write moved1/a.h << 'END'
+#define FIRST 1
+#define SECOND 2
+#define TWICE 1
+#include <a.h>
+#define TWICE 2
+#ifdef OF_OLD
+#define KEPT 1
+#endif
+#define VALUE 1
+#ifndef X
+# define X \
+  1
+#endif
+#include "b.h"
+#define LAST 1
+/* #undef NEVER */
+END
+write moved2/a.h << 'END'
+#define LAST 1
+#define SECOND 2
+#include <a.h>
+#define TWICE 1
+#define TWICE 2
+#define KEPT 1
+/* #undef NEVER */
+#ifndef X
+# define X 1
+#endif
+#ifdef OF_NEW
+#endif
+#define VALUE 2
+#include "b.h"
+
+#define FIRST 1
+END
+write moved3/a.h << 'END'
+#include <a.h>
+#include "b.h"
+END
+# Modes of files.
+mkdir modes1 modes2
+for each in modes1 modes2; do
+    printf 'config_files=" same script private link"\n' > $each/config.status
+    for name in same script private to; do echo text > "$each/$name"; chmod 644 "$each/$name"; done
+    ln -s to $each/link
+done
+chmod 755 modes1/script
+chmod 600 modes2/private
+chmod 4755 modes2/to
+# A package without a name, and one with its name, in a header and in a Makefile.
+write named1/a.h << 'END'
+#define PACKAGE_BUGREPORT ""
+#define PACKAGE_NAME ""
+#define PACKAGE_STRING ""
+#define PACKAGE_TARNAME ""
+#define PACKAGE_VERSION ""
+END
+write named2/a.h << 'END'
+#define PACKAGE_BUGREPORT "bugs"
+#define PACKAGE_NAME "demo"
+#define PACKAGE_STRING "demo 1.2"
+#define PACKAGE_TARNAME "demo"
+#define PACKAGE_VERSION "1.2"
+END
+write named3/a.h << 'END'
+#define PACKAGE_NAME "demo"
+#define PACKAGE_VERSION ""
+END
+write named1/make << 'END'
+DEFS = -DPACKAGE_NAME=\"\" -DPACKAGE_VERSION=\"\"
+PACKAGE_NAME =
+PACKAGE_TARNAME =
+PACKAGE_URL =
+END
+write named2/make << 'END'
+DEFS = -DPACKAGE_NAME=\"demo\" -DPACKAGE_VERSION=\"1.2\"
+PACKAGE_NAME = demo
+PACKAGE_TARNAME = demo
+PACKAGE_URL = demo
+END
 cat > known << 'END'
 # These are known:
 Makefile: variable INSTALL: *
@@ -462,6 +544,15 @@ lines'
     run out3 out4
     run -s source out3 out4
     run -s ./source/ out4 out3
+    run moved1 moved2 a.h
+    run moved2 moved1 a.h
+    run moved1 moved3 a.h
+    run modes1 modes2
+    run -k modes2 modes1
+    run named1 named2 a.h make
+    run -v -k named1 named2 a.h make
+    run -k named2 named1 a.h
+    run -k named3 named2 a.h
     run out5 out5/../none
     run empty out5
     run

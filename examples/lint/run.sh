@@ -25,7 +25,7 @@ done < "$here/sources.txt"
 } > messages-all.ac
 {
     "$acrun" lint $(cat names) || echo "status $?"
-    for name in package headers templates; do
+    for name in package headers templates rules; do
         cp -R "$here/$name" "$name"
         "$acrun" lint "$name" || echo "status $?"
     done

@@ -30,7 +30,8 @@
 //! Read `specs/Asking` and `specs/Shortages`, then `asking`, `lines`, `files`, `shortages`, `checks`
 //! and `children`, which say why. Then read `page`, which writes words, and `source`, which shows a
 //! fault of the source; then `runs`, `precious`, `remakes`, `puts`, `windows`, `usage` and `helps`.
-//! Of a run that ended read `failures`, `compilers`, `doubts` and `directories`.
+//! Of a run that ended read `failures`, `compilers`, `doubts`, `made` and
+//! `directories`.
 #![tactic(auto)]
 
 mod asking;
@@ -43,6 +44,7 @@ mod failures;
 mod files;
 mod helps;
 mod lines;
+mod made;
 mod page;
 mod precious;
 mod puts;
@@ -61,6 +63,7 @@ pub use doubts::{explain_doubts, explain_long_cache};
 pub use files::{explain_error, explain_file, explain_own, explain_template};
 pub use helps::explain_help;
 pub use lines::explain_words;
+pub use made::explain_made;
 pub use precious::Given;
 pub use puts::explain_put;
 pub use remakes::explain_remake;

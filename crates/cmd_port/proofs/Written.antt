@@ -8,6 +8,8 @@ use Rattle.lint_sources.specs.Sources.{IsNamed}
 use Rattle.std.specs.Io.KnownBytes.{Appends}
 use Rattle.port_idioms.specs.declared.idioms.Idioms.{Idioms}
 use Rattle.cmd_port.specs.Ported.{IsPorted}
+use Rattle.cmd_port.specs.Served.{IsEnded}
+use Rattle.lint_errors.specs.Errors.{IsAccepted}
 use Rattle.port_idioms.specs.declared.idioms.Idioms.TheVariants.{Exact, All}
 use Rattle.cmd_port.specs.Asked.{Package, Request, after_one, after_two, by_two, here, is_package, is_switch, named, packaged, plain_of, request_of, stated_by, with_stated}
 use Rattle.cmd_port.specs.Printed.{IsPrinted, IsAnswer, status_of}
@@ -18,16 +20,31 @@ put_lent slice text result a b lent put ne = subst (λ t. Appends a b t) lent (p
 pub status_lent : (status wanted result : ℕ) → status ≡ wanted → (result ≢ 2 → result ≡ status) → result ≢ 2 → result ≡ wanted
 status_lent status wanted result is same ne = same ne ∙ is
 
-pub answered : (idioms : Idioms) (naming : Option Package) (text slice out : List ℕ) (has : Bool) (result : ℕ) (a b : Option (List ℕ)) → slice ≡ text → IsPorted idioms naming slice has out
-    → (result ≢ 2 → result ≡ status_of has) → (result ≢ 2 → Appends a b out)
-    → result ≢ 2 → (o : List ℕ) × IsPrinted idioms naming text o result × Appends a b o
-answered idioms naming text slice out has result a b lent ported same put ne =
-    (out, record { has_comments = has; ported = subst (λ t. IsPorted idioms naming t has out) lent ported; status_is = same ne }, put ne)
+-- What was rewritten gets what its templates want, and is printed.
+pub answered : (idioms : Idioms) (naming : Option Package) (is_stream : Bool) (text slice mid : List ℕ) (had : Bool) (result : ℕ) (a b : Option (List ℕ)) → slice ≡ text → IsPorted idioms naming slice had mid
+    → (result ≢ 2 → (out : List ℕ) × (has : Bool) × IsEnded is_stream had idioms mid has out × (result ≡ status_of has) × Appends a b out)
+    → result ≢ 2 → (o : List ℕ) × IsPrinted idioms naming is_stream text o result × Appends a b o
+answered idioms naming is_stream text slice mid had result a b lent ported ends ne =
+    let e = ends ne in
+    (e.0, record { had_comments = had; mid = mid; ported = subst (λ t. IsPorted idioms naming t had mid) lent ported; has_comments = e.1; ended = e.2; status_is = e.3 }, e.4)
 
-pub read : (files : Option Known) (idioms : Idioms) (naming : Option Package) (is_stream : Bool) (name text directory slice : List ℕ) (result : ℕ) (a b : Option (List ℕ)) → IsNamed files is_stream name text directory
-    → (result ≢ 2 → (o : List ℕ) × IsPrinted idioms naming text o result × Appends a b o)
-    → result ≢ 2 → (o : List ℕ) × ((t : List ℕ) × (d : List ℕ) × IsNamed files is_stream name t d × IsPrinted idioms naming t o result) × Appends a b o
-read files idioms naming is_stream name text directory slice result a b named gives ne = let g = gives ne in (g.0, (text, directory, named, g.1), g.2)
+-- What is printed and its status, once what the templates want is there.
+pub ended_so : (idioms : Idioms) (is_stream had has : Bool) (mid out : List ℕ) (result : ℕ) (a b : Option (List ℕ)) → IsEnded is_stream had idioms mid has out
+    → (result ≢ 2 → result ≡ status_of has) → (result ≢ 2 → Appends a b out)
+    → result ≢ 2 → (o : List ℕ) × (h : Bool) × IsEnded is_stream had idioms mid h o × (result ≡ status_of h) × Appends a b o
+ended_so idioms is_stream had has mid out result a b ended same put ne = (out, has, ended, same ne, put ne)
+
+-- A text without comments about what is left is accepted.
+pub accepted_if : (idioms : Idioms) (naming : Option Package) (text out : List ℕ) (had : Bool) → IsPorted idioms naming text had out → had ≡ false → IsAccepted out
+accepted_if idioms naming text out true ported is = absurd (true≢false is)
+accepted_if idioms naming text out false ported is = subst IsAccepted (sym ported.printed.0) ported.printed.1
+
+pub read : (files : Option Known) (idioms : Idioms) (naming : Option Package) (is_stream flag : Bool) (name text directory : List ℕ) (result : ℕ) (a b : Option (List ℕ)) → flag ≡ is_stream → IsNamed files is_stream name text directory
+    → (result ≢ 2 → (o : List ℕ) × IsPrinted idioms naming flag text o result × Appends a b o)
+    → result ≢ 2 → (o : List ℕ) × ((t : List ℕ) × (d : List ℕ) × IsNamed files is_stream name t d × IsPrinted idioms naming is_stream t o result) × Appends a b o
+read files idioms naming is_stream flag name text directory result a b is named gives ne =
+    let g = gives ne in
+    (g.0, (text, directory, named, subst (λ s. IsPrinted idioms naming s text g.0 result) is g.1), g.2)
 
 -- ---- the words
 
@@ -147,14 +164,19 @@ stream_is false source true is all = absurd (true≢false (sym (all is)))
 
 pub by_words : (files : Option Known) (words : List (List ℕ)) (asked : Option Request) (request : Request) (reads : Bool) (result : ℕ) (a b : Option (List ℕ)) → asked ≡ request_of words → asked ≡ Some request
     → reads ≡ list_any is_input words
-    → (result ≢ 2 → (o : List ℕ) × ((t : List ℕ) × (d : List ℕ) × IsNamed files (reads && is_input request.source) request.source t d × IsPrinted request.idioms request.naming t o result) × Appends a b o)
+    → (result ≢ 2 → (o : List ℕ) × ((t : List ℕ) × (d : List ℕ) × IsNamed files (reads && is_input request.source) request.source t d × IsPrinted request.idioms request.naming (reads && is_input request.source) t o result) × Appends a b o)
     → result ≢ 2 → (o : List ℕ) × IsAnswer files (request_of words) o result × Appends a b o
 by_words files words asked request reads result a b is some all gives ne =
     let g = gives ne in
     let found : Some request ≡ request_of words = sym some ∙ is in
     let stream : (reads && is_input request.source) ≡ is_input request.source =
     stream_is reads request.source (is_input request.source) refl (λ input. all ∙ named_among words request (sym found) input) in
-    let answer : IsAnswer files (Some request) g.0 result = (g.1.0, g.1.1, subst (λ s. IsNamed files s request.source g.1.0 g.1.1) stream g.1.2, g.1.3) in
+    let answer : IsAnswer files (Some request) g.0 result = (
+      g.1.0,
+      g.1.1,
+      subst (λ s. IsNamed files s request.source g.1.0 g.1.1) stream g.1.2,
+      subst (λ s. IsPrinted request.idioms request.naming s g.1.0 g.0 result) stream g.1.3,
+    ) in
     (g.0, subst (λ w. IsAnswer files w g.0 result) found answer, g.2)
 
 pub not_wrong : (words : Option Request) (request : Request) (result : ℕ) → Some request ≡ words → words ≡ None → result ≡ 2

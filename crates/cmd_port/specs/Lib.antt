@@ -1,4 +1,5 @@
 pub mod Ported
+pub mod Served
 pub mod Asked
 pub mod Printed
 pub mod Refusals

@@ -8,10 +8,12 @@ ghost use Rattle.cmd_call.specs.Lines.{IsTold, error_line};
 ghost use Rattle.lint_sources.specs.Sources.{IsNamed};
 ghost use Rattle.cmd_port.specs.Asked as wanted;
 ghost use Rattle.cmd_port.specs.Printed as specs;
+ghost use Rattle.cmd_port.specs.Served.{IsEnded};
 ghost use Rattle.cmd_port.specs.Refusals.{IsLost, IsSaid, IsSaidFor, IsSaidOf, Says};
 ghost use Rattle.lint_errors.specs.Errors.{IsAccepted};
 
 use crate::asking::request_of;
+use crate::serving::ended;
 use crate::{Ported, port};
 use cmd_call::{FAULT, Hears, print_text, tell_file, tell_memory, tell_usage, write_errors};
 use deftable::Bytes;
@@ -205,11 +207,42 @@ fn print_ported<D: Disk, W: Hears, E: Hears>(
     }
 }
 
+/// Writes a source that was rewritten, with what its templates want, and returns the exit status.
+fn end_ported<D: Disk, W: Hears, E: Hears>(
+    alloc: Global,
+    disk: &D,
+    is_stream: bool,
+    idioms: Idioms,
+    linted: &Linted,
+    ported: Ported,
+    output: &mut W,
+    errors: &mut E,
+) -> u8
+    requires { ported.has_comments ≡ false → IsAccepted ported.text }
+    ensures bound { result ≤ 2 }
+    ensures warned { result ≢ 2
+        → (errors.new ≡ errors.old)
+        ⊎ ((page : List ℕ) × Appends (E.contents errors.old) (E.contents errors.new) page) }
+    ensures ended { result ≢ 2
+        → (out : List ℕ) × (has : Bool)
+        × IsEnded is_stream ported.has_comments idioms ported.text has out
+        × (result ≡ specs.status_of has)
+        × Appends (W.contents output.old) (W.contents output.new) out }
+    ensures refused { result ≡ 2
+        → Says E.contents E.has_failed errors.old errors.new (IsLost (W.has_failed output.new)) }
+{
+    match ended(alloc, disk, is_stream, idioms, linted, ported) {
+        Ok(ported) => print_ported(alloc, disk, linted, &ported, output, errors),
+        Err(_) => tell_memory(errors),
+    }
+}
+
 /// Prints a source with its calls rewritten, and returns the exit status.
 #[tactic(auto, using(crate::proofs::Written::answered, crate::proofs::Saying::lost_of, crate::proofs::Saying::memory_said, crate::proofs::Saying::refused_text))]
 fn port_source<D: Disk, W: Hears, E: Hears>(
     alloc: Global,
     disk: &D,
+    is_stream: bool,
     idioms: Idioms,
     naming: Option<Package<'_>>,
     linted: &Linted,
@@ -222,18 +255,27 @@ fn port_source<D: Disk, W: Hears, E: Hears>(
         ⊎ ((page : List ℕ) × Appends (E.contents errors.old) (E.contents errors.new) page) }
     ensures ported { result ≢ 2
         → (out : List ℕ)
-        × specs.IsPrinted idioms (option_map wanted.package_of naming.entry) linted.now.text out
-        result
+        × specs.IsPrinted idioms (option_map wanted.package_of naming.entry) is_stream
+        linted.now.text out result
         × Appends (W.contents output.old) (W.contents output.new) out }
     ensures refused { result ≡ 2
         → Says E.contents E.has_failed errors.old errors.new (
         IsSaidOf (W.has_failed output.new) linted.now.text) }
 {
     match port(alloc, idioms, naming, linted.text.as_slice()) {
-        Ok(Some(ported)) => print_ported(alloc, disk, linted, &ported, output, errors),
+        Ok(Some(ported)) => end_ported(
+            alloc, disk, is_stream, idioms, linted, ported, output, errors,
+        ),
         Ok(None) => tell_quotes(alloc, linted, errors),
         Err(_) => tell_memory(errors),
     }
+}
+
+/// Returns whether the source of this name is standard input, if that may be read.
+fn is_stream(reads: bool, name: &[u8]) -> bool
+    ensures { result ≡ (reads && calls.is_input name.now) }
+{
+    reads && name == b"-".as_slice()
 }
 
 /// Prints the source of this name with its calls rewritten, and returns the exit status.
@@ -259,15 +301,19 @@ fn port_named<D: Disk, R: Read, W: Hears, E: Hears>(
         × ((text : List ℕ) × (directory : List ℕ)
         × IsNamed (D.known disk.now) (reads && calls.is_input name.now) name.now text
         directory
-        × specs.IsPrinted idioms (option_map wanted.package_of naming.entry) text out result)
+        × specs.IsPrinted idioms (option_map wanted.package_of naming.entry)
+        (reads && calls.is_input name.now) text out result)
         × Appends (W.contents output.old) (W.contents output.new) out }
     ensures refused { result ≡ 2
         → Says E.contents E.has_failed errors.old errors.new (
         IsSaidFor (D.known disk.now) (W.has_failed output.new)
         (reads && calls.is_input name.now) name.now) }
 {
+    let is_stream = is_stream(reads, name);
     match read_named(alloc, disk, reads, input, name) {
-        Ok(Some(linted)) => port_source(alloc, disk, idioms, naming, &linted, output, errors),
+        Ok(Some(linted)) => port_source(
+            alloc, disk, is_stream, idioms, naming, &linted, output, errors,
+        ),
         Ok(None) => tell_file(errors, name),
         Err(_) => tell_memory(errors),
     }
@@ -279,6 +325,10 @@ fn port_named<D: Disk, R: Read, W: Hears, E: Hears>(
 /// for standard input, or the path of a source or of a directory with a `configure.ac`. Without a
 /// name, `configure.ac` is read. Without `--idioms`, exact idioms alone are written. NAME and VERSION
 /// come into an AC_INIT that has none that are kept. Nothing is run, and no file is written.
+///
+/// If the source is a file, and acrun accepts what it becomes, its templates are read. Lines before
+/// AC_OUTPUT and after AC_PROG_CC set what they use and Autoconf sets itself, and comments say what is
+/// left to do in them.
 ///
 /// Standard error gets the warnings of `lint` that something in the text that is printed means
 /// another thing to Autoconf. They don't change the status.

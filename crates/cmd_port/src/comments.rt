@@ -216,7 +216,7 @@ fn notes_of(
 }
 
 /// Returns whether a line of the text begins at the offset.
-fn is_line_start(text: &[u8], at: usize) -> bool
+pub(crate) fn is_line_start(text: &[u8], at: usize) -> bool
     requires { at ≤ length text.now }
     ensures { result ≡ specs.is_line_start text.now at }
 {
@@ -297,7 +297,7 @@ fn with_notes(alloc: Global, text: &[u8], notes: &[Note]) -> Result<Vec<u8>, All
 }
 
 /// Returns whether the text begins with the other text.
-fn begins(text: &[u8], front: &[u8]) -> bool
+pub(crate) fn begins(text: &[u8], front: &[u8]) -> bool
     ensures { result ≡ starts_with nat_eq text.now front.now }
 {
     text.starts_with(front)

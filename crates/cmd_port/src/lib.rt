@@ -17,9 +17,13 @@
 //!
 //! A call fails only if memory runs out. "own" marks a rule that no manual gives.
 //!
-//! Read `specs/Ported`, which says what is copied. `port_calls` replaces the calls, `port_shell`
+//! A source of a file that acrun then accepts gets lines for its templates: before AC_OUTPUT those
+//! that set names which Autoconf sets itself, and after AC_PROG_CC one for CFLAGS. What is left to do
+//! in the templates has a comment too.
+//!
+//! Read `specs/Ported`, which says what is copied, and `specs/Served`. `port_calls` replaces the calls, `port_shell`
 //! the statements, `port_messages` what they print, and `lint_all` finds each statement with an error. In `src`, read `lines` (above
-//! which line a comment can be), `comments`, `moving`, and then `whole`. For the command, read
+//! which line a comment can be), `comments`, `moving`, `whole`, and then `serving`. For the command, read
 //! `specs/Asked` (what the words ask for), `specs/Printed` and `specs/Refusals`, and then `asking`
 //! and `command`.
 #![tactic(auto)]
@@ -29,6 +33,7 @@ mod command;
 mod comments;
 mod lines;
 mod moving;
+mod serving;
 mod whole;
 
 pub use command::run_port;

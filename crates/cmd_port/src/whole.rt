@@ -28,7 +28,7 @@ pub struct Ported {
 }
 
 /// Returns the source without comments.
-fn whole(text: Vec<u8>) -> Ported
+pub(crate) fn whole(text: Vec<u8>) -> Ported
     ensures { (result.text ≡ text.items) × (result.has_comments ≡ false) }
 {
     Ported {
@@ -38,7 +38,11 @@ fn whole(text: Vec<u8>) -> Ported
 }
 
 /// Returns the source with a comment at each of these errors.
-fn with_errors(alloc: Global, text: &[u8], errors: &[Finding]) -> Result<Ported, AllocError>
+pub(crate) fn with_errors(
+    alloc: Global,
+    text: &[u8],
+    errors: &[Finding],
+) -> Result<Ported, AllocError>
     ensures commented { IfOk result (λ p. specs.IsCommented text.now (length text.now) p.text) }
     ensures left { IfOk result (λ p. specs.HasLeft p.text) }
     ensures reported { IfOk result (λ p. p.has_comments ≡ true) }

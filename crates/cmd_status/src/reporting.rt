@@ -20,7 +20,7 @@ use crate::remaking::OUTPUT;
 use cmd_call::{Hears, LOG, Terminal, print_all, tell_put, write_log};
 use cmd_explain::{
     Given, Why, explain_compilers, explain_cut, explain_directories, explain_doubts,
-    explain_long_cache, explain_put,
+    explain_long_cache, explain_made, explain_put,
 };
 use crew_refusals::Causes;
 use engine_frame::{Fault, Outcome, Report, status_of};
@@ -124,6 +124,7 @@ fn print_report<D: Disk, C: Causes, R: Read, W: Hears, E: Hears>(
     explain_compilers(alloc, is_asked, report.log.as_slice(), errors);
     explain_long_cache(alloc, is_asked, terminal.outputs.handed(), errors);
     explain_completed(alloc, is_asked, report, cache_name(settings), errors);
+    explain_made(alloc, is_asked, terminal.outputs.handed(), errors);
     tell_written(alloc, is_asked, OUTPUT, done, errors)
 }
 

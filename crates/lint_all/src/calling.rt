@@ -1,6 +1,6 @@
 //! The text of what looks like the call of a macro, which is text to m4.
 
-use lint_text::{after_blanks, before, first_name, from};
+use lint_text::{before, first_name, from};
 
 /// How much is read at most in search of the parenthesis that closes such a call.
 const MOST: usize = 1024;
@@ -40,9 +40,7 @@ fn closed_len(text: &[u8]) -> usize {
 pub(crate) fn called_len(text: &[u8]) -> usize {
     let name = first_name(text);
     let rest = from(text, name.len());
-    let is_called = !name.is_empty()
-        && rest.starts_with(b"(")
-        && !after_blanks(from(rest, 1)).starts_with(b")");
+    let is_called = !name.is_empty() && rest.starts_with(b"(") && !rest.starts_with(b"()");
     if !is_called {
         return 0;
     }

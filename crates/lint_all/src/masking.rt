@@ -3,7 +3,7 @@
 use crate::calling::called_len;
 use ac_calls::{CallAt, Extent};
 use lint_marks::{QuotePart, Scan};
-use lint_text::{after_blanks, from, part};
+use lint_text::{after_blanks, from, is_word_byte, part};
 
 /// Writes a space for each byte between two offsets, but for newlines. Returns whether that changed
 /// anything.
@@ -86,18 +86,26 @@ pub(crate) fn blank_call(text: &mut [u8], calls: &[CallAt], call: &CallAt) -> bo
     has_changed | blank(text, at, end)
 }
 
-/// Returns where the text between calls that has the place ends: at the next call, at the end of
-/// the argument, or at the end.
-fn bare_end(text: &[u8], calls: &[CallAt], place: usize) -> usize {
+/// Returns where the argument that has the place ends, without its bracket, or the end.
+fn argument_end(text: &[u8], calls: &[CallAt], place: usize) -> usize {
     let mut end = text.len();
     for call in calls {
-        if place < call.start {
-            end = end.min(call.start);
-        }
         for arg in &call.args {
             if holds(arg, place) {
                 end = end.min(inner_end(text, arg));
             }
+        }
+    }
+    end
+}
+
+/// Returns where the text between calls that has the place ends: at the next call, at the end of
+/// the argument, or at the end.
+fn bare_end(text: &[u8], calls: &[CallAt], place: usize) -> usize {
+    let mut end = argument_end(text, calls, place);
+    for call in calls {
+        if place < call.start {
+            end = end.min(call.start);
         }
     }
     end
@@ -195,12 +203,50 @@ fn blank_statement(before: Scan, text: &mut [u8], start: usize, end: usize) -> b
     has_changed
 }
 
-/// Blanks the statement between calls that begins at the place. Returns whether that changed
-/// anything.
+/// Returns the offset after what looks like a call that begins between two offsets, and ends after
+/// the second but before a limit, with the calls in it. If there is none, returns 0.
+fn after_called(text: &[u8], start: usize, end: usize, limit: usize) -> usize {
+    let mut is_word = false;
+    for at in start..end {
+        let len = if is_word {
+            0
+        } else {
+            called_len(part(text, at, limit))
+        };
+        let after = at.saturating_add(len);
+        if after > end {
+            return after;
+        }
+        is_word = from(text, at)
+            .first()
+            .is_some_and(|byte| is_word_byte(*byte));
+    }
+    0
+}
+
+/// Blanks what looks like a call between the place and an offset, with the calls in it, and what is
+/// after it on its line up to the next call. Returns whether that changed anything.
+fn blank_called(text: &mut [u8], calls: &[CallAt], place: usize, end: usize) -> bool {
+    let last = end.saturating_sub(1);
+    let len = line_len(part(text, end, bare_end(text, calls, last)));
+    let has_changed = blank(text, place, end);
+    let after = end.saturating_add(len);
+    has_changed | blank_statement(scan_after(b""), text, end, after)
+}
+
+/// Blanks the statement between calls that begins at the place. One that looks like a call has the
+/// calls in it too. Returns whether that changed anything.
 pub(crate) fn blank_bare(text: &mut [u8], calls: &[CallAt], place: usize) -> bool {
     let end = bare_end(text, calls, place);
+    let limit = argument_end(text, calls, place);
     let before = scan_after(part(text, bare_start(text, calls, place), place));
     let statement = part(text, place, end);
-    let len = statement_len(before, statement).max(called_len(statement));
+    let len = statement_len(before, statement);
+    // One that is cut by a call may have it in its arguments.
+    let most = if len < statement.len() { 1 } else { len };
+    let called = after_called(text, place, place.saturating_add(most), limit);
+    if called > place.saturating_add(len) {
+        return blank_called(text, calls, place, called);
+    }
     blank_statement(before, text, place, place.saturating_add(len.max(1)))
 }

@@ -7,9 +7,8 @@ ghost use Rattle.lint_all.specs.Found as specs;
 use crate::masking::{blank, blank_bare, blank_call, innermost};
 use ac_calls::CallAt;
 use deftable::Bytes;
-use lint_errors::errors_by;
+use lint_errors::{Known, errors_by};
 use lint_findings::{Finding, Severity};
-use lint_macros::Index;
 use lint_table::{Page, keys};
 use lint_text::{after_blanks, first_line, first_name, from, part};
 use std::alloc::{AllocError, Global};
@@ -32,8 +31,8 @@ const READING: usize = 1000;
 /// What is the same for all readings of a source.
 #[derive(Drop)]
 pub(crate) struct WholeSource<'a> {
-    /// The table of macros.
-    pub index: &'a Index,
+    /// What is known of the macros that acrun doesn't read.
+    pub known: Known<'a>,
     /// The length of the source.
     pub len: usize,
 }
@@ -215,7 +214,7 @@ fn first_error(
     whole: &WholeSource<'_>,
     text: &[u8],
 ) -> Result<Option<Finding>, AllocError> {
-    let mut errors = errors_by(alloc, whole.index, text)?;
+    let mut errors = errors_by(alloc, &whole.known, text)?;
     errors.truncate(1);
     Ok(errors.pop())
 }

@@ -12,10 +12,11 @@ use crate::masking::{blank, inner_start};
 use crate::rounds::{Copy, Piece, WholeSource, add_rounds};
 use crate::runs::add_pieces;
 use ac_calls::CallAt;
-use lint_errors::{Reading, errors_of};
+use lint_errors::{Known, Reading, errors_of};
 use lint_findings::{Finding, put_in_order};
 use lint_macros::Index;
 use lint_marks::Scan;
+use lint_words::Definitions;
 use std::alloc::{AllocError, Global};
 
 /// How many bytes are read at least, to find errors one after the other, and how often the length
@@ -111,8 +112,12 @@ fn others_of(
 ) -> Result<Vec<Finding>, AllocError>
     ensures { IfOk result (λ v. All (specs.IsErrorOf (length text.now)) v.items) }
 {
+    let definitions = Definitions::of(alloc, text)?;
     let whole = WholeSource {
-        index,
+        known: Known {
+            index,
+            definitions: &definitions,
+        },
         len: text.len(),
     };
     let mut found = Vec::new(alloc);

@@ -9,7 +9,17 @@ use lint_findings::Finding;
 use lint_macros::{Index, MacroEntry, MacroKind, entry_name, fill, takes_list};
 use lint_table::{Key, Page, WordPart, keys};
 use lint_text::{before, first_line, first_name, from, part, without_end_blanks};
+use lint_words::Definitions;
 use std::alloc::{AllocError, Global};
+
+/// What is known of the macros that acrun doesn't read.
+#[derive(Drop)]
+pub struct Known<'a> {
+    /// The table of other macros.
+    pub index: &'a Index,
+    /// The macros that the source defines.
+    pub definitions: &'a Definitions,
+}
 
 /// Returns the texts of the arguments.
 fn texts<'a>(alloc: Global, text: &'a [u8], args: &[Extent]) -> Result<Vec<&'a [u8]>, AllocError> {
@@ -238,18 +248,21 @@ fn table_name<'a>(text: &'a [u8], call: &CallAt) -> &'a [u8] {
     }
 }
 
-/// Returns what the table of other macros says of a call, if it has the macro.
+/// Returns what the table of other macros says of a call, if it has the macro, or that the source
+/// defines it.
 fn help_of(
     alloc: Global,
-    index: &Index,
+    known: &Known<'_>,
     text: &[u8],
     call: &CallAt,
 ) -> Result<Option<Bytes>, AllocError> {
     if is_variable(text, call) {
         return in_brackets(alloc, text, call).map(|help| Some(help));
     }
-    match index.entry_of(alloc, table_name(text, call))? {
-        None => Ok(None),
+    match known.index.entry_of(alloc, table_name(text, call))? {
+        None => known
+            .definitions
+            .help_of(alloc, part(text, call.start, call.name_end)),
         Some(entry) => said(alloc, text, &call.args, entry).map(|help| Some(help)),
     }
 }
@@ -281,29 +294,46 @@ fn entry_in_text(
     }
 }
 
-/// Returns the finding of a statement with what the table of other macros says of the macro that it
-/// seems to call, if the table has it. Its arguments are not known.
+/// Returns what is known of the macro that a statement seems to call: what the table of other macros
+/// says of it, or that the source defines it.
+fn help_in_text(
+    alloc: Global,
+    known: &Known<'_>,
+    text: &[u8],
+    start: usize,
+) -> Result<Option<Bytes>, AllocError> {
+    let name = name_in_text(from(text, start));
+    if name.is_empty() {
+        return Ok(None);
+    }
+    match entry_in_text(alloc, known.index, name)? {
+        None => known.definitions.help_of(alloc, name),
+        Some(entry) => said(alloc, text, &[], entry).map(|help| Some(help)),
+    }
+}
+
+/// Returns the finding of a statement with what is known of the macro that it seems to call, if
+/// anything is. Its arguments are not known.
 pub(crate) fn advised_text(
     alloc: Global,
-    index: &Index,
+    known: &Known<'_>,
     text: &[u8],
     finding: Finding,
 ) -> Result<Finding, AllocError>
     ensures shown { IfOk result (λ f. specs.finding_view f ≡ specs.finding_view finding) }
     ensures end { IfOk result (λ f. f.end ≡ finding.end) }
 {
-    let name = name_in_text(from(text, finding.start));
-    Ok(match entry_in_text(alloc, index, name)? {
+    let help = help_in_text(alloc, known, text, finding.start)?;
+    Ok(match help {
         None => finding,
-        Some(entry) => with_help(finding, said(alloc, text, &[], entry)?),
+        Some(help) => with_help(finding, help),
     })
 }
 
-/// Returns the finding of a call with what the table of other macros says of it, if it has the
-/// macro.
+/// Returns the finding of a call with what is known of its macro, if anything is.
 pub(crate) fn advised(
     alloc: Global,
-    index: &Index,
+    known: &Known<'_>,
     text: &[u8],
     call: &CallAt,
     finding: Finding,
@@ -311,7 +341,7 @@ pub(crate) fn advised(
     ensures shown { IfOk result (λ f. specs.finding_view f ≡ specs.finding_view finding) }
     ensures end { IfOk result (λ f. f.end ≡ finding.end) }
 {
-    let help = help_of(alloc, index, text, call)?;
+    let help = help_of(alloc, known, text, call)?;
     Ok(match help {
         None => finding,
         Some(help) => with_help(finding, help),

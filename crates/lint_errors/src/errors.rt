@@ -11,6 +11,7 @@ ghost use Rattle.ac_tree.specs.Script.{script_of};
 ghost use Rattle.lint_errors.specs.Errors as specs;
 ghost use Rattle.lint_errors.specs.Readings.{IsReading};
 
+use crate::advice::Known;
 use crate::fault::place_of_fault;
 use crate::foreign::{fault_finding, push_calls};
 use crate::reading::{Reading, is_too_long};
@@ -22,6 +23,7 @@ use deftable::Bytes;
 use lint_findings::{Finding, put_in_order};
 use lint_macros::Index;
 use lint_table::{Page, keys};
+use lint_words::Definitions;
 use std::alloc::{AllocError, Global};
 
 /// Returns that a source is too long, at its start.
@@ -68,7 +70,7 @@ fn errors_read(alloc: Global, source: &Source) -> Result<Vec<Finding>, AllocErro
 /// Returns the error of a fault at this place, and those of the other calls that have to go.
 fn found(
     alloc: Global,
-    index: &Index,
+    known: &Known<'_>,
     text: &[u8],
     fault: ParseFault,
     at: usize,
@@ -79,17 +81,17 @@ fn found(
         ≡ specs.errors_refused fault at (map macro_call_of calls.now)) }
     ensures ends { IfOk result (λ v. All (specs.EndsIn (length text.now)) v.items) }
 {
-    let first = fault_finding(alloc, index, text, fault, at, calls)?;
+    let first = fault_finding(alloc, known, text, fault, at, calls)?;
     let mut out = Vec::new(alloc);
     out.push(first)?;
-    push_calls(alloc, index, text, fault, calls, &mut out)?;
+    push_calls(alloc, known, text, fault, calls, &mut out)?;
     Ok(out)
 }
 
 /// Returns the same in order of their places.
 fn ordered(
     alloc: Global,
-    index: &Index,
+    known: &Known<'_>,
     text: &[u8],
     fault: ParseFault,
     calls: &[CallAt],
@@ -99,7 +101,7 @@ fn ordered(
     ensures ends { IfOk result (λ v. All (specs.EndsIn (length text.now)) v.items) }
 {
     let at = place_of_fault(alloc, text, fault, calls)?;
-    let mut out = found(alloc, index, text, fault, at, calls)?;
+    let mut out = found(alloc, known, text, fault, at, calls)?;
     put_in_order(&mut out)?;
     Ok(out)
 }
@@ -107,7 +109,7 @@ fn ordered(
 /// Returns the errors of a source that is refused with this fault.
 fn errors_refused(
     alloc: Global,
-    index: &Index,
+    known: &Known<'_>,
     text: &[u8],
     fault: ParseFault,
 ) -> Result<Vec<Finding>, AllocError>
@@ -116,16 +118,16 @@ fn errors_refused(
     ensures ends { IfOk result (λ v. All (specs.EndsIn (length text.now)) v.items) }
 {
     let calls = calls_of(alloc, text)?;
-    ordered(alloc, index, text, fault, &calls)
+    ordered(alloc, known, text, fault, &calls)
 }
 
 /// Returns the errors of a source, in order of their places, as [`errors_of`] does. Its calls are
-/// looked for only if it is refused. The table of macros is made once for many sources.
+/// looked for only if it is refused. What is known of other macros is made once for many sources.
 ///
 /// # Errors
 ///
 /// Fails only if memory runs out.
-pub fn errors_by(alloc: Global, index: &Index, text: &[u8]) -> Result<Vec<Finding>, AllocError>
+pub fn errors_by(alloc: Global, known: &Known<'_>, text: &[u8]) -> Result<Vec<Finding>, AllocError>
     // The errors are exactly these.
     ensures exact { IfOk result (λ v. specs.AreErrors text.now (source_of text.now) v.items) }
     // Each ends in the text.
@@ -134,8 +136,29 @@ pub fn errors_by(alloc: Global, index: &Index, text: &[u8]) -> Result<Vec<Findin
     match parse(alloc, text) {
         Ok(source) => errors_read(alloc, &source),
         Err(ParseFault::OutOfMemory) => Err(AllocError),
-        Err(fault) => errors_refused(alloc, index, text, fault),
+        Err(fault) => errors_refused(alloc, known, text, fault),
     }
+}
+
+/// Returns the errors of a source with these calls that is refused with this fault. Their help speaks
+/// of the macros that the source defines.
+fn with_definitions(
+    alloc: Global,
+    text: &[u8],
+    index: &Index,
+    fault: ParseFault,
+    calls: &[CallAt],
+) -> Result<Vec<Finding>, AllocError>
+    ensures refused { IfOk result (λ v.
+        specs.AreRefused text.now fault (map macro_call_of calls.now) v.items) }
+    ensures ends { IfOk result (λ v. All (specs.EndsIn (length text.now)) v.items) }
+{
+    let definitions = Definitions::of(alloc, text)?;
+    let known = Known {
+        index,
+        definitions: &definitions,
+    };
+    ordered(alloc, &known, text, fault, calls)
 }
 
 /// Returns the errors of a source with this reading, in order of their places.
@@ -146,7 +169,7 @@ fn errors_with(alloc: Global, text: &[u8], reading: &Reading) -> Result<Vec<Find
 {
     match &reading.source {
         Ok(source) => errors_read(alloc, source),
-        Err(fault) => ordered(alloc, &reading.index, text, *fault, &reading.calls),
+        Err(fault) => with_definitions(alloc, text, &reading.index, *fault, &reading.calls),
     }
 }
 
@@ -188,8 +211,13 @@ pub fn fault_error(alloc: Global, text: &[u8], fault: ParseFault) -> Result<Find
     ensures end { IfOk result (specs.EndsIn (length text.now)) }
 {
     let index = Index::new(alloc)?;
+    let definitions = Definitions::of(alloc, text)?;
+    let known = Known {
+        index: &index,
+        definitions: &definitions,
+    };
     let calls = calls_of(alloc, text)?;
     let at = place_of_fault(alloc, text, fault, &calls)?;
-    let finding = fault_finding(alloc, &index, text, fault, at, &calls)?;
+    let finding = fault_finding(alloc, &known, text, fault, at, &calls)?;
     Ok(finding)
 }

@@ -5,11 +5,10 @@ ghost use Rattle.std.specs.List.{flat_map};
 ghost use Rattle.ac_calls.specs.Calls.{macro_call_of};
 ghost use Rattle.lint_errors.specs.Errors as specs;
 
-use crate::advice::{advised, advised_text};
+use crate::advice::{Known, advised, advised_text};
 use ac_calls::CallAt;
 use ac_statement::ParseFault;
 use lint_findings::Finding;
-use lint_macros::Index;
 use lint_words::parse_finding;
 use std::alloc::{AllocError, Global};
 
@@ -31,7 +30,12 @@ fn is_other(fault: ParseFault, call: &CallAt) -> bool
 }
 
 /// Returns the error of a call whose macro isn't known.
-fn unknown(alloc: Global, index: &Index, text: &[u8], call: &CallAt) -> Result<Finding, AllocError>
+fn unknown(
+    alloc: Global,
+    known: &Known<'_>,
+    text: &[u8],
+    call: &CallAt,
+) -> Result<Finding, AllocError>
     ensures shown { IfOk result (λ f.
         specs.finding_view f ≡ specs.error_at (macro_call_of call.now).start) }
     ensures end { IfOk result (specs.EndsIn (length text.now)) }
@@ -43,13 +47,13 @@ fn unknown(alloc: Global, index: &Index, text: &[u8], call: &CallAt) -> Result<F
         call.start,
         &[],
     )?;
-    advised(alloc, index, text, call, finding)
+    advised(alloc, known, text, call, finding)
 }
 
 /// Appends the error of a call whose macro isn't known.
 fn push_unknown(
     alloc: Global,
-    index: &Index,
+    known: &Known<'_>,
     text: &[u8],
     call: &CallAt,
     out: &mut Vec<Finding>,
@@ -60,7 +64,7 @@ fn push_unknown(
         ∷ []) }
     ensures ends { OnOk result (specs.KeepsEnds text.now out.old.items out.new.items) }
 {
-    let finding = unknown(alloc, index, text, call)?;
+    let finding = unknown(alloc, known, text, call)?;
     out.push(finding)?;
     Ok(())
 }
@@ -68,7 +72,7 @@ fn push_unknown(
 /// Appends the error of a call, if it has to go and the fault doesn't say it.
 fn push_call(
     alloc: Global,
-    index: &Index,
+    known: &Known<'_>,
     text: &[u8],
     fault: ParseFault,
     call: &CallAt,
@@ -81,7 +85,7 @@ fn push_call(
     ensures ends { OnOk result (specs.KeepsEnds text.now out.old.items out.new.items) }
 {
     if is_other(fault, call) {
-        push_unknown(alloc, index, text, call, out)
+        push_unknown(alloc, known, text, call, out)
     } else {
         Ok(())
     }
@@ -90,7 +94,7 @@ fn push_call(
 /// Appends the errors of the calls that have to go, but for the one that the fault is about.
 pub(crate) fn push_calls(
     alloc: Global,
-    index: &Index,
+    known: &Known<'_>,
     text: &[u8],
     fault: ParseFault,
     calls: &[CallAt],
@@ -103,7 +107,7 @@ pub(crate) fn push_calls(
     ensures ends { OnOk result (specs.KeepsEnds text.now out.old.items out.new.items) }
 {
     for call in calls {
-        push_call(alloc, index, text, fault, call, out)?;
+        push_call(alloc, known, text, fault, call, out)?;
     }
     Ok(())
 }
@@ -129,7 +133,7 @@ fn is_of_text(fault: ParseFault, at: usize, calls: &[CallAt]) -> bool {
 /// Returns the error of a fault at this place.
 pub(crate) fn fault_finding(
     alloc: Global,
-    index: &Index,
+    known: &Known<'_>,
     text: &[u8],
     fault: ParseFault,
     at: usize,
@@ -140,8 +144,8 @@ pub(crate) fn fault_finding(
 {
     let finding = parse_finding(alloc, text, fault, at, calls)?;
     match call_of(fault, calls) {
-        None if is_of_text(fault, at, calls) => advised_text(alloc, index, text, finding),
+        None if is_of_text(fault, at, calls) => advised_text(alloc, known, text, finding),
         None => Ok(finding),
-        Some(call) => advised(alloc, index, text, call, finding),
+        Some(call) => advised(alloc, known, text, call, finding),
     }
 }

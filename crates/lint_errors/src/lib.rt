@@ -26,5 +26,6 @@ mod foreign;
 mod reading;
 mod statement;
 
+pub use advice::Known;
 pub use errors::{errors_by, errors_of, fault_error, too_long_finding};
 pub use reading::{Reading, is_accepted, read};

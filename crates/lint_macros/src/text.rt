@@ -24,8 +24,9 @@ AS_IF([$2{TEST}],
   [$1!{NAME}_TRUE='#' $1!{NAME}_FALSE=])
 AC_SUBST([$1!{NAME}_TRUE])
 AC_SUBST([$1!{NAME}_FALSE])~idiom AM_COND_IF
-AS_IF([test -z \"$$1!{NAME}_TRUE\"], [$2{ACTION}], [$3{}])~drop AC_C_CONST AC_C_INLINE AC_C_VOLATILE AC_C_RESTRICT AC_C_PROTOTYPES AC_C_STRINGIZE AC_C_TYPEOF AC_C_BACKSLASH_A AC_C_CHAR_UNSIGNED AC_CONST AC_INLINE AC_PROG_CC_STDC AC_PROG_CC_C89 AC_PROG_CC_C99 AC_PROG_GCC_TRADITIONAL AM_PROG_CC_STDC AM_C_PROTOTYPES gl_PROG_CC_C99 AC_CHAR_UNSIGNED
-each compiler of this century has it; acrun port leaves the call out if AC_PROG_CC is there, which looks for the compiler; a flag such as -std=gnu99 is given in CFLAGS or CC~drop AC_ZOS_USS AC_EMXOS2 AC_HEADER_STAT AC_FUNC_STAT AC_FUNC_LSTAT AC_FUNC_MEMCMP AC_FUNC_CLOSEDIR_VOID AC_FUNC_SETVBUF_REVERSED AC_FUNC_MKTIME AC_FUNC_STRTOD AC_SETVBUF_REVERSED
+AS_IF([test -z \"$$1!{NAME}_TRUE\"], [$2{ACTION}], [$3{}])~drop AC_C_CONST AC_C_VOLATILE AC_CONST AC_PROG_CC_STDC AC_PROG_CC_C89 AC_PROG_CC_C99
+each compiler of this century has it; acrun port leaves the call out if AC_PROG_CC is there, which looks for the compiler; a flag such as -std=gnu99 is given in CFLAGS or CC~drop AC_C_INLINE AC_C_RESTRICT AC_C_PROTOTYPES AC_C_STRINGIZE AC_C_TYPEOF AC_C_BACKSLASH_A AC_C_CHAR_UNSIGNED AC_INLINE AC_PROG_GCC_TRADITIONAL AM_PROG_CC_STDC AM_C_PROTOTYPES gl_PROG_CC_C99 AC_CHAR_UNSIGNED
+each compiler of this century has it; a flag such as -std=gnu99 is given in CFLAGS or CC~drop AC_ZOS_USS AC_EMXOS2 AC_HEADER_STAT AC_FUNC_STAT AC_FUNC_LSTAT AC_FUNC_MEMCMP AC_FUNC_CLOSEDIR_VOID AC_FUNC_SETVBUF_REVERSED AC_FUNC_MKTIME AC_FUNC_STRTOD AC_SETVBUF_REVERSED
 it looks for a fault of systems that are long gone~idiom AC_ISC_POSIX
 AC_SEARCH_LIBS([strerror], [cposix])~idiom AC_STRUCT_TM
 AC_CACHE_CHECK([whether struct tm is in sys/time.h or time.h], [ac_cv_struct_tm],
@@ -209,7 +210,8 @@ AC_CACHE_CHECK([whether the compiler is GNU C], [ac_cv_c_compiler_gnu],
   [AC_COMPILE_IFELSE([AC_LANG_PROGRAM([[#ifndef __GNUC__
 #error another compiler
 #endif]], [])], [ac_cv_c_compiler_gnu=yes], [ac_cv_c_compiler_gnu=no])])
-AS_IF([test \"$ac_cv_c_compiler_gnu\" = yes], [GCC=yes], [GCC=])~idiom AC_PROG_CPP
+ac_compiler_gnu=$ac_cv_c_compiler_gnu
+AS_IF([test \"$ac_compiler_gnu\" = yes], [GCC=yes], [GCC=])~idiom AC_PROG_CPP
 AC_ARG_VAR([CPP], [C preprocessor])
 AS_IF([test -z \"$CPP\"], [CPP=\"$CC -E\"])~idiom AC_PROG_CXX
 AC_ARG_VAR([CXX], [C++ compiler])
@@ -227,12 +229,16 @@ AC_PATH_PROG([SED], [sed])~idiom AC_PROG_AWK
 AC_CHECK_PROGS([AWK], [gawk mawk nawk awk])~idiom AC_PROG_YACC
 AC_CHECK_PROG([YACC], [bison], [bison -y])
 AC_CHECK_PROGS([YACC], [byacc], [yacc])
+AC_ARG_VAR([YACC], [parser generator])
 AC_ARG_VAR([YFLAGS], [flags of the parser generator])~idiom AC_PROG_LEX AM_PROG_LEX AC_DECL_YYTEXT
 AC_CHECK_PROGS([LEX], [flex lex], [:])
-AC_CHECK_LIB([l], [yywrap], [LEXLIB=-ll], [AC_CHECK_LIB([fl], [yywrap], [LEXLIB=-lfl])])
+AS_IF([test \"$LEX\" != :], [
+  AC_CHECK_LIB([l], [yywrap], [LEXLIB=-ll], [AC_CHECK_LIB([fl], [yywrap], [LEXLIB=-lfl])])
+  LEX_OUTPUT_ROOT=lex.yy
+  AC_DEFINE([YYTEXT_POINTER], [1], [Define to 1 if yytext is a char *.])
+])
 AC_SUBST([LEXLIB])
-AC_SUBST([LEX_OUTPUT_ROOT], [lex.yy])
-AC_DEFINE([YYTEXT_POINTER], [1], [Define to 1 if yytext is a char *.])~idiom AM_PROG_AS
+AC_SUBST([LEX_OUTPUT_ROOT])~idiom AM_PROG_AS
 AC_ARG_VAR([CCAS], [assembler])
 AC_ARG_VAR([CCASFLAGS], [flags of the assembler])
 AS_IF([test -z \"$CCAS\"], [CCAS=$CC])

@@ -35,7 +35,7 @@ pub(crate) struct SourceFindings {
 
 /// Reads the templates of a source that has statements, and appends an error for each output whose
 /// template can't be read.
-fn templates_of<D: Disk>(
+pub(crate) fn templates_of<D: Disk>(
     alloc: Global,
     disk: &D,
     linted: &Linted,

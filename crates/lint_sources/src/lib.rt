@@ -4,7 +4,8 @@
 //! as reading on after each finds them, the templates that are not there, and warnings, in order of
 //! place. [`differences_of`] has the warnings of what means another thing to Autoconf.
 //! [`add_reasons`] says of a statement of a shell why no call can be put in its place. `lint` and
-//! `port` show these. Nothing is started, and no file is written.
+//! `port` show these. [`wanted_of`] has what templates want of a source, and [`left_of`] what is left
+//! to do in them. Nothing is started, and no file is written.
 //!
 //! ```text
 //! let linted = read_named(alloc, files, false, input, b"configure.ac")?;   // None if it can't be read
@@ -29,6 +30,7 @@ mod reasons;
 mod sheets;
 mod showing;
 mod templates;
+mod wants;
 mod warnings;
 mod words;
 
@@ -36,4 +38,5 @@ pub use differing::differences_of;
 pub use reading::{Linted, SOURCE, read_named};
 pub use reasons::add_reasons;
 pub use showing::{FindingForm, linted_page};
+pub use wants::{Wanted, left_of, wanted_of};
 pub use words::{has_input, is_option};

@@ -1,3 +1,4 @@
 pub mod Differences
+pub mod Lefts
 pub mod Filling
 pub mod Keys

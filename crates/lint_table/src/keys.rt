@@ -42,13 +42,17 @@ pub const NEAR_MACRO: Key = Key(b"near-macro", b"", b"a macro of a similar name 
 #[rattlefmt::skip]
 pub const VARIABLE_IN_BRACKETS: Key = Key(b"variable-in-brackets", b"", b"acrun takes a name that begins so for that of a macro; write a\nvariable in brackets, as in [$\x01] and [\x01]=VALUE");
 
-/// if your package defines it (in m4/), write here what it does
+/// if m4/ or aclocal.m4 defines it, write here what it does
 #[rattlefmt::skip]
-pub const UNLISTED_MACRO: Key = Key(b"unlisted-macro", b"", b"if your package defines it (in m4/), write here what it does");
+pub const UNLISTED_MACRO: Key = Key(b"unlisted-macro", b"", b"if m4/ or aclocal.m4 defines it, write here what it does");
 
-/// if your package defines it (in m4/), write here what it does
+/// if m4/ or aclocal.m4 defines it, write here what it does
 #[rattlefmt::skip]
-pub const OWN_MACRO: Key = Key(b"own-macro", b"", b"if your package defines it (in m4/), write here what it does");
+pub const OWN_MACRO: Key = Key(b"own-macro", b"", b"if m4/ or aclocal.m4 defines it, write here what it does");
+
+/// this file defines it: write here what it does
+#[rattlefmt::skip]
+pub const DEFINED_MACRO: Key = Key(b"defined-macro", b"", b"this file defines it: write here what it does");
 
 /// write $VARIABLE
 #[rattlefmt::skip]
@@ -542,6 +546,34 @@ pub const FOLLOWED_ON_LINE: Key = Key(b"followed-on-line", b"something is after 
 #[rattlefmt::skip]
 pub const COMMENT_IN_CONDITION: Key = Key(b"comment-in-condition", b"a comment is in the condition of the `\x01`", b"");
 
+/// `OPERATOR` is in an `elif`
+#[rattlefmt::skip]
+pub const OPERATOR_IN_BRANCH: Key = Key(b"operator-in-branch", b"`\x01` is in an `elif`", b"");
+
+/// `OPERATOR` is in a statement that doesn't begin its line
+#[rattlefmt::skip]
+pub const OPERATOR_IN_LINE: Key = Key(b"operator-in-line", b"`\x01` is in a statement that doesn't begin its line", b"");
+
+/// `OPERATOR` is in an argument without brackets
+#[rattlefmt::skip]
+pub const OPERATOR_IN_BARE: Key = Key(b"operator-in-bare", b"`\x01` is in an argument without brackets", b"");
+
+/// `OPERATOR` is in a condition with a backslash, a bracket, a single quote or a backquote
+#[rattlefmt::skip]
+pub const OPERATOR_BESIDE_QUOTE: Key = Key(b"operator-beside-quote", b"`\x01` is in a condition with a backslash, a bracket, a single quote or a backquote", b"");
+
+/// `OPERATOR` is before AC_PROG_CC
+#[rattlefmt::skip]
+pub const FILE_BEFORE_COMPILER: Key = Key(b"file-before-compiler", b"`\x01` is before AC_PROG_CC", b"");
+
+/// the word of `OPERATOR` has srcdir, which acrun doesn't set
+#[rattlefmt::skip]
+pub const FILE_OF_SRCDIR: Key = Key(b"file-of-srcdir", b"the word of `\x01` has srcdir, which acrun doesn't set", b"");
+
+/// the word of `OPERATOR` has more than letters, digits, `$NAME` and `+-./:_`
+#[rattlefmt::skip]
+pub const FILE_WORD: Key = Key(b"file-word", b"the word of `\x01` has more than letters, digits, `$NAME` and `+-./:_`", b"");
+
 /// , and acrun port leaves it without --idioms, since Autoconf makes the checks that a macro in a call needs in any case
 #[rattlefmt::skip]
 pub const CALL_DRAWS: Key = Key(b"call-draws", b", and acrun port leaves it without --idioms, since Autoconf makes the checks that a macro in a call needs in any case", b"");
@@ -810,17 +842,29 @@ pub const OUTPUT_OVER_INPUT: Key = Key(b"output-over-input", b"a run in the sour
 #[rattlefmt::skip]
 pub const UNSET_VARIABLE: Key = Key(b"unset-variable", b"no statement sets @\x01@, so it is left unchanged", b"");
 
+/// no statement sets @NAME@, which Autoconf sets itself
+#[rattlefmt::skip]
+pub const SET_BY_AUTOCONF: Key = Key(b"set-by-autoconf", b"no statement sets @\x01@, which Autoconf sets itself", b"");
+
 /// did you mean @NAME@?
 #[rattlefmt::skip]
 pub const NEAR_VARIABLE: Key = Key(b"near-variable", b"", b"did you mean @\x01@?");
 
-/// its value begins with ${datarootdir}, which this template does not set: files would go to /man, /doc and the like
+/// the value of NAME begins with ${datarootdir}, which this template does not set: files would go to /man, /doc and the like
 #[rattlefmt::skip]
-pub const NO_DATAROOTDIR: Key = Key(b"no-datarootdir", b"its value begins with ${datarootdir}, which this template does not set: files would go to /man, /doc and the like", b"add the line\n  datarootdir = @datarootdir@");
+pub const NO_DATAROOTDIR: Key = Key(b"no-datarootdir", b"the value of \x01 begins with ${datarootdir}, which this template does not set: files would go to /man, /doc and the like", b"add the line\n  datarootdir = @datarootdir@");
 
-/// config.status is a record here; in Autoconf it is a script
+/// this rule runs config.status, which is a record here: a shell takes the values in it for commands
 #[rattlefmt::skip]
-pub const CONFIG_STATUS_SCRIPT: Key = Key(b"config-status-script", b"config.status is a record here; in Autoconf it is a script", b"write `acrun status NAME` in the rule, and `acrun status --recheck`\nfor `./config.status --recheck`");
+pub const CONFIG_STATUS_SCRIPT: Key = Key(b"config-status-script", b"this rule runs config.status, which is a record here: a shell takes the values in it for commands", b"write `acrun status --recheck` for `config.status --recheck`,\n`acrun status $@` for one that makes its target, and in place of\nCONFIG_FILES and CONFIG_HEADERS the names after `acrun status`");
+
+/// Automake made this template, and nothing sets the names that it uses
+#[rattlefmt::skip]
+pub const AUTOMAKE_TEMPLATE: Key = Key(b"automake-template", b"Automake made this template, and nothing sets the names that it uses", b"write a plain Makefile.in by hand");
+
+/// CFLAGS is empty here if the user gives none; Autoconf sets it to -g -O2
+#[rattlefmt::skip]
+pub const NO_FLAGS: Key = Key(b"no-flags", b"CFLAGS is empty here if the user gives none; Autoconf sets it to -g -O2", b"write after AC_PROG_CC\n  AS_IF([test \"x$CFLAGS\" = x], [CFLAGS='-g -O2'])");
 
 /// a run may leave conftests: this rule does not remove them, or this list takes them for sources
 #[rattlefmt::skip]
@@ -850,13 +894,25 @@ pub const DEFAULT_HEADERS: Key = Key(b"default-headers", b"no statement defines 
 #[rattlefmt::skip]
 pub const NOT_IN_HEADER: Key = Key(b"not-in-header", b"no header template has \x01, so its definition goes nowhere", b"add the line\n  #undef \x01\nto the template, or run autoheader");
 
+/// write before AC_OUTPUT
+#[rattlefmt::skip]
+pub const SET_LINE: Key = Key(b"set-line", b"", b"write before AC_OUTPUT\n  \x01");
+
 /// write in configure.ac
 #[rattlefmt::skip]
 pub const SET_SHELL: Key = Key(b"set-shell", b"", b"write in configure.ac\n  AC_SUBST([SHELL], [/bin/sh])");
 
-/// there is no config header; write the definitions into a header of
+/// it is empty on this system; write in configure.ac
 #[rattlefmt::skip]
-pub const SET_DEFS: Key = Key(b"set-defs", b"", b"there is no config header; write the definitions into a header of\nAC_CONFIG_HEADERS, or set DEFS by AC_SUBST");
+pub const SET_EXEEXT: Key = Key(b"set-exeext", b"", b"it is empty on this system; write in configure.ac\n  AC_SUBST([EXEEXT], [\"\"])");
+
+/// write in configure.ac
+#[rattlefmt::skip]
+pub const SET_OBJEXT: Key = Key(b"set-objext", b"", b"write in configure.ac\n  AC_SUBST([OBJEXT], [o])");
+
+/// there is no config header: keep what `acrun header` prints as
+#[rattlefmt::skip]
+pub const SET_DEFS: Key = Key(b"set-defs", b"", b"there is no config header: keep what `acrun header` prints as\nconfig.h.in, write AC_CONFIG_HEADERS([config.h]), and compile with\n-include config.h in place of @DEFS@");
 
 /// write AC_SUBST([SET_MAKE]), or leave it out: each make sets MAKE
 #[rattlefmt::skip]
@@ -902,22 +958,6 @@ pub const SET_AWK: Key = Key(b"set-awk", b"", b"write in configure.ac\n  AC_CHEC
 #[rattlefmt::skip]
 pub const SET_CPP: Key = Key(b"set-cpp", b"", b"write in configure.ac\n  AC_SUBST([CPP], [\"$CC -E\"])");
 
-/// it is empty on this system; write in configure.ac
-#[rattlefmt::skip]
-pub const SET_EXEEXT: Key = Key(b"set-exeext", b"", b"it is empty on this system; write in configure.ac\n  AC_SUBST([EXEEXT], [])");
-
-/// write in configure.ac
-#[rattlefmt::skip]
-pub const SET_OBJEXT: Key = Key(b"set-objext", b"", b"write in configure.ac\n  AC_SUBST([OBJEXT], [o])");
-
-/// write in configure.ac
-#[rattlefmt::skip]
-pub const SET_LIBOBJS: Key = Key(b"set-libobjs", b"", b"write in configure.ac\n  AC_SUBST([LIBOBJS])");
-
-/// acrun renames no programs; write in configure.ac
-#[rattlefmt::skip]
-pub const SET_TRANSFORM_NAME: Key = Key(b"set-transform-name", b"", b"acrun renames no programs; write in configure.ac\n  AC_SUBST([program_transform_name], [s,x,x,])");
-
 /// use @srcdir@, or `cd` and `pwd` in the rule
 #[rattlefmt::skip]
 pub const SET_ABS_SRCDIR: Key = Key(b"set-abs-srcdir", b"", b"use @srcdir@, or `cd` and `pwd` in the rule");
@@ -929,6 +969,18 @@ pub const SET_ABS_TOP_SRCDIR: Key = Key(b"set-abs-top-srcdir", b"", b"use @top_s
 /// use @top_builddir@, or `cd` and `pwd` in the rule
 #[rattlefmt::skip]
 pub const SET_ABS_TOP_BUILDDIR: Key = Key(b"set-abs-top-builddir", b"", b"use @top_builddir@, or `cd` and `pwd` in the rule");
+
+/// use @builddir@, or `cd` and `pwd` in the rule
+#[rattlefmt::skip]
+pub const SET_ABS_BUILDDIR: Key = Key(b"set-abs-builddir", b"", b"use @builddir@, or `cd` and `pwd` in the rule");
+
+/// use @top_builddir@/
+#[rattlefmt::skip]
+pub const SET_TOP_BUILD_PREFIX: Key = Key(b"set-top-build-prefix", b"", b"use @top_builddir@/");
+
+/// write the name of the variable that gets the objects
+#[rattlefmt::skip]
+pub const SET_OBJECTS: Key = Key(b"set-objects", b"", b"write the name of the variable that gets the objects");
 
 /// libtool checks it; write
 #[rattlefmt::skip]
@@ -1092,7 +1144,7 @@ pub const NO_NULL_DEVICE: Key = Key(b"no-null-device", b"/dev/null is not there,
 
 /// The codes of the warnings that something means another thing to Autoconf.
 #[rattlefmt::skip]
-pub(crate) const DIFFERENCES: [&[u8]; 27] = [
+pub(crate) const DIFFERENCES: [&[u8]; 25] = [
     b"backslash-in-message",
     b"blank-before-comma",
     b"quote-in-value",
@@ -1116,8 +1168,16 @@ pub(crate) const DIFFERENCES: [&[u8]; 27] = [
     b"fewer-includes",
     b"quoted-includes",
     b"macro-in-text",
-    b"no-datarootdir",
-    b"config-status-script",
     b"no-newline-at-end",
     b"default-headers",
+];
+
+/// The codes of the warnings about templates that `port` counts as left to do.
+#[rattlefmt::skip]
+pub(crate) const LEFTS: [&[u8]; 5] = [
+    b"set-by-autoconf",
+    b"no-datarootdir",
+    b"config-status-script",
+    b"automake-template",
+    b"no-flags",
 ];

@@ -26,7 +26,7 @@ pub mod keys;
 mod page;
 mod part;
 
-pub use differing::is_difference;
+pub use differing::{is_difference, is_left};
 pub use key::Key;
 pub use page::{Page, Words, warn_by_key};
 pub use part::WordPart;

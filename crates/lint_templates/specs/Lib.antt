@@ -2,3 +2,4 @@ pub mod Names
 pub mod Given
 pub mod Listed
 pub mod Unlisted
+pub mod Served

@@ -1,13 +1,36 @@
 //! What is said of names that Autoconf gives templates, and acrun doesn't.
 
+use crate::served::served_line;
+use crate::shape::Shape;
 use lint_table::{Key, keys};
 
-/// Output variables that Autoconf sets by itself or by a macro that acrun doesn't know, each with
-/// what to write.
+/// What is said of a name between two `@` that the source doesn't set.
+#[derive(Clone, Copy)]
+pub(crate) enum Advice {
+    /// Autoconf sets it itself, and this line sets it here.
+    Served(&'static [u8]),
+    /// Autoconf sets it itself, and no line does here.
+    Left(Key),
+    /// A macro of Autoconf sets it.
+    Known(Key),
+    /// Nothing is known of it.
+    Nothing,
+}
+
+/// Output variables that Autoconf sets itself and that no line can set, each with what to write.
 #[rattlefmt::skip]
-const VARIABLES: [(&[u8], Key); 20] = [
-    (b"SHELL", keys::SET_SHELL),
+const LEFT: [(&[u8], Key); 6] = [
     (b"DEFS", keys::SET_DEFS),
+    (b"abs_srcdir", keys::SET_ABS_SRCDIR),
+    (b"abs_top_srcdir", keys::SET_ABS_TOP_SRCDIR),
+    (b"abs_builddir", keys::SET_ABS_BUILDDIR),
+    (b"abs_top_builddir", keys::SET_ABS_TOP_BUILDDIR),
+    (b"top_build_prefix", keys::SET_TOP_BUILD_PREFIX),
+];
+
+/// Output variables that Autoconf sets by a macro that acrun doesn't know, each with what to write.
+#[rattlefmt::skip]
+const VARIABLES: [(&[u8], Key); 11] = [
     (b"SET_MAKE", keys::SET_MAKE),
     (b"INSTALL", keys::SET_INSTALL),
     (b"INSTALL_PROGRAM", keys::SET_INSTALL_PROGRAM),
@@ -19,13 +42,6 @@ const VARIABLES: [(&[u8], Key); 20] = [
     (b"AR", keys::SET_AR),
     (b"AWK", keys::SET_AWK),
     (b"CPP", keys::SET_CPP),
-    (b"EXEEXT", keys::SET_EXEEXT),
-    (b"OBJEXT", keys::SET_OBJEXT),
-    (b"LIBOBJS", keys::SET_LIBOBJS),
-    (b"program_transform_name", keys::SET_TRANSFORM_NAME),
-    (b"abs_srcdir", keys::SET_ABS_SRCDIR),
-    (b"abs_top_srcdir", keys::SET_ABS_TOP_SRCDIR),
-    (b"abs_top_builddir", keys::SET_ABS_TOP_BUILDDIR),
 ];
 
 /// The definitions that Autoconf makes of its default includes, each with its header.
@@ -51,9 +67,43 @@ fn key_in(rows: &[(&'static [u8], Key)], name: &[u8]) -> Option<Key> {
     }
 }
 
-/// Returns what to write for an output variable that the source doesn't name, if that is known.
-pub(crate) fn variable_advice(name: &[u8]) -> Option<Key> {
-    key_in(&VARIABLES, name)
+/// Returns whether a name is one of two.
+fn is_either(name: &[u8], first: &[u8], second: &[u8]) -> bool {
+    name == first || name == second
+}
+
+/// Returns whether Autoconf sets a name of its table for a source of this shape: the suffixes are set
+/// by what looks for the compiler.
+fn is_set(shape: Shape, name: &[u8]) -> bool {
+    shape.has_compiler || !is_either(name, b"OBJEXT", b"EXEEXT")
+}
+
+/// Returns whether objects are added to what a name has, so that no line sets it.
+fn has_objects(shape: Shape, name: &[u8]) -> bool {
+    shape.adds_objects && is_either(name, b"LIBOBJS", b"LTLIBOBJS")
+}
+
+/// Returns what is said of a name that no line sets here.
+fn advice_in_tables(name: &[u8]) -> Advice {
+    if let Some(key) = key_in(&LEFT, name) {
+        return Advice::Left(key);
+    }
+    match key_in(&VARIABLES, name) {
+        Some(key) => Advice::Known(key),
+        None => Advice::Nothing,
+    }
+}
+
+/// Returns what is said of a name between two `@` that a source of this shape doesn't set.
+pub(crate) fn advice_of(shape: Shape, name: &[u8]) -> Advice {
+    if has_objects(shape, name) {
+        return Advice::Left(keys::SET_OBJECTS);
+    }
+    let line = served_line(name);
+    if line.is_empty() || !is_set(shape, name) {
+        return advice_in_tables(name);
+    }
+    Advice::Served(line)
 }
 
 /// Returns what to write for a definition that the source doesn't make, if that is known.

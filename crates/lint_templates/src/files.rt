@@ -3,20 +3,18 @@
 ghost use Rattle.std.specs.Prelude.{OnOk};
 ghost use Rattle.lint_findings.specs.Within.{KeepsWithin};
 
-use crate::advice::variable_advice;
+use crate::advice::{Advice, advice_of};
 use crate::given::Given;
-use crate::messages::{TemplateName, near_of, warn_at, warn_of_name};
+use crate::messages::{TemplateName, near_of, warn_at, warn_of_name, warn_of_served};
+use crate::rules::record_runs;
+use crate::shape::Shape;
+use crate::wanted::{directory_in, is_of_automake, lacks_flags};
 use bstr::ByteSlice;
 use deftable::{SubstList, is_shell_name};
 use lint_findings::{Finding, Span};
-use lint_table::keys;
+use lint_table::{Key, WordPart, is_left, keys, warn_by_key};
+use lint_text::{first_line, part as text_between};
 use std::alloc::{AllocError, Global};
-
-/// The variables whose usual values name `datarootdir`.
-#[rattlefmt::skip]
-const BELOW_DATAROOTDIR: [&[u8]; 9] = [
-    b"@mandir@", b"@datadir@", b"@localedir@", b"@docdir@", b"@infodir@", b"@htmldir@", b"@dvidir@", b"@pdfdir@", b"@psdir@",
-];
 
 /// What ends a name of the directory of the source.
 const SOURCE_DIRECTORIES: [&[u8]; 3] = [b"srcdir)", b"srcdir}", b"srcdir@"];
@@ -25,6 +23,7 @@ const SOURCE_DIRECTORIES: [&[u8]; 3] = [b"srcdir)", b"srcdir}", b"srcdir@"];
 fn warn_once(
     alloc: Global,
     given: &Given,
+    shape: Shape,
     seen: &mut SubstList,
     text: &[u8],
     span: Span,
@@ -37,16 +36,69 @@ fn warn_once(
         return Ok(());
     }
     seen.add(name)?;
-    let advice = variable_advice(name);
+    warn_of_unset(alloc, given, shape, text, span, name, out)
+}
+
+/// Warns of a name between two `@` that is no output variable.
+fn warn_of_unset(
+    alloc: Global,
+    given: &Given,
+    shape: Shape,
+    text: &[u8],
+    span: Span,
+    name: &[u8],
+    out: &mut Vec<Finding>,
+) -> Result<(), AllocError>
+    ensures within { OnOk result (KeepsWithin span.file text.now out.old.items out.new.items) }
+{
+    match advice_of(shape, name) {
+        Advice::Served(line) => warn_of_served(alloc, out, text, span, name, line),
+        Advice::Left(key) => warn_of_left(alloc, out, text, span, name, key),
+        Advice::Known(key) => {
+            let kind = TemplateName::Variable;
+            warn_of_name(alloc, out, text, span, kind, name, Some(key), None)
+        }
+        Advice::Nothing => warn_of_unknown(alloc, given, text, span, name, out),
+    }
+}
+
+/// Warns of a name between two `@` that Autoconf sets and that no line of acrun can set.
+fn warn_of_left(
+    alloc: Global,
+    out: &mut Vec<Finding>,
+    text: &[u8],
+    span: Span,
+    name: &[u8],
+    advice: Key,
+) -> Result<(), AllocError>
+    ensures within { OnOk result (KeepsWithin span.file text.now out.old.items out.new.items) }
+{
+    let kind = TemplateName::Served;
+    warn_of_name(alloc, out, text, span, kind, name, Some(advice), None)
+}
+
+/// Warns of a name between two `@` that neither the source nor Autoconf sets, and asks whether a
+/// near one was meant.
+fn warn_of_unknown(
+    alloc: Global,
+    given: &Given,
+    text: &[u8],
+    span: Span,
+    name: &[u8],
+    out: &mut Vec<Finding>,
+) -> Result<(), AllocError>
+    ensures within { OnOk result (KeepsWithin span.file text.now out.old.items out.new.items) }
+{
     let near = near_of(alloc, out.len(), name, &given.variables)?;
     let kind = TemplateName::Variable;
-    warn_of_name(alloc, out, text, span, kind, name, advice, near)
+    warn_of_name(alloc, out, text, span, kind, name, None, near)
 }
 
 /// Warns of each name between two `@` that is no output variable, once.
 fn warn_of_names(
     alloc: Global,
     given: &Given,
+    shape: Shape,
     file: usize,
     text: &[u8],
     out: &mut Vec<Finding>,
@@ -64,7 +116,7 @@ fn warn_of_names(
                 start: at - 1,
                 end: end.saturating_add(1),
             };
-            warn_once(alloc, given, &mut seen, text, span, piece, out)?;
+            warn_once(alloc, given, shape, &mut seen, text, span, piece, out)?;
         }
         at = end.saturating_add(1);
     }
@@ -79,14 +131,6 @@ fn first_of(text: &[u8], texts: &[&[u8]]) -> Option<(usize, usize)> {
         }
     }
     None
-}
-
-/// Returns the offset of a directory below `datarootdir` with its length, if nothing sets that.
-fn directory_in(text: &[u8]) -> Option<(usize, usize)> {
-    if text.contains_str(b"datarootdir") {
-        return None;
-    }
-    first_of(text, &BELOW_DATAROOTDIR)
 }
 
 /// Returns the end of a text whose last line has no newline.
@@ -207,10 +251,84 @@ fn sources_in(text: &[u8]) -> Option<(usize, usize)> {
     None
 }
 
-/// Adds the warnings about the template of a file: names between two `@` that no statement sets, a
-/// directory below `datarootdir` without that, a rule that runs `config.status`, a `distclean` that
-/// removes `config.status` and no conftest, a pattern `*.c` that takes conftests for sources, and a
-/// last line without a newline (own).
+/// Warns of a directory below `datarootdir` between two `@`, if it is there: its offset and its
+/// length.
+fn warn_of_directory(
+    alloc: Global,
+    out: &mut Vec<Finding>,
+    text: &[u8],
+    file: usize,
+    part: Option<(usize, usize)>,
+) -> Result<(), AllocError>
+    ensures within { OnOk result (KeepsWithin file text.now out.old.items out.new.items) }
+{
+    let Some((start, length)) = part else {
+        return Ok(());
+    };
+    let end = start.saturating_add(length);
+    let span = Span { file, start, end };
+    let name = text_between(text, start, end);
+    warn_by_key(
+        alloc,
+        out,
+        text,
+        span,
+        keys::NO_DATAROOTDIR,
+        &[WordPart::AsItIs(name)],
+    )
+}
+
+/// Warns of each of these runs of a record.
+fn warn_of_runs(
+    alloc: Global,
+    file: usize,
+    text: &[u8],
+    runs: &[(usize, usize)],
+    out: &mut Vec<Finding>,
+) -> Result<(), AllocError>
+    ensures within { OnOk result (KeepsWithin file text.now out.old.items out.new.items) }
+{
+    for run in runs {
+        warn_at(
+            alloc,
+            out,
+            text,
+            file,
+            Some(*run),
+            keys::CONFIG_STATUS_SCRIPT,
+        )?;
+    }
+    Ok(())
+}
+
+/// Adds the warnings about what a template that isn't Automake's uses: names between two `@` that no
+/// statement sets, a directory below `datarootdir` without that, CFLAGS if nothing sets it, and rules
+/// that run `config.status`.
+fn warn_of_uses(
+    alloc: Global,
+    given: &Given,
+    source: &[u8],
+    shape: Shape,
+    file: usize,
+    text: &[u8],
+    out: &mut Vec<Finding>,
+) -> Result<(), AllocError>
+    ensures within { OnOk result (KeepsWithin file text.now out.old.items out.new.items) }
+{
+    let runs = record_runs(alloc, text)?;
+    warn_of_names(alloc, given, shape, file, text, out)?;
+    warn_of_directory(alloc, out, text, file, directory_in(source, text))?;
+    let flags = lacks_flags(shape, text);
+    warn_at(alloc, out, text, file, flags, keys::NO_FLAGS)?;
+    warn_of_runs(alloc, file, text, runs.as_slice(), out)?;
+    Ok(())
+}
+
+/// Adds the warnings about the template of a file, for a source with this text: that Automake made
+/// it; or else names between two `@` that no statement sets, a directory below `datarootdir` without
+/// that, CFLAGS if nothing sets it, and each rule that runs `config.status`. Further a `distclean`
+/// that removes `config.status` and no conftest, a pattern `*.c` that takes conftests for sources,
+/// and a last line without a newline (own).
 ///
 /// # Errors
 ///
@@ -218,6 +336,8 @@ fn sources_in(text: &[u8]) -> Option<(usize, usize)> {
 pub fn warn_of_file(
     alloc: Global,
     given: &Given,
+    source: &[u8],
+    shape: Shape,
     file: usize,
     text: &[u8],
     out: &mut Vec<Finding>,
@@ -225,17 +345,11 @@ pub fn warn_of_file(
     // If the findings of this file were in its text, they still are.
     ensures within { OnOk result (KeepsWithin file text.now out.old.items out.new.items) }
 {
-    warn_of_names(alloc, given, file, text, out)?;
-    warn_at(
-        alloc,
-        out,
-        text,
-        file,
-        directory_in(text),
-        keys::NO_DATAROOTDIR,
-    )?;
-    let script = first_of(text, &[b"./config.status"]);
-    warn_at(alloc, out, text, file, script, keys::CONFIG_STATUS_SCRIPT)?;
+    if is_of_automake(text) {
+        let first = Some((0, first_line(text).len()));
+        return warn_at(alloc, out, text, file, first, keys::AUTOMAKE_TEMPLATE);
+    }
+    warn_of_uses(alloc, given, source, shape, file, text, out)?;
     let cleaned = cleaned_in(text);
     warn_at(alloc, out, text, file, cleaned, keys::CONFTESTS_LEFT)?;
     let sources = sources_in(text);
@@ -249,4 +363,39 @@ pub fn warn_of_file(
         keys::NO_NEWLINE_AT_END,
     )?;
     Ok(())
+}
+
+/// Appends the warnings about a file that was made of a template.
+fn warn_of_made(
+    alloc: Global,
+    given: &Given,
+    text: &[u8],
+    out: &mut Vec<Finding>,
+) -> Result<(), AllocError> {
+    if is_of_automake(text) {
+        let first = Some((0, first_line(text).len()));
+        return warn_at(alloc, out, text, 1, first, keys::AUTOMAKE_TEMPLATE);
+    }
+    let runs = record_runs(alloc, text)?;
+    warn_of_names(alloc, given, Shape::made(), 1, text, out)?;
+    warn_of_runs(alloc, 1, text, runs.as_slice(), out)
+}
+
+/// Returns what is left to do in a file that was made of a template: that Automake made the
+/// template; or else names between two `@` that Autoconf sets itself, and each rule that runs
+/// `config.status` (own). In order of place.
+///
+/// # Errors
+///
+/// Fails only if memory runs out.
+pub fn left_in_made(alloc: Global, text: &[u8]) -> Result<Vec<Finding>, AllocError> {
+    let given = Given {
+        variables: SubstList::new(alloc),
+        defined: SubstList::new(alloc),
+    };
+    let mut found = Vec::new(alloc);
+    warn_of_made(alloc, &given, text, &mut found)?;
+    found.retain(|finding| is_left(finding.code.as_slice()));
+    found.sort_by_key(|finding| finding.start)?;
+    Ok(found)
 }

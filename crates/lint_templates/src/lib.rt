@@ -20,8 +20,15 @@ mod given;
 mod headers;
 mod messages;
 mod outputs;
+mod rules;
+mod served;
+mod shape;
+mod wanted;
 
-pub use files::warn_of_file;
+pub use files::{left_in_made, warn_of_file};
 pub use given::Given;
 pub use headers::{add_listed, warn_of_header, warn_of_unlisted};
 pub use outputs::{span_of_output, warn_of_outputs};
+pub use served::put_served;
+pub use shape::Shape;
+pub use wanted::{add_wanted, wants_flags};

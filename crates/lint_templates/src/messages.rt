@@ -14,6 +14,8 @@ use std::alloc::{AllocError, Global};
 pub(crate) enum TemplateName {
     /// A name between two `@`.
     Variable,
+    /// A name between two `@` that Autoconf sets itself.
+    Served,
     /// A name that a header's template undefines.
     Definition,
 }
@@ -22,6 +24,7 @@ pub(crate) enum TemplateName {
 fn key_of(kind: TemplateName) -> Key {
     match kind {
         TemplateName::Variable => keys::UNSET_VARIABLE,
+        TemplateName::Served => keys::SET_BY_AUTOCONF,
         TemplateName::Definition => keys::NEVER_DEFINED,
     }
 }
@@ -29,7 +32,7 @@ fn key_of(kind: TemplateName) -> Key {
 /// Returns the question whether a near name was meant.
 fn near_key(kind: TemplateName) -> Key {
     match kind {
-        TemplateName::Variable => keys::NEAR_VARIABLE,
+        TemplateName::Variable | TemplateName::Served => keys::NEAR_VARIABLE,
         TemplateName::Definition => keys::NEAR_DEFINITION,
     }
 }
@@ -89,6 +92,23 @@ pub(crate) fn warn_of_name(
         None => put_near(&mut page, kind, near),
     }
     page.warn(alloc, out, text, span, key.name())
+}
+
+/// Warns of a name that Autoconf sets itself, with the line that sets it.
+pub(crate) fn warn_of_served(
+    alloc: Global,
+    out: &mut Vec<Finding>,
+    text: &[u8],
+    span: Span,
+    name: &[u8],
+    line: &[u8],
+) -> Result<(), AllocError>
+    ensures within { OnOk result (KeepsWithin span.file text.now out.old.items out.new.items) }
+{
+    let mut page = Page::new(alloc);
+    page.put(keys::SET_BY_AUTOCONF, &[WordPart::AsItIs(name)]);
+    page.put(keys::SET_LINE, &[WordPart::AsItIs(line)]);
+    page.warn(alloc, out, text, span, keys::SET_BY_AUTOCONF.name())
 }
 
 /// Warns of a part of a file, if it is there: its offset and its length.

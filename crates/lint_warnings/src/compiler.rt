@@ -1,6 +1,7 @@
 //! Warnings if nothing looks for a compiler, or if nothing tries whether it works.
 
 use crate::extent::{NamedCall, assigns, bare, is_given, name_of, text_at, warn_of_part};
+use crate::noted::is_noted;
 use ac_calls::{CallAt, Extent};
 use ac_macros::ArgumentKind;
 use lint_findings::Finding;
@@ -58,14 +59,15 @@ fn without_compiler<'a>(text: &[u8], calls: &'a [CallAt]) -> Option<&'a CallAt> 
     None
 }
 
-/// Returns the first call that compiles something, if no program was tried before it.
+/// Returns the first call that compiles something and that `acrun port` didn't write, if no program
+/// was tried before it.
 fn without_trial<'a>(text: &[u8], calls: &'a [CallAt]) -> Option<&'a CallAt> {
     for call in calls {
         let name = name_of(text, call);
         if tries(name) {
             return None;
         }
-        if compiles(name) {
+        if compiles(name) && !is_noted(text, call.start) {
             return Some(call);
         }
     }

@@ -14,7 +14,8 @@
 //! `foreign` read the calls of the source, `includes` those that look for declarations, `compiler`
 //! their order, and `texts` its text and its statements. `shellwords` finds words that a shell
 //! reads otherwise. `names` has the variables of a source, and `variables` those that acrun doesn't
-//! set. `order` finds the first statement that can't be resumed.
+//! set. `order` finds the first statement that can't be resumed. `noted` says which calls `acrun port`
+//! wrote, of which `compiler` and `order` don't warn.
 #![tactic(auto)]
 
 mod calls;
@@ -24,6 +25,7 @@ mod foreign;
 mod includes;
 mod lines;
 mod names;
+mod noted;
 mod order;
 mod rows;
 mod shellwords;

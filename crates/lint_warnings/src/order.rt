@@ -6,6 +6,7 @@
 //! shortest one that can't be resumed ends with it.
 
 use crate::extent::{name_of, span_of};
+use crate::noted::is_noted;
 use ac_calls::{CallAt, Extent};
 use acparse::{ParseFault, parse};
 use lint_findings::Finding;
@@ -163,7 +164,7 @@ fn first_statement(alloc: Global, text: &[u8], calls: &[CallAt]) -> Result<Exten
     }
 }
 
-/// Warns of the first statement of a source that can't be resumed.
+/// Warns of the first statement of a source that can't be resumed, unless `acrun port` wrote it.
 pub(crate) fn warn_of_order(
     alloc: Global,
     text: &[u8],
@@ -171,6 +172,9 @@ pub(crate) fn warn_of_order(
     out: &mut Vec<Finding>,
 ) -> Result<(), AllocError> {
     let extent = first_statement(alloc, text, calls)?;
+    if is_noted(text, extent.start) {
+        return Ok(());
+    }
     let statement = before(part(text, extent.start, extent.end), 60);
     let mut page = Page::new(alloc);
     if statement.is_empty() {

@@ -15,19 +15,22 @@
 //! call ends, and where a finding is.
 //!
 //! Read `calls`, which finds the call that a place is in, `arguments` and `outputs`, which have what
-//! an argument may be, and `forms`, which has the whole form of a call; then `parse` has the errors.
+//! an argument may be, and `forms`, which has the whole form of a call; then `parse` has the errors,
+//! and `definitions` the macros that the source itself defines.
 //! Shell text: read `table`, which has what is not supported, and then `shell`, which finds it in a
 //! text. The words of faults of a run are in `run_words`.
 #![tactic(auto)]
 
 mod arguments;
 mod calls;
+mod definitions;
 mod forms;
 mod outputs;
 mod parse;
 mod shell;
 mod table;
 
+pub use definitions::Definitions;
 pub use parse::parse_finding;
 pub use shell::{shell_help, test_help, word_help};
 pub use table::Construct;

@@ -180,13 +180,17 @@ pub fn shell_help(statement: &[u8]) -> Option<Construct> {
 }
 
 /// Returns what is wrong with a test, as far as its text shows that. The text is without the quotes
-/// around it.
+/// around it. A command that is substituted comes before an operator, for which there may be another
+/// one.
 pub fn test_help(test: &[u8]) -> Option<Construct> {
     if test.contains(&b'\r') {
         return Some(said_of(Nameless::CarriageReturn));
     }
     if after_blanks(test).starts_with(b"[") {
         return Some(said_of(Nameless::Bracket));
+    }
+    if let Some(found) = row_of(WordPlace::Inside, Fit::IsIn(test)) {
+        return Some(found);
     }
     if let Some(found) = row_of_words(test) {
         return Some(found);

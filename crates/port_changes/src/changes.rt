@@ -7,9 +7,10 @@ ghost use Rattle.port_idioms.specs.Exact.{text_of};
 ghost use Rattle.port_spots.specs.Put as specs;
 
 use crate::noted::noted_change;
+use crate::placing::is_same_beside;
 use crate::readers::{next_line, without_meaning};
 use ac_calls::CallAt;
-use lint_text::{from, part};
+use lint_text::{first_name, from, is_word_byte, part};
 use port_definitions::{is_dropped, last_line, space_len};
 use port_idioms::{Exact, Idioms, exact_of, filled};
 use port_spots::{
@@ -90,13 +91,15 @@ fn put_apart(text: &[u8], indent: &[u8], call: &CallAt, put: Vec<u8>) -> Result<
     }
 }
 
-/// Returns an idiom with the arguments of a call, unless an argument can't be put into it.
+/// Returns an idiom with the arguments of a call, unless an argument can't be put into it. The words
+/// of an argument without brackets may be taken for text.
 fn idiom_text(
     alloc: Global,
     text: &[u8],
     spot: Spot,
     call: &CallAt,
     idiom: &[u8],
+    are_text: bool,
 ) -> Result<Option<Vec<u8>>, AllocError>
     requires idiom { specs.put_for text.now (macro_call_of call.now) ≡ Some idiom.now }
     ensures { IfOk result (λ o.
@@ -104,7 +107,7 @@ fn idiom_text(
 {
     let args = texts(alloc, text, call.args.as_slice())?;
     let indent = indent_of(text, spot, call.start);
-    filled(alloc, idiom, args.as_slice(), false, indent)
+    filled(alloc, idiom, args.as_slice(), are_text, indent)
 }
 
 /// Returns the change of a call to an idiom, unless an argument can't be put into it, or Autoconf
@@ -115,6 +118,7 @@ fn to_idiom(
     spot: Spot,
     call: &CallAt,
     idiom: &[u8],
+    are_text: bool,
 ) -> Result<Option<Change>, AllocError>
     requires idiom { specs.put_for text.now (macro_call_of call.now) ≡ Some idiom.now }
     ensures { IfOk result (λ o.
@@ -123,7 +127,7 @@ fn to_idiom(
     if takes_next_line(text, call) {
         return Ok(None);
     }
-    match idiom_text(alloc, text, spot, call, idiom)? {
+    match idiom_text(alloc, text, spot, call, idiom, are_text)? {
         Some(text_put) => {
             let put = put_apart(text, line_indent(text, spot), call, text_put)?;
             Ok(Some(change_to(call, put)))
@@ -239,6 +243,7 @@ fn is_same_here(known: &Known, text: &[u8], spot: Spot, call: &CallAt) -> bool {
         && ends_statement(from(text, call.end))
         && (spot.is_at_top || !is_drawn(part(text, call.start, call.name_end)))
         && knows_compiler(known, text, call)
+        && is_same_beside(text, call)
 }
 
 /// Macros without a meaning that look for no compiler either.
@@ -305,6 +310,7 @@ fn to_exact(
     spot: Spot,
     call: &CallAt,
     exact: Exact,
+    are_text: bool,
 ) -> Result<Option<Change>, AllocError>
     requires put { specs.put_for text.now (macro_call_of call.now) ≡ Some (text_of exact) }
     ensures { IfOk result (λ o.
@@ -312,7 +318,7 @@ fn to_exact(
 {
     match exact {
         Exact::Nothing => without_meaning(alloc, known, text, spot, call),
-        Exact::Idiom(idiom) => to_idiom(alloc, text, spot, call, idiom),
+        Exact::Idiom(idiom) => to_idiom(alloc, text, spot, call, idiom, are_text),
     }
 }
 
@@ -324,6 +330,7 @@ fn exact_change(
     text: &[u8],
     spot: Spot,
     call: &CallAt,
+    are_text: bool,
 ) -> Result<Option<Change>, AllocError>
     ensures { IfOk result (λ o.
         IfSome o (λ change.
@@ -331,7 +338,7 @@ fn exact_change(
         × specs.IsExactFor text.now (macro_call_of call.now))) }
 {
     match exact_for(alloc, known, text, call)? {
-        Some(exact) => to_exact(alloc, known, text, spot, call, exact),
+        Some(exact) => to_exact(alloc, known, text, spot, call, exact, are_text),
         None => Ok(None),
     }
 }
@@ -356,6 +363,31 @@ fn other_change(
     }
 }
 
+/// Returns whether the words of arguments without brackets are taken for text: if all idioms are
+/// wanted, unless the source defines a macro of one of them.
+fn takes_words(idioms: Idioms, known: &Known, text: &[u8], call: &CallAt) -> bool {
+    match idioms {
+        Idioms::Exact => false,
+        Idioms::All => !has_defined(known, part(text, call.name_end, call.end)),
+    }
+}
+
+/// Returns whether a text has a word that the source defines as a macro.
+fn has_defined(known: &Known, text: &[u8]) -> bool {
+    let mut end: usize = 0;
+    for at in 0..text.len() {
+        if at < end || !is_word_byte(text[at]) || text[at].is_ascii_digit() {
+            continue;
+        }
+        let name = first_name(from(text, at));
+        if known.defined.contains(name) {
+            return true;
+        }
+        end = at.saturating_add(name.len());
+    }
+    false
+}
+
 /// Returns the change of a call that has to go, if it has an idiom that is wanted.
 #[tactic(auto, using(crate::proofs::Puts::exact_may))]
 pub fn change_of(
@@ -373,7 +405,8 @@ pub fn change_of(
     if !is_same_here(known, text, spot, call) {
         return Ok(None);
     }
-    match exact_change(alloc, known, text, spot, call)? {
+    let are_text = takes_words(idioms, known, text, call);
+    match exact_change(alloc, known, text, spot, call, are_text)? {
         Some(change) => Ok(Some(change)),
         None => other_change(alloc, idioms, known, text, spot, call),
     }

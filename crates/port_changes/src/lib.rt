@@ -11,14 +11,15 @@
 //! ```
 //!
 //! Read `specs/Put` of `port_spots` (what may be put), and then `changes` from its end on, `readers` and
-//! `keeping` (calls without a meaning), `noted` and `noting` (idioms that differ). A call fails only if
-//! memory runs out. "own" marks a rule that no manual gives.
+//! `keeping` (calls without a meaning), `noted` and `noting` (idioms that differ), and `placing` (what the
+//! rest of the text says). A call fails only if memory runs out. "own" marks a rule that no manual gives.
 #![tactic(auto)]
 
 mod changes;
 mod keeping;
 mod noted;
 mod noting;
+mod placing;
 mod readers;
 
 pub use changes::{Change, change_of, is_drawn};

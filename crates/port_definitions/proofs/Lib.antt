@@ -1,2 +1,3 @@
+pub mod Begins
 pub mod Made
 pub mod Remarks

@@ -1,7 +1,7 @@
 -- Macros without parameters that the source itself defines. (manual, "Macro Definitions")
 use Rattle.std.specs.Prelude.{◌≡◌, ◌⊎◌, ℕ, ◌+◌, ◌-◌, ◌<◌, ◌≤◌, ◌==◌, ◌||◌, ◌&&◌, nat_lt, Bool, true, false, List, [], ◌∷◌, ◌++◌, length, slice_range, slice_index, slice_get, Some, codes}
 use Rattle.std.specs.List.{list_all}
-use Rattle.std.specs.Char.{is_ascii_alphabetic, is_ascii_alphanumeric}
+use Rattle.std.specs.Char.{is_ascii_alphabetic, is_ascii_alphanumeric, is_ascii_digit}
 use Rattle.ac_calls.specs.Calls.{MacroCall}
 use Rattle.ac_calls.specs.declared.call.Extent.{Extent}
 use Rattle.text_cut.specs.Cuts.{is_blank}
@@ -56,9 +56,13 @@ IsNameAt text at name = (slice_range text at (at + length name) ≡ name) × Beg
 abbrev pub is_letter : ℕ → Bool
 is_letter b = is_ascii_alphabetic b || b == 95
 
--- No such byte is right before this offset, so that m4 takes what begins here for a name of its own.
-abbrev pub BeginsWord : List ℕ → ℕ → Type 0
-BeginsWord text at = (at ≡ 0) ⊎ (is_letter (slice_index text (at - 1)) ≡ false)
+-- m4 takes what begins at this offset for a name of its own. It may do so after digits, if they are no part of a longer name. (manual,
+-- "Names" of GNU M4)
+pub record BeginsWord (text : List ℕ) (at : ℕ) : Type 0 where
+  pub front : ℕ
+  pub order : front ≤ at
+  pub digits : (i : ℕ) → front ≤ i → i < at → is_ascii_digit (slice_index text i) ≡ true
+  pub begins : BeginsName text front
 
 -- No name goes on at this offset.
 abbrev pub EndsWord : List ℕ → ℕ → Type 0

@@ -1,6 +1,7 @@
 //! A definition, and the places of its name.
 
-ghost use Rattle.std.specs.Prelude.{◌≡◌, ◌≤◌, ◌<◌, ◌+◌, false, Some, length, slice_range, slice_get, codes, IfSome, IsTrue};
+ghost use Rattle.std.specs.Prelude.{◌≡◌, ◌⊎◌, ℕ, ◌≤◌, ◌<◌, ◌+◌, ◌-◌, false, true, Some, length, slice_range, slice_index, slice_get, codes, IfSome, IsTrue};
+ghost use Rattle.std.specs.Char.{is_ascii_digit};
 ghost use Rattle.ac_calls.specs.Calls.{macro_call_of};
 ghost use Rattle.lint_macros.specs.Values as words;
 ghost use Rattle.port_idioms.specs.Filled.{text_of};
@@ -160,13 +161,34 @@ pub fn is_name_at(text: &[u8], at: usize, name: &[u8]) -> bool
     has_name(text, at, name) && begins_name(text, at) && ends_name(text, at + name.len())
 }
 
-/// Returns whether neither a letter nor `_` is right before an offset.
+/// Returns the offset of the digits that are right before an offset.
+fn digits_start(text: &[u8], at: usize) -> usize
+    requires { at ≤ length text.now }
+    ensures order { result ≤ at }
+    ensures digits { (i : ℕ)
+        → result ≤ i
+        → i < at
+        → is_ascii_digit (slice_index text.now i) ≡ true }
+    ensures first { (result ≡ 0) ⊎ (is_ascii_digit (slice_index text.now (result - 1)) ≡ false) }
+{
+    let mut start = at;
+    while 0 < start {
+        if !text[start - 1].is_ascii_digit() {
+            return start;
+        }
+        start -= 1;
+    }
+    start
+}
+
+/// Returns whether m4 takes what begins at an offset for a name of its own.
+#[tactic(auto, using(crate::proofs::Begins::begins, crate::proofs::Begins::goes_on))]
 pub(crate) fn begins_word(text: &[u8], at: usize) -> bool
     requires { at ≤ length text.now }
     ensures yes { IsTrue result → specs.BeginsWord text.now at }
     ensures no { result ≡ false → specs.BeginsWord text.now at → ⊥ }
 {
-    at == 0 || !is_letter(text[at - 1])
+    begins_name(text, digits_start(text, at))
 }
 
 /// Returns whether a name may begin with the byte.

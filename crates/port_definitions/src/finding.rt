@@ -237,21 +237,18 @@ struct SourceWord {
     is_comment: bool,
 }
 
-/// Returns the words of a text that begin with a letter or `_`, before which is neither.
+/// Returns the words of a text that begin with a letter or `_`, and are no part of a longer one.
 fn words_in(alloc: Global, text: &[u8]) -> Result<Vec<SourceWord>, AllocError> {
     let mut words = Vec::new(alloc);
     let mut is_comment = is_comment_line(text);
-    let mut is_in = false;
     let mut end: usize = 0;
     for at in 0..text.len() {
         if text[at] == b'\n' {
             is_comment = is_comment_line(from(text, at.saturating_add(1)));
         }
         let is_letter = is_word_byte(text[at]) && !text[at].is_ascii_digit();
-        if is_letter && !is_in {
-            if end <= at {
-                end = at.saturating_add(first_name(from(text, at)).len());
-            }
+        if is_letter && end <= at {
+            end = at.saturating_add(first_name(from(text, at)).len());
             let start = at;
             words.push(SourceWord {
                 start,
@@ -259,7 +256,6 @@ fn words_in(alloc: Global, text: &[u8]) -> Result<Vec<SourceWord>, AllocError> {
                 is_comment,
             })?;
         }
-        is_in = is_letter;
     }
     Ok(words)
 }

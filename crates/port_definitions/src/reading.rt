@@ -19,11 +19,17 @@ struct Reading {
     has_stray: bool,
 }
 
-/// Returns whether the last word of a text goes on with a letter that follows.
+/// Returns whether the last word of a text goes on with a letter that follows. Digits alone are no
+/// word.
 pub(crate) fn is_in_word(front: &[u8]) -> bool {
-    front
+    let digits = front
+        .iter()
+        .rev()
+        .take_while(|byte| (**byte).is_ascii_digit())
+        .count();
+    before(front, front.len().saturating_sub(digits))
         .last()
-        .is_some_and(|byte| is_word_byte(*byte) && !byte.is_ascii_digit())
+        .is_some_and(|byte| is_word_byte(*byte))
 }
 
 impl Reading {

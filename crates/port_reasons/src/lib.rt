@@ -6,10 +6,15 @@
 //!
 //! `while a; do if b; then c; fi; done` has one: the `if`, which is in a loop that begins with `while`.
 //!
+//! Read `softened` (operators of tests for which `acrun port --idioms` has other texts), `obstacles`
+//! (what keeps it from writing these), and then `reasons`.
+//!
 //! A reason is for the words of an error, and nothing is proved of it. Every function fails only if
 //! memory runs out.
 #![tactic(auto)]
 
+mod obstacles;
 mod reasons;
+mod softened;
 
 pub use reasons::{COMMENT_FRONT, Reason, Staying, kept_statements};

@@ -1,6 +1,8 @@
 //! Why statements of a shell stay.
 
-use ac_calls::calls_of;
+use crate::obstacles::obstacle;
+use crate::softened::softened;
+use ac_calls::{CallAt, calls_of};
 use deftable::Bytes;
 use lint_errors::{errors_of, is_accepted, read};
 use lint_text::{after_blanks, before, first_name, from, is_word_byte, part};
@@ -61,6 +63,9 @@ pub struct Staying {
     pub end: usize,
     /// Why it stays.
     pub reason: Reason,
+    /// Whether the reason is nothing but an operator of a test, in whose place `acrun port --idioms`
+    /// may write another text, or what is in the statement.
+    pub is_soft: bool,
 }
 
 /// Returns what is wrong with the call of a macro with these parts, if acrun doesn't accept it.
@@ -108,22 +113,81 @@ fn with_bodies<'a>(
     Ok(out)
 }
 
+/// What is wrong with a call in the place of a statement.
+#[derive(Drop)]
+struct Refusal {
+    reason: Reason,
+    /// Whether it is an operator of a test alone, in whose place `acrun port --idioms` may write
+    /// another text.
+    is_soft: bool,
+}
+
+/// Returns a reason that is no operator alone.
+fn hard(reason: Option<Reason>) -> Option<Refusal> {
+    let reason = reason?;
+    Some(Refusal {
+        reason,
+        is_soft: false,
+    })
+}
+
+/// Returns the parts, with other operators in the conditions in whose place `acrun port --idioms` may
+/// write another text.
+fn softened_parts(alloc: Global, parts: &[&[u8]]) -> Result<Vec<Bytes>, AllocError> {
+    let mut out = Vec::new(alloc);
+    for index in 0..parts.len() {
+        let part = if is_body(index, parts.len(), 0) {
+            Vec::from_slice(alloc, parts[index])?
+        } else {
+            softened(alloc, parts[index])?
+        };
+        out.push(Bytes::from_vec(part))?;
+    }
+    Ok(out)
+}
+
+/// Returns these texts as slices.
+fn slices_of(alloc: Global, texts: &[Bytes]) -> Result<Vec<&[u8]>, AllocError> {
+    let mut slices = Vec::new(alloc);
+    for text in texts {
+        slices.push(text.as_slice())?;
+    }
+    Ok(slices)
+}
+
 /// Returns what is wrong with the call of AS_IF with these parts, in whose conditions `-a` and `-o`
-/// are written otherwise. Its bodies count only if that is asked for.
+/// are written otherwise.
+fn refusal_joined(alloc: Global, parts: &[&[u8]]) -> Result<Option<Reason>, AllocError> {
+    let Some(texts) = joined_texts(alloc, parts)? else {
+        return Ok(None);
+    };
+    let slices = slices_of(alloc, texts.as_slice())?;
+    refusal(alloc, b"AS_IF", slices.as_slice())
+}
+
+/// Returns the same with other operators in the conditions.
+fn refusal_softened(alloc: Global, parts: &[&[u8]]) -> Result<Option<Reason>, AllocError> {
+    let texts = softened_parts(alloc, parts)?;
+    let slices = slices_of(alloc, texts.as_slice())?;
+    refusal_joined(alloc, slices.as_slice())
+}
+
+/// Returns what is wrong with the call of AS_IF with these parts: what is wrong with it too if other
+/// operators are in its conditions, or else such an operator. Its bodies count only if that is asked
+/// for.
 fn refusal_with(
     alloc: Global,
     parts: &[&[u8]],
     has_bodies: bool,
-) -> Result<Option<Reason>, AllocError> {
+) -> Result<Option<Refusal>, AllocError> {
     let parts = with_bodies(alloc, parts, 0, has_bodies)?;
-    let Some(texts) = joined_texts(alloc, parts.as_slice())? else {
+    let Some(reason) = refusal_joined(alloc, parts.as_slice())? else {
         return Ok(None);
     };
-    let mut slices = Vec::new(alloc);
-    for text in &texts {
-        slices.push(text.as_slice())?;
-    }
-    refusal(alloc, b"AS_IF", slices.as_slice())
+    let other = refusal_softened(alloc, parts.as_slice())?;
+    let is_soft = other.is_none();
+    let reason = other.unwrap_or(reason);
+    Ok(Some(Refusal { reason, is_soft }))
 }
 
 /// Returns whether something is after a statement, on its line.
@@ -161,10 +225,10 @@ fn refusal_of_if(
     text: &[u8],
     cut: &IfCut,
     has_bodies: bool,
-) -> Result<Option<Reason>, AllocError> {
+) -> Result<Option<Refusal>, AllocError> {
     match if_parts(alloc, text, cut)? {
         Some(parts) => refusal_with(alloc, parts.as_slice(), has_bodies),
-        None => Ok(unread_if(text, cut)),
+        None => Ok(hard(unread_if(text, cut))),
     }
 }
 
@@ -174,13 +238,14 @@ fn refusal_of_case(
     text: &[u8],
     cut: &CaseCut,
     has_bodies: bool,
-) -> Result<Option<Reason>, AllocError> {
+) -> Result<Option<Refusal>, AllocError> {
     match case_parts(alloc, text, cut)? {
         Some(parts) => {
             let parts = with_bodies(alloc, parts.as_slice(), 1, has_bodies)?;
-            refusal(alloc, b"AS_CASE", parts.as_slice())
+            let reason = refusal(alloc, b"AS_CASE", parts.as_slice())?;
+            Ok(hard(reason))
         }
-        None if is_followed(text, cut.end) => Ok(Some(Reason::Followed)),
+        None if is_followed(text, cut.end) => Ok(hard(Some(Reason::Followed))),
         None => Ok(None),
     }
 }
@@ -190,7 +255,7 @@ fn refusal_of_guard(
     alloc: Global,
     text: &[u8],
     cut: GuardCut,
-) -> Result<Option<Reason>, AllocError> {
+) -> Result<Option<Refusal>, AllocError> {
     match guard_parts(alloc, text, cut)? {
         Some(parts) => refusal_with(alloc, parts.as_slice(), true),
         None => Ok(None),
@@ -203,7 +268,7 @@ fn refusal_of(
     text: &[u8],
     cut: &StatementCut,
     has_bodies: bool,
-) -> Result<Option<Reason>, AllocError> {
+) -> Result<Option<Refusal>, AllocError> {
     match cut {
         StatementCut::If(cut) => refusal_of_if(alloc, text, cut, has_bodies),
         StatementCut::Case(cut) => refusal_of_case(alloc, text, cut, has_bodies),
@@ -215,24 +280,46 @@ fn refusal_of(
     }
 }
 
+/// Returns what is wrong, with what keeps another text from being written in the place of an
+/// operator, if it is such an operator and that is known.
+fn explained(
+    alloc: Global,
+    text: &[u8],
+    calls: &[CallAt],
+    cut: &StatementCut,
+    refusal: Refusal,
+) -> Result<Refusal, AllocError> {
+    if !refusal.is_soft {
+        return Ok(refusal);
+    }
+    match obstacle(alloc, text, calls, cut)? {
+        Some(words) => Ok(Refusal {
+            reason: Reason::Refused(words),
+            is_soft: false,
+        }),
+        None => Ok(refusal),
+    }
+}
+
 /// Returns why a statement stays, if that is known.
 fn reason_of(
     alloc: Global,
+    calls: &[CallAt],
     drawing: &[usize],
     text: &[u8],
     cut: &StatementCut,
-) -> Result<Option<Reason>, AllocError> {
+) -> Result<Option<Refusal>, AllocError> {
     if matches!(
         cut,
         StatementCut::Assigned(_) | StatementCut::Default(_) | StatementCut::For(_)
     ) {
         return Ok(None);
     }
-    let refused = refusal_of(alloc, text, cut, true)?;
-    if refused.is_none() && draws(drawing, cut.start(), cut.end()) {
-        return Ok(Some(Reason::Draws));
+    match refusal_of(alloc, text, cut, true)? {
+        Some(refusal) => explained(alloc, text, calls, cut, refusal).map(|found| Some(found)),
+        None if draws(drawing, cut.start(), cut.end()) => Ok(hard(Some(Reason::Draws))),
+        None => Ok(None),
     }
-    Ok(refused)
 }
 
 // ---- statements that stay whatever their parts are
@@ -323,7 +410,7 @@ fn refusal_of_head(
     text: &[u8],
     cut: &StatementCut,
     left: &mut usize,
-) -> Result<Option<Reason>, AllocError> {
+) -> Result<Option<Refusal>, AllocError> {
     if spend(cut, left) {
         refusal_of(alloc, text, cut, false)
     } else {
@@ -331,22 +418,71 @@ fn refusal_of_head(
     }
 }
 
-/// Returns why a statement stays that isn't rewritten whatever its parts are.
+/// Returns why a statement stays that isn't rewritten whatever its parts are. An operator of a test
+/// is the reason only if nothing else is known to be one.
 fn reason_of_kept(
     alloc: Global,
+    calls: &[CallAt],
     text: &[u8],
     kept: &Kept,
     left: &mut usize,
-) -> Result<Reason, AllocError> {
+) -> Result<Refusal, AllocError> {
     if let Some(around) = kept.around {
-        return reason_around(alloc, text, around);
+        let reason = reason_around(alloc, text, around)?;
+        return Ok(Refusal {
+            reason,
+            is_soft: false,
+        });
     }
-    if let Some(reason) = refusal_of_head(alloc, text, &kept.cut, left)? {
-        return Ok(reason);
+    let found = refusal_of_head(alloc, text, &kept.cut, left)?;
+    reason_inside(alloc, calls, text, kept, found)
+}
+
+/// Returns whether something is wrong that is no operator alone.
+fn is_hard(found: &Option<Refusal>) -> bool {
+    match found {
+        Some(refusal) => !refusal.is_soft,
+        None => false,
+    }
+}
+
+/// Returns why such a statement stays, around which nothing keeps it.
+fn reason_inside(
+    alloc: Global,
+    calls: &[CallAt],
+    text: &[u8],
+    kept: &Kept,
+    found: Option<Refusal>,
+) -> Result<Refusal, AllocError> {
+    if is_hard(&found) {
+        return reason_of_head(alloc, calls, text, kept, found);
     }
     match kept.at_other {
-        Some(at) => other_in(alloc, text, at),
-        None => Ok(Reason::Inner),
+        Some(at) => {
+            let reason = other_in(alloc, text, at)?;
+            Ok(Refusal {
+                reason,
+                is_soft: false,
+            })
+        }
+        None => reason_of_head(alloc, calls, text, kept, found),
+    }
+}
+
+/// Returns why such a statement stays, in which no loop, brace or parenthesis is known to be.
+fn reason_of_head(
+    alloc: Global,
+    calls: &[CallAt],
+    text: &[u8],
+    kept: &Kept,
+    found: Option<Refusal>,
+) -> Result<Refusal, AllocError> {
+    match found {
+        Some(refusal) => explained(alloc, text, calls, &kept.cut, refusal),
+        None => Ok(Refusal {
+            reason: Reason::Inner,
+            is_soft: true,
+        }),
     }
 }
 
@@ -428,23 +564,54 @@ fn whole_offset(cuts: &[(usize, usize)], at: usize) -> usize {
 fn push_staying(
     bare: &Bare,
     cut: &StatementCut,
-    reason: Reason,
+    refusal: Refusal,
     out: &mut Vec<Staying>,
 ) -> Result<(), AllocError> {
     let cuts = bare.cuts.as_slice();
     let last = cut.end().saturating_sub(1);
+    let Refusal { reason, is_soft } = refusal;
     out.push(Staying {
         start: whole_offset(cuts, cut.start()),
         end: whole_offset(cuts, last).saturating_add(1),
         reason,
+        is_soft,
     })?;
     Ok(())
+}
+
+/// Returns whether a statement in that of an index stays for another reason than an operator of a
+/// test.
+fn has_hard_inside(statements: &[Staying], index: usize) -> bool {
+    let Some(whole) = statements.get(index) else {
+        return false;
+    };
+    for statement in statements.iter().skip(index.saturating_add(1)) {
+        if whole.end <= statement.start {
+            return false;
+        }
+        if !statement.is_soft {
+            return true;
+        }
+    }
+    false
+}
+
+/// Makes what is in a statement its reason, if something in it stays for another one than an operator
+/// of a test, and it stays for such an operator.
+fn hand_inside(statements: &mut [Staying]) {
+    for index in 0..statements.len() {
+        let is_soft = statements[index].is_soft;
+        if is_soft && has_hard_inside(statements, index) {
+            statements[index].reason = Reason::Inner;
+        }
+    }
 }
 
 /// Returns the statements of a source that stay: those for which acrun would not accept the call,
 /// those in which a call makes Autoconf check something before it, and each `if` and `case` that is
 /// not rewritten whatever its parts are. They are in order of their offsets, and one comes before
-/// those in it. Comments that `acrun port` wrote count for nothing.
+/// those in it. An operator of a test in whose place `acrun port --idioms` may write another text is
+/// a reason only if no other one is known. Comments that `acrun port` wrote count for nothing.
 ///
 /// # Errors
 ///
@@ -457,15 +624,17 @@ pub fn kept_statements(alloc: Global, text: &[u8]) -> Result<Vec<Staying>, Alloc
     let found = statements_in(alloc, text, calls.as_slice())?;
     let mut out = Vec::new(alloc);
     for cut in &found.cuts {
-        if let Some(reason) = reason_of(alloc, drawing.as_slice(), text, cut)? {
-            push_staying(&bare, cut, reason, &mut out)?;
+        let calls = calls.as_slice();
+        if let Some(refusal) = reason_of(alloc, calls, drawing.as_slice(), text, cut)? {
+            push_staying(&bare, cut, refusal, &mut out)?;
         }
     }
     let mut left = text.len().saturating_mul(OFTEN).saturating_add(LEAST);
     for kept in &found.kept {
-        let reason = reason_of_kept(alloc, text, kept, &mut left)?;
-        push_staying(&bare, &kept.cut, reason, &mut out)?;
+        let refusal = reason_of_kept(alloc, calls.as_slice(), text, kept, &mut left)?;
+        push_staying(&bare, &kept.cut, refusal, &mut out)?;
     }
     out.sort_by_key(|staying| staying.start)?;
+    hand_inside(out.as_mut_slice());
     Ok(out)
 }

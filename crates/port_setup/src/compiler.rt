@@ -8,8 +8,10 @@ ghost use Rattle.port_passes.specs.Rewritten.{SetsUp};
 
 use ac_calls::CallAt;
 use lint_text::{before, from, is_word_byte, part};
+use port_definitions::{inner, is_dropped};
 use port_spots::{Needed, difference};
 use std::alloc::{AllocError, Global};
+use text_cut::is_blank;
 
 // ---- the texts
 
@@ -174,6 +176,93 @@ fn has_word(text: &[u8], word: &[u8]) -> bool {
     false
 }
 
+/// The macros that look for each header of a list.
+const LOOKING: [&[u8]; 2] = [b"AC_CHECK_HEADER", b"AC_CHECK_HEADERS"];
+
+/// Returns whether a list has nothing but words, of which none ends its line for m4.
+fn is_plain_list(list: &[u8]) -> bool {
+    let are_plain = list.iter().all(|byte| {
+        is_word_byte(*byte) || matches!(*byte, b'.' | b'/' | b'-' | b'+' | b' ' | b'\t' | b'\n')
+    });
+    are_plain && !has_word(list, b"dnl")
+}
+
+/// Returns whether a list has an entry.
+fn has_entry(list: &[u8], entry: &[u8]) -> bool {
+    let mut words = list.split(|byte| matches!(*byte, b' ' | b'\t' | b'\n'));
+    words.any(|word| word == entry)
+}
+
+/// Returns whether a call looks for a header.
+fn looks_for(text: &[u8], call: &CallAt, name: &[u8]) -> bool {
+    let macro_name = part(text, call.start, call.name_end);
+    let Some(arg) = call.args.get(0) else {
+        return false;
+    };
+    let list = inner(text, *arg);
+    LOOKING.iter().any(|other| *other == macro_name) && is_plain_list(list) && has_entry(list, name)
+}
+
+/// Returns the length of a comment of m4 that a text begins with, up to the end of its line.
+fn comment_len(text: &[u8]) -> usize {
+    if is_dropped(text) {
+        text.iter().take_while(|byte| **byte != b'\n').count()
+    } else {
+        0
+    }
+}
+
+/// Returns the offset after the call that begins at an offset, if one does.
+fn call_end(calls: &[CallAt], at: usize) -> usize {
+    for call in calls {
+        if call.start == at {
+            return call.end;
+        }
+    }
+    at
+}
+
+/// Returns the offset after the call that begins at an offset, if one does, or after a comment or a
+/// blank there, or the same offset.
+fn after_idle(text: &[u8], calls: &[CallAt], at: usize) -> usize {
+    let rest = from(text, at);
+    let comment = comment_len(rest);
+    if 0 < comment {
+        return at.saturating_add(comment);
+    }
+    if rest.first().is_some_and(|byte| is_blank(*byte)) {
+        return at.saturating_add(1);
+    }
+    call_end(calls, at)
+}
+
+/// Returns whether a call is run whenever what ends at an offset is: between both there is nothing
+/// but other calls, comments and blanks.
+fn is_run_after(text: &[u8], calls: &[CallAt], start: usize, call: &CallAt) -> bool {
+    let mut at = start;
+    for _ in start..call.start {
+        if call.start <= at {
+            break;
+        }
+        let next = after_idle(text, calls, at);
+        if next <= at {
+            return false;
+        }
+        at = next;
+    }
+    at == call.start
+}
+
+/// Returns whether a call that is run whenever what ends at an offset is looks for a header.
+fn is_looked_for(text: &[u8], calls: &[CallAt], start: usize, name: &[u8]) -> bool {
+    for call in calls {
+        if looks_for(text, call, name) && is_run_after(text, calls, start, call) {
+            return true;
+        }
+    }
+    false
+}
+
 /// Returns whether a source sets CFLAGS before an offset, or asks whether it is empty.
 fn sets_flags(text: &[u8], end: usize) -> bool {
     let front = before(text, end);
@@ -199,7 +288,10 @@ pub fn lines_needed(text: &[u8], calls: &[CallAt], end: usize) -> Needed {
     let includes = includes_default(text, calls);
     Needed {
         flags: !sets_flags(text, end),
-        headers: includes && !DEFAULT.iter().all(|name| has_word(text, *name)),
+        headers: includes
+            && !DEFAULT
+                .iter()
+                .all(|name| is_looked_for(text, calls, end, *name)),
         standard: includes && !has_word(text, b"STDC_HEADERS"),
     }
 }

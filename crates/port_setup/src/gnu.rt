@@ -24,11 +24,17 @@ fn begins_with_word(text: &[u8], word: &[u8]) -> bool {
     text.starts_with(word) && !text.get(word.len()).is_some_and(|byte| is_word_byte(*byte))
 }
 
-/// Returns whether a source reads the variable GCC.
+/// How a source reads a variable that says whether the compiler is GNU C.
+const READ: [&[u8]; 4] = [b"$GCC", b"${GCC", b"$ac_compiler_gnu", b"${ac_compiler_gnu"];
+
+/// Returns whether a source reads such a variable.
 fn reads_gnu(text: &[u8]) -> bool {
     for at in 0..text.len() {
         let rest = from(text, at);
-        if begins_with_word(rest, b"$GCC") || begins_with_word(rest, b"${GCC") {
+        if READ
+            .iter()
+            .any(|variable| begins_with_word(rest, *variable))
+        {
             return true;
         }
     }

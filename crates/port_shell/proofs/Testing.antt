@@ -15,7 +15,7 @@ use Rattle.port_joints.specs.Joints.{Becomes}
 use Rattle.port_put.specs.Calls.{IsPut}
 use Rattle.port_joints.specs.Spelled.{IsRespelled}
 use Rattle.port_statements.specs.Statements.{MayBegin}
-use Rattle.port_shell.specs.Formed.{IsPass, IsTestAt, IsListTest, Asks, IsAsked, MayAskAt, AreOrdered, spelled_so, asked_so}
+use Rattle.port_shell.specs.Formed.{IsPass, IsTestAt, IsListTest, Asks, IsAsked, lacking, MayAskAt, AreOrdered, spelled_so, asked_so}
 use Rattle.port_shell.specs.Formed as specs
 
 pub tested_step : (idioms : Idioms) (text : List ℕ) (at : ℕ) (out : List ℕ) (start from to : ℕ) (put : List ℕ) (new_at : ℕ) (new : List ℕ)
@@ -45,11 +45,11 @@ asked_step idioms text at out start from to indent put call whole new_at new all
 
 -- The arguments of a call that asks.
 pub asks_for : {V E : Type 0} (items : V → List ℕ) (r : Result (Option V) E) (letter : ℕ) (path name program found lacks none : List ℕ)
-    → program ≡ program_of letter path → found ≡ name ++ codes "=yes" → lacks ≡ name ++ codes "=no" → none ≡ name ++ codes "=no"
+    → program ≡ program_of letter path → found ≡ name ++ codes "=yes" → lacks ≡ lacking name → none ≡ name ++ codes "=no"
     → IfOk r (λ o. IfSome o (λ v. IsPut (codes "AC_RUN_IFELSE") (program ∷ found ∷ lacks ∷ none ∷ []) (items v))) → IfOk r (λ o. IfSome o (λ v. Asks letter path name (items v)))
 asks_for items r letter path name program found lacks none program_is found_is lacks_is none_is is =
-    subst (λ p. IfOk r (λ o. IfSome o (λ v. IsPut (codes "AC_RUN_IFELSE") (p ∷ (name ++ codes "=yes") ∷ (name ++ codes "=no") ∷ (name ++ codes "=no") ∷ []) (items v)))) program_is
-    (subst (λ f. IfOk r (λ o. IfSome o (λ v. IsPut (codes "AC_RUN_IFELSE") (program ∷ f ∷ (name ++ codes "=no") ∷ (name ++ codes "=no") ∷ []) (items v)))) found_is
+    subst (λ p. IfOk r (λ o. IfSome o (λ v. IsPut (codes "AC_RUN_IFELSE") (p ∷ (name ++ codes "=yes") ∷ lacking name ∷ (name ++ codes "=no") ∷ []) (items v)))) program_is
+    (subst (λ f. IfOk r (λ o. IfSome o (λ v. IsPut (codes "AC_RUN_IFELSE") (program ∷ f ∷ lacking name ∷ (name ++ codes "=no") ∷ []) (items v)))) found_is
     (subst (λ l. IfOk r (λ o. IfSome o (λ v. IsPut (codes "AC_RUN_IFELSE") (program ∷ found ∷ l ∷ (name ++ codes "=no") ∷ []) (items v)))) lacks_is
     (subst (λ n. IfOk r (λ o. IfSome o (λ v. IsPut (codes "AC_RUN_IFELSE") (program ∷ found ∷ lacks ∷ n ∷ []) (items v)))) none_is is)))
 

@@ -73,10 +73,25 @@ AreOrdered text start from to = (start ≤ from) × (from ≤ to) × (to ≤ len
 unfoldable pub spelled_so : List ℕ → List ℕ
 spelled_so indent = codes "dnl acrun: in place of ==, -eq or -ne: the words are compared as texts" ++ 10 ∷ indent
 
+unfoldable pub root_front : List ℕ
+root_front = codes "AC_RUN_IFELSE(["
+
+unfoldable pub root_back : List ℕ
+root_back = codes "], [], [AC_MSG_ERROR([no program can ask for a file here; see config.log])], [:])"
+
+-- What asks for the root directory, which is there. If the answer is no, the run stops.
+unfoldable pub root_call : List ℕ
+root_call = (root_front ++ program_of 101 (codes "/")) ++ root_back
+
+-- What is done if there is no such file: this variable is set to `no`, and the root directory is asked for, since a program that can't be made
+-- or run says no too.
+abbrev pub lacking : List ℕ → List ℕ
+lacking name = (name ++ codes "=no") ++ 10 ∷ root_call
+
 -- What asks for a file, before a statement with the test of it: a call of AC_RUN_IFELSE with a program that asks, which sets this variable to
--- `yes` or `no`. If no program can be run, the answer is no.
+-- `yes` or `no`. In a cross build, in which no program can be run, the answer is no.
 abbrev pub Asks : ℕ → List ℕ → List ℕ → List ℕ → Type 0
-Asks letter path name call = IsPut (codes "AC_RUN_IFELSE") (program_of letter path ∷ (name ++ codes "=yes") ∷ (name ++ codes "=no") ∷ (name ++ codes "=no") ∷ []) call
+Asks letter path name call = IsPut (codes "AC_RUN_IFELSE") (program_of letter path ∷ (name ++ codes "=yes") ∷ lacking name ∷ (name ++ codes "=no") ∷ []) call
 
 -- The condition becomes this one, and this call asks for a file that it tests. The variable is not in the condition before.
 pub record IsAsked (condition put call : List ℕ) : Type 0 where
@@ -105,9 +120,25 @@ pub record MayAskAt (text : List ℕ) (start : ℕ) : Type 0 where
   pub no_branch : IsWord text start (codes "elif") (start + 4) → ⊥
   pub compiler : HasCompiler text start
 
--- The comment above a call that asks for a file, and the call, with the indent of the statement before it and after it.
+unfoldable pub asked_said : List ℕ
+asked_said = codes "dnl acrun: in place of a test of a file: a program asks, to which a backslash of a variable is one of C, and whose answer is no in a cross build and if the word is empty"
+
+-- The flags of the moment, with which a program may not be made or run, are kept and emptied.
+unfoldable pub flags_kept : List ℕ
+flags_kept = codes "acrun_CFLAGS=$CFLAGS acrun_CPPFLAGS=$CPPFLAGS acrun_LDFLAGS=$LDFLAGS acrun_LIBS=$LIBS CFLAGS= CPPFLAGS= LDFLAGS= LIBS="
+
+-- They are put back.
+unfoldable pub flags_back : List ℕ
+flags_back = codes "CFLAGS=$acrun_CFLAGS CPPFLAGS=$acrun_CPPFLAGS LDFLAGS=$acrun_LDFLAGS LIBS=$acrun_LIBS"
+
+-- A line, and the indent of the next one.
+abbrev pub ended : List ℕ → List ℕ → List ℕ
+ended indent text = text ++ 10 ∷ indent
+
+-- The comment above a call that asks for a file, and the call without the flags of the moment, with the indent of the statement before each
+-- line and after it.
 unfoldable pub asked_so : List ℕ → List ℕ → List ℕ
-asked_so indent call = (codes "dnl acrun: in place of a test of a file: a program asks, whose answer is no in a cross build and if the word is empty" ++ 10 ∷ indent) ++ (call ++ 10 ∷ indent)
+asked_so indent call = ((ended indent asked_said ++ ended indent flags_kept) ++ ended indent call) ++ ended indent flags_back
 
 -- Between these offsets is a statement with these parts, as AS_IF takes them: an `if`, or, if the text reads no status of a command, a
 -- statement after `&&` or `||` and its condition.

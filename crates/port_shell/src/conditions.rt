@@ -10,6 +10,7 @@ ghost use Rattle.port_joints.specs.Spelled.{IsRespelled};
 ghost use Rattle.port_statements.specs.Statements.{MayBegin};
 ghost use Rattle.port_shell.specs.Formed as specs;
 
+use crate::branches::has_file_branch;
 use crate::files::pass_files;
 use crate::passing::finish;
 use ac_calls::{CallAt, Extent, calls_of};
@@ -491,7 +492,7 @@ fn pass_other(
 }
 
 /// Writes a condition that is spelled otherwise, if there is a spelling, or asks for a file that it
-/// tests.
+/// tests, unless a later branch keeps the whole statement.
 fn pass_idioms(
     alloc: Global,
     idioms: Idioms,
@@ -508,6 +509,9 @@ fn pass_idioms(
     requires begun { specs.IsPass idioms text.now pass.old.at pass.old.out.items }
     ensures { OnOk result (specs.IsPass idioms text.now pass.new.at pass.new.out.items) }
 {
+    if has_file_branch(text, place.start, place.to) {
+        return Ok(());
+    }
     pass_other(alloc, idioms, text, calls, place, pass)?;
     pass_files(alloc, idioms, text, calls, place, pass)
 }

@@ -87,20 +87,47 @@ fn is_joined(text: &[u8], start: usize) -> bool {
 
 // ---- what is written
 
-/// Returns the comment above a statement, and the call that asks, with this indent after each.
+#[tactic(auto, unfolding(crate::specs::Formed::asked_said))]
+fn asked_said() -> &'static [u8]
+    ensures { result.now ≡ specs.asked_said }
+{
+    b"dnl acrun: in place of a test of a file: a program asks, to which a backslash of a variable is one of C, and whose answer is no in a cross build and if the word is empty"
+}
+
+#[tactic(auto, unfolding(crate::specs::Formed::flags_kept))]
+fn flags_kept() -> &'static [u8]
+    ensures { result.now ≡ specs.flags_kept }
+{
+    b"acrun_CFLAGS=$CFLAGS acrun_CPPFLAGS=$CPPFLAGS acrun_LDFLAGS=$LDFLAGS acrun_LIBS=$LIBS CFLAGS= CPPFLAGS= LDFLAGS= LIBS="
+}
+
+#[tactic(auto, unfolding(crate::specs::Formed::flags_back))]
+fn flags_back() -> &'static [u8]
+    ensures { result.now ≡ specs.flags_back }
+{
+    b"CFLAGS=$acrun_CFLAGS CPPFLAGS=$acrun_CPPFLAGS LDFLAGS=$acrun_LDFLAGS LIBS=$acrun_LIBS"
+}
+
+/// Appends a line and the indent of the next one.
+fn put_ended(out: &mut Vec<u8>, indent: &[u8], text: &[u8]) -> Result<(), AllocError>
+    ensures { OnOk result (out.new.items ≡ out.old.items ++ specs.ended indent.now text.now) }
+{
+    out.extend_from_slice(text)?;
+    out.push(b'\n')?;
+    out.extend_from_slice(indent)
+}
+
+/// Returns the comment above a statement, and the call that asks without the flags of the moment,
+/// with this indent after each line.
 #[tactic(auto, unfolding(crate::specs::Formed::asked_so))]
 fn asked_so(alloc: Global, indent: &[u8], call: &[u8]) -> Result<Vec<u8>, AllocError>
     ensures { IfOk result (λ v. v.items ≡ specs.asked_so indent.now call.now) }
 {
-    let mut out = Vec::from_slice(
-        alloc,
-        b"dnl acrun: in place of a test of a file: a program asks, whose answer is no in a cross build and if the word is empty",
-    )?;
-    out.push(b'\n')?;
-    out.extend_from_slice(indent)?;
-    out.extend_from_slice(call)?;
-    out.push(b'\n')?;
-    out.extend_from_slice(indent)?;
+    let mut out = Vec::new(alloc);
+    put_ended(&mut out, indent, asked_said())?;
+    put_ended(&mut out, indent, flags_kept())?;
+    put_ended(&mut out, indent, call)?;
+    put_ended(&mut out, indent, flags_back())?;
     Ok(out)
 }
 
@@ -187,6 +214,43 @@ fn assignment(alloc: Global, name: &[u8], value: &[u8]) -> Result<Vec<u8>, Alloc
     Ok(out)
 }
 
+#[tactic(auto, unfolding(crate::specs::Formed::root_front))]
+fn root_front() -> &'static [u8]
+    ensures { result.now ≡ specs.root_front }
+{
+    b"AC_RUN_IFELSE(["
+}
+
+#[tactic(auto, unfolding(crate::specs::Formed::root_back))]
+fn root_back() -> &'static [u8]
+    ensures { result.now ≡ specs.root_back }
+{
+    b"], [], [AC_MSG_ERROR([no program can ask for a file here; see config.log])], [:])"
+}
+
+/// Returns the call that asks for the root directory, and stops the run if it isn't found.
+#[tactic(auto, unfolding(crate::specs::Formed::root_call))]
+fn root_call(alloc: Global) -> Result<Vec<u8>, AllocError>
+    ensures { IfOk result (λ v. v.items ≡ specs.root_call) }
+{
+    let program = program_of(alloc, b'e', b"/")?;
+    let mut out = Vec::from_slice(alloc, root_front())?;
+    out.extend_from_slice(program.as_slice())?;
+    out.extend_from_slice(root_back())?;
+    Ok(out)
+}
+
+/// Returns what a call that asks does if there is no such file.
+fn lacking(alloc: Global, name: &[u8]) -> Result<Vec<u8>, AllocError>
+    ensures { IfOk result (λ v. v.items ≡ specs.lacking name.now) }
+{
+    let root = root_call(alloc)?;
+    let mut out = assignment(alloc, name, b"=no")?;
+    out.push(b'\n')?;
+    out.extend_from_slice(root.as_slice())?;
+    Ok(out)
+}
+
 /// Returns the call that asks for a file, and sets a variable, unless acrun doesn't accept it.
 fn asking_call(
     alloc: Global,
@@ -198,7 +262,8 @@ fn asking_call(
 {
     let program = program_of(alloc, letter, path)?;
     let found = assignment(alloc, name, b"=yes")?;
-    let lacks = assignment(alloc, name, b"=no")?;
+    let lacks = lacking(alloc, name)?;
+    let none = assignment(alloc, name, b"=no")?;
     accepted_call(
         alloc,
         b"AC_RUN_IFELSE",
@@ -206,7 +271,7 @@ fn asking_call(
             program.as_slice(),
             found.as_slice(),
             lacks.as_slice(),
-            lacks.as_slice(),
+            none.as_slice(),
         ],
     )
 }

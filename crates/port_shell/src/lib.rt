@@ -19,9 +19,10 @@
 //! `port_statements` finds the statements. In `src`, `puts` joins the parts of a statement and the new
 //! call, and `noting` writes the comment where Autoconf makes checks that macros require. `passing`
 //! is one pass over a text, and `conditions` one over its conditions, of which `files` writes what
-//! asks for a file. A call fails only if memory runs out. "own" marks a rule that no manual gives.
+//! asks for a file, unless `branches` finds one that keeps the whole statement. A call fails only if memory runs out. "own" marks a rule that no manual gives.
 #![tactic(auto)]
 
+mod branches;
 mod conditions;
 mod files;
 mod noting;

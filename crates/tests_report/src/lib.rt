@@ -38,6 +38,8 @@ mod of_port_calls;
 #[cfg(test)]
 mod of_port_messages;
 #[cfg(test)]
+mod of_port_reasons;
+#[cfg(test)]
 mod of_port_shell;
 #[cfg(test)]
 mod of_port_shell_cases;

@@ -3,7 +3,7 @@
 use lint_errors::read;
 use lint_findings::Finding;
 use lint_templates::warn_of_outputs;
-use lint_warnings::{warn_of_calls, warn_of_source};
+use lint_warnings::{warn_of_calls, warn_of_compiler, warn_of_source};
 use std::alloc::{AllocError, Global};
 use std::test::Fail;
 use test_rows::{Page, RowCall, try_rows};
@@ -67,6 +67,9 @@ AC_INIT([a], [1])^JAC_PROG_CC^JAC_CHECK_FUNCS([f])^Jx="$ac_cv_func_f $ac_cv_func
 AC_INIT([a], [1])^JAS_CASE([$build_cpu], [b], [c=1])^JAC_MSG_NOTICE([$as_me])^JAC_OUTPUT =>  script-variable [build_cpu] script-variable [as_me]
 // in a source that is refused, it isn't known what is set
 AC_INIT([a], [1])^JAC_A^Jx="$GCC"^JAC_OUTPUT =>
+// a statement that can't be resumed, and one that port wrote
+AC_INIT([a], [1])^JAC_PROG_CC^JAC_PREPROC_IFELSE([AC_LANG_SOURCE([#b])], [c=1])^JAC_OUTPUT =>  not-resumable [AC_PREPROC_IFELSE]
+AC_INIT([a], [1])^JAC_PROG_CC^J  dnl acrun: in place of AC_EGREP_CPP: the condition alone decides^J  AC_PREPROC_IFELSE([AC_LANG_SOURCE([#b])], [c=1])^JAC_OUTPUT =>
 // the home directory, and quotes after a dollar sign
 AC_INIT([a], [1])^Jx=a:~/b y=a~ z='~' w=\~^JAC_OUTPUT =>  tilde [~]
 AC_INIT([a], [1])^JAC_SUBST([x], [~/b])^JAC_OUTPUT =>  tilde [~]
@@ -89,4 +92,38 @@ AC_INIT([a], [1])^JAC_PROG_CC^JAC_CHECK_DECLS([getopt, struct stat, puts, PRIu8]
 #[test]
 fn found_warnings(rt: HostRuntime) -> Result<(), Fail> {
     try_rows(rt.alloc(), &Warnings, ROWS)
+}
+
+/// Returns the warnings about the compiler of a source.
+fn compiler_warnings(alloc: Global, text: &[u8]) -> Result<Vec<Finding>, AllocError> {
+    let reading = read(alloc, text)?;
+    let mut found = Vec::new(alloc);
+    warn_of_compiler(alloc, text, reading.calls.as_slice(), &mut found)?;
+    Ok(found)
+}
+
+struct Compiler;
+
+impl RowCall for Compiler {
+    fn put(&self, page: &mut Page, given: &[u8]) {
+        let made = compiler_warnings(page.alloc(), given);
+        if let Some(warnings) = page.given(made) {
+            put_warnings(page, given, &warnings);
+        }
+    }
+}
+
+const COMPILER: &[u8] = b"
+AC_CHECK_FUNCS([a]) =>  no-compiler [AC_CHECK_FUNCS]
+AC_PROG_CC^JAC_CHECK_FUNCS([a]) =>  compiler-not-tried [AC_CHECK_FUNCS]
+// calls that port wrote, and not what is in them
+AC_PROG_CC^Jdnl acrun: in place of AC_INCLUDES_DEFAULT: a^JAC_CHECK_HEADERS([a.h]) =>
+AC_PROG_CC^Jdnl acrun: in place of AC_INCLUDES_DEFAULT: a^JAC_CHECK_HEADERS([a.h])^JAC_CHECK_FUNCS([b]) =>  compiler-not-tried [AC_CHECK_FUNCS]
+AC_PROG_CC^Jdnl acrun: in place of a statement: a^JAS_IF([b], [AC_CHECK_HEADERS([c.h])]) =>  compiler-not-tried [AC_CHECK_HEADERS]
+AC_PROG_CC^Jdnl acrun: a note^JAC_CHECK_HEADERS([a.h]) =>  compiler-not-tried [AC_CHECK_HEADERS]
+";
+
+#[test]
+fn compiler_that_is_not_tried(rt: HostRuntime) -> Result<(), Fail> {
+    try_rows(rt.alloc(), &Compiler, COMPILER)
 }

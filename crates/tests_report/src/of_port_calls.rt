@@ -183,6 +183,7 @@ fn unused_definitions(rt: HostRuntime) -> Result<(), Fail> {
 const WORDS: &[u8] = br##"
 define(my_word, 1.2)^Ja=my_word => ^Ja=1.2
 m4_define([my_word], [1.2])dnl^Ja="x-my_word.b" b=1my_word => dnl^Ja="x-1.2.b" b=11.2
+m4_define([my_word], [1.2])^Ja=x1my_word b=2my_word c=_3my_word => ^Ja=x1my_word b=21.2 c=_3my_word
   define([MyWord],^J  a.b)^JAC_SUBST([X], [MyWord]) =>   ^JAC_SUBST([X], [a.b])
 define(my_word, 1-b)^Jif test "$a" = my_word; then^J  a=my_word^Jfi => ^Jif test "$a" = 1-b; then^J  a=1-b^Jfi
 define(my_word, 1)^JAC_INIT([a], [my_word])^JAC_DEFINE([X], "my_word")^JAC_MSG_NOTICE([it is my_word]) => ^JAC_INIT([a], [1])^JAC_DEFINE([X], "1")^JAC_MSG_NOTICE([it is 1])
@@ -271,6 +272,14 @@ fn exchanged(rt: HostRuntime) -> Result<(), Fail> {
 const COMPILERS: &[u8] = br##"
 AC_PROG_CC^Ja=1 => AC_PROG_CC^Jdnl acrun: in place of CFLAGS: AC_PROG_CC does not set it here, so an empty value becomes what Autoconf sets for a compiler of GNU^JAS_IF([test -z "$CFLAGS"], [CFLAGS="-g -O2"])^Ja=1
 CFLAGS=-O^J  AC_PROG_CC^JAC_CHECK_HEADERS([a.h])^JAC_CONFIG_HEADERS([c.h]) => CFLAGS=-O^J  AC_PROG_CC^J  dnl acrun: in place of AC_INCLUDES_DEFAULT: no macro looks for the default headers here, so they are looked for after AC_PROG_CC^J  AC_CHECK_HEADERS([stdio.h stdlib.h string.h inttypes.h stdint.h strings.h sys/stat.h sys/types.h unistd.h])^J  dnl acrun: in place of STDC_HEADERS: it is defined without a check^J  AC_DEFINE([STDC_HEADERS], [1])^JAC_CHECK_HEADERS([a.h])^JAC_CONFIG_HEADERS([c.h])
+CFLAGS=^JAC_PROG_CC^Ja=$ac_compiler_gnu => CFLAGS=^JAC_PROG_CC^Jdnl acrun: in place of GCC: AC_PROG_CC does not set it here, so a program asks for __GNUC__^JAC_CACHE_CHECK([whether the compiler is GNU C], [ac_cv_c_compiler_gnu],^J  [AC_COMPILE_IFELSE([AC_LANG_PROGRAM([[#ifndef __GNUC__^J#error another compiler^J#endif]], [])], [ac_cv_c_compiler_gnu=yes], [ac_cv_c_compiler_gnu=no])])^Jac_compiler_gnu=$ac_cv_c_compiler_gnu^JAS_IF([test "$ac_compiler_gnu" = yes], [GCC=yes], [GCC=])^Ja=$ac_compiler_gnu
+// the default headers are looked for in any case, or may not be
+CFLAGS=^JAC_PROG_CC^Jdnl x^JAC_DEFINE([STDC_HEADERS], [1])^JAC_CHECK_HEADERS([stdio.h stdlib.h string.h inttypes.h stdint.h strings.h sys/stat.h sys/types.h unistd.h])^JAC_CONFIG_HEADERS([c.h]) => the same
+CFLAGS=^JAC_PROG_CC^JAC_DEFINE([STDC_HEADERS], [1])^JAC_CHECK_HEADER(stdio.h)^JAC_CHECK_HEADERS(stdlib.h string.h inttypes.h)^JAC_CHECK_HEADERS([stdint.h^J  strings.h sys/stat.h sys/types.h unistd.h])^JAC_CONFIG_HEADERS([c.h]) => the same
+CFLAGS=^JAC_PROG_CC^Jdnl stdio.h stdlib.h string.h inttypes.h stdint.h strings.h sys/stat.h sys/types.h unistd.h^JAC_DEFINE([STDC_HEADERS], [1])^JAC_CHECK_FUNCS([a])^JAC_CHECK_HEADERS([a.h])^JAC_CONFIG_HEADERS([c.h]) => CFLAGS=^JAC_PROG_CC^Jdnl acrun: in place of AC_INCLUDES_DEFAULT: no macro looks for the default headers here, so they are looked for after AC_PROG_CC^JAC_CHECK_HEADERS([stdio.h stdlib.h string.h inttypes.h stdint.h strings.h sys/stat.h sys/types.h unistd.h])^Jdnl stdio.h stdlib.h string.h inttypes.h stdint.h strings.h sys/stat.h sys/types.h unistd.h^JAC_DEFINE([STDC_HEADERS], [1])^JAC_CHECK_FUNCS([a])^JAC_CHECK_HEADERS([a.h])^JAC_CONFIG_HEADERS([c.h])
+CFLAGS=^JAC_PROG_CC^JAC_DEFINE([STDC_HEADERS], [1])^JAS_IF([:], [AC_CHECK_HEADERS([stdio.h stdlib.h string.h inttypes.h stdint.h strings.h sys/stat.h sys/types.h unistd.h])])^JAC_CONFIG_HEADERS([c.h]) => CFLAGS=^JAC_PROG_CC^Jdnl acrun: in place of AC_INCLUDES_DEFAULT: no macro looks for the default headers here, so they are looked for after AC_PROG_CC^JAC_CHECK_HEADERS([stdio.h stdlib.h string.h inttypes.h stdint.h strings.h sys/stat.h sys/types.h unistd.h])^JAC_DEFINE([STDC_HEADERS], [1])^JAS_IF([:], [AC_CHECK_HEADERS([stdio.h stdlib.h string.h inttypes.h stdint.h strings.h sys/stat.h sys/types.h unistd.h])])^JAC_CONFIG_HEADERS([c.h])
+CFLAGS=^JAC_PROG_CC^JAC_DEFINE([STDC_HEADERS], [1])^Jif :; then^JAC_CHECK_HEADERS([stdio.h stdlib.h string.h inttypes.h stdint.h strings.h sys/stat.h sys/types.h unistd.h])^Jfi^JAC_CONFIG_HEADERS([c.h]) => CFLAGS=^JAC_PROG_CC^Jdnl acrun: in place of AC_INCLUDES_DEFAULT: no macro looks for the default headers here, so they are looked for after AC_PROG_CC^JAC_CHECK_HEADERS([stdio.h stdlib.h string.h inttypes.h stdint.h strings.h sys/stat.h sys/types.h unistd.h])^JAC_DEFINE([STDC_HEADERS], [1])^Jif :; then^JAC_CHECK_HEADERS([stdio.h stdlib.h string.h inttypes.h stdint.h strings.h sys/stat.h sys/types.h unistd.h])^Jfi^JAC_CONFIG_HEADERS([c.h])
+CFLAGS=^JAC_PROG_CC^JAC_DEFINE([STDC_HEADERS], [1])^JAC_CHECK_HEADERS([astdio.h stdlib.h string.h inttypes.h stdint.h strings.h sys/stat.h sys/types.h unistd.h])^JAC_CONFIG_HEADERS([c.h]) => CFLAGS=^JAC_PROG_CC^Jdnl acrun: in place of AC_INCLUDES_DEFAULT: no macro looks for the default headers here, so they are looked for after AC_PROG_CC^JAC_CHECK_HEADERS([stdio.h stdlib.h string.h inttypes.h stdint.h strings.h sys/stat.h sys/types.h unistd.h])^JAC_DEFINE([STDC_HEADERS], [1])^JAC_CHECK_HEADERS([astdio.h stdlib.h string.h inttypes.h stdint.h strings.h sys/stat.h sys/types.h unistd.h])^JAC_CONFIG_HEADERS([c.h])
 // the source does so itself, or AC_PROG_CC is not on a line of its own
 AC_PROG_CC^Jtest -z "$CFLAGS" && CFLAGS=-O => the same
 test "$CFLAGS" = a && b=1^JAC_PROG_CC => the same
@@ -282,6 +291,41 @@ a=1 => the same
 #[test]
 fn compilers(rt: HostRuntime) -> Result<(), Fail> {
     try_rows(rt.alloc(), &AllCalls, COMPILERS)
+}
+
+/// A text with calls whose idioms depend on what is around them, and what becomes of it.
+const AROUND: &[u8] = br##"
+// Autoconf expands the second call to nothing, whatever the first one did
+if :; then^J  AC_PROG_MKDIR_P^Jfi^JAC_PROG_MKDIR_P => the same
+dnl AC_PROG_MKDIR_P^JAC_PROG_MKDIR_P => dnl AC_PROG_MKDIR_P^JAS_IF([test -z "$MKDIR_P"], [AC_SUBST([MKDIR_P], ["mkdir -p"])])
+// a word that is left may be forbidden
+m4_pattern_allow([AC_FOO])^Ja=AC_BAR => a=[AC_BAR]
+m4_pattern_allow([AC_FOO])^JAC_FOO=1 => m4_pattern_allow([AC_FOO])^J[AC_FOO]=1
+m4_pattern_allow([FOO])^Ja="AM_[FOO]" => the same
+m4_pattern_allow([^FOO$])^Ja="MY_FOO LIB" => a="MY_FOO LIB"
+m4_pattern_allow([_?FOO])^Ja=1 => the same
+"##;
+
+#[test]
+fn around(rt: HostRuntime) -> Result<(), Fail> {
+    try_rows(rt.alloc(), &Calls, AROUND)
+}
+
+/// The same if all idioms are wanted.
+const ALL_AROUND: &[u8] = br##"
+// nothing reads the prefix before AC_OUTPUT, or something may
+AC_PREFIX_DEFAULT([/a])^Jb=1^JAC_OUTPUT^Jc=$prefix => dnl acrun: in place of AC_PREFIX_DEFAULT: the prefix is the directory from here on, and not only from AC_OUTPUT on^JAS_IF([test "$prefix" = NONE], [prefix=/a])^Jb=1^JAC_OUTPUT^Jc=$prefix
+AC_PREFIX_DEFAULT([/a])^Jtest "$prefix" = NONE && b=1^JAC_OUTPUT => the same
+AC_PREFIX_DEFAULT([/a])^JAC_MSG_NOTICE([in ${libdir}])^JAC_OUTPUT => the same
+// a word is taken for text, unless it is a macro
+AC_PATH_PROGS(MY_X,a b) => AC_PATH_PROG([MY_X], [a])^JAS_IF([test -z "$MY_X"], [AC_PATH_PROG([MY_X], [b])])
+AC_PATH_PROGS(AC_X,a b) => the same
+AC_DEFUN([MY_X], [$1])^JAC_PATH_PROGS(MY_X,a b) => the same
+"##;
+
+#[test]
+fn all_around(rt: HostRuntime) -> Result<(), Fail> {
+    try_rows(rt.alloc(), &AllCalls, ALL_AROUND)
 }
 
 /// A text with calls that look for programs along a path, and what becomes of it if all idioms are

@@ -323,8 +323,8 @@ fn drawing(rt: HostRuntime) -> Result<(), Fail> {
 
 /// A text with a test of a file, and what becomes of it by all idioms.
 const ASKED: &[u8] = br##"
-AC_PROG_CC^Jif test -f /a; then x=1; fi => AC_PROG_CC^Jdnl acrun: in place of a test of a file: a program asks, whose answer is no in a cross build and if the word is empty^JAC_RUN_IFELSE([AC_LANG_PROGRAM([[#include <sys/stat.h>^J#include <unistd.h>]], [[struct stat s; return stat ("/a", &s) != 0 || !S_ISREG (s.st_mode);]])], [acrun_file=yes], [acrun_file=no], [acrun_file=no])^JAS_IF([test "$acrun_file" = yes], [x=1])
-AC_PROG_CC^J  test ! -x "${a}/b:c" && x=1 => AC_PROG_CC^J  dnl acrun: in place of a test of a file: a program asks, whose answer is no in a cross build and if the word is empty^J  AC_RUN_IFELSE([AC_LANG_PROGRAM([[#include <sys/stat.h>^J#include <unistd.h>]], [[return access ("${a}/b:c", X_OK) != 0;]])], [acrun_file=yes], [acrun_file=no], [acrun_file=no])^J  AS_IF([test ! "$acrun_file" = yes], [x=1])
+AC_PROG_CC^Jif test -f /a; then x=1; fi => AC_PROG_CC^Jdnl acrun: in place of a test of a file: a program asks, to which a backslash of a variable is one of C, and whose answer is no in a cross build and if the word is empty^Jacrun_CFLAGS=$CFLAGS acrun_CPPFLAGS=$CPPFLAGS acrun_LDFLAGS=$LDFLAGS acrun_LIBS=$LIBS CFLAGS= CPPFLAGS= LDFLAGS= LIBS=^JAC_RUN_IFELSE([AC_LANG_PROGRAM([[#include <sys/stat.h>^J#include <unistd.h>]], [[struct stat s; return stat ("/a", &s) != 0 || !S_ISREG (s.st_mode);]])], [acrun_file=yes], [acrun_file=no^JAC_RUN_IFELSE([AC_LANG_PROGRAM([[#include <sys/stat.h>^J#include <unistd.h>]], [[return access ("/", F_OK) != 0;]])], [], [AC_MSG_ERROR([no program can ask for a file here; see config.log])], [:])], [acrun_file=no])^JCFLAGS=$acrun_CFLAGS CPPFLAGS=$acrun_CPPFLAGS LDFLAGS=$acrun_LDFLAGS LIBS=$acrun_LIBS^JAS_IF([test "$acrun_file" = yes], [x=1])
+AC_PROG_CC^J  test ! -x "${a}/b:c" && x=1 => AC_PROG_CC^J  dnl acrun: in place of a test of a file: a program asks, to which a backslash of a variable is one of C, and whose answer is no in a cross build and if the word is empty^J  acrun_CFLAGS=$CFLAGS acrun_CPPFLAGS=$CPPFLAGS acrun_LDFLAGS=$LDFLAGS acrun_LIBS=$LIBS CFLAGS= CPPFLAGS= LDFLAGS= LIBS=^J  AC_RUN_IFELSE([AC_LANG_PROGRAM([[#include <sys/stat.h>^J#include <unistd.h>]], [[return access ("${a}/b:c", X_OK) != 0;]])], [acrun_file=yes], [acrun_file=no^JAC_RUN_IFELSE([AC_LANG_PROGRAM([[#include <sys/stat.h>^J#include <unistd.h>]], [[return access ("/", F_OK) != 0;]])], [], [AC_MSG_ERROR([no program can ask for a file here; see config.log])], [:])], [acrun_file=no])^J  CFLAGS=$acrun_CFLAGS CPPFLAGS=$acrun_CPPFLAGS LDFLAGS=$acrun_LDFLAGS LIBS=$acrun_LIBS^J  AS_IF([test ! "$acrun_file" = yes], [x=1])
 // which stay
 if test -f /a; then x=1; fi^JAC_PROG_CC => the same
 AC_PROG_CC^Ja="b^JAS_IF([test -f /c], [d=1])" => the same
@@ -339,6 +339,7 @@ AC_PROG_CC^Jif test -f $1; then x=1; fi => the same
 AC_PROG_CC^Jif test -L a; then x=1; fi => the same
 AC_PROG_CC^Jif test "$a" = -f b; then x=1; fi => the same
 AC_PROG_CC^Jif test "$a"; then x=1^Jelif test -f b; then x=2^Jfi => the same
+AC_PROG_CC^Jif test -f a; then^J  if test "$a"; then x=1; fi^Jelif test ! -d b; then x=2^Jfi => AC_PROG_CC^Jif test -f a; then^J  AS_IF([test "$a"], [x=1])^Jelif test ! -d b; then x=2^Jfi
 AC_PROG_CC^Ja=1; if test -f b; then x=1; fi => the same
 AC_PROG_CC^Ja=1 &&^J  AS_IF([test -f b], [x=1]) => the same
 AC_PROG_CC^JAS_IF([:], test -f b && x=1) => the same

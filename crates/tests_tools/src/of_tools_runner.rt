@@ -17,12 +17,12 @@ use tools_runner::run;
 const COMMANDS: &[u8] = b"
 // each command by its name
 lint;;AC_INIT([x],[1])^JAC_OUTPUT^J => 0[][]
-lint,--json;;AC_INIT([x],[1])^JAC_NOPE^JAC_OUTPUT^J => 1[{\"file\":\"configure.ac\",\"line\":2,\"column\":1,\"end_line\":2,\"end_column\":8,\"severity\":\"error\",\"code\":\"parse-2\",\"message\":\"acrun does not know the macro AC_NOPE\",\"help\":\"if your package defines it (in m4/), write here what it does\"}^J][]
+lint,--json;;AC_INIT([x],[1])^JAC_NOPE^JAC_OUTPUT^J => 1[{\"file\":\"configure.ac\",\"line\":2,\"column\":1,\"end_line\":2,\"end_column\":8,\"severity\":\"error\",\"code\":\"parse-2\",\"message\":\"acrun does not know the macro AC_NOPE\",\"help\":\"if m4/ or aclocal.m4 defines it, write here what it does\"}^J][]
 lint,-;AC_INIT([x],[1])^JAC_OUTPUT^J; => 0[][]
 lint; => 2[][acrun: file configure.ac^J]
 lint,--bad;;AC_INIT([x],[1])^JAC_OUTPUT^J => 2[][acrun: usage^J]
 port;;AC_INIT([x],[1])^JAC_OUTPUT^J => 0[AC_INIT([x],[1])^JAC_OUTPUT^J][]
-port,-;AC_INIT([x],[1])^JAC_NOPE^JAC_OUTPUT^J; => 1[AC_INIT([x],[1])^Jdnl acrun: acrun does not know the macro AC_NOPE; if your package defines it (in m4/), write here what it does^JAC_NOPE^JAC_OUTPUT^J][]
+port,-;AC_INIT([x],[1])^JAC_NOPE^JAC_OUTPUT^J; => 1[AC_INIT([x],[1])^Jdnl acrun: acrun does not know the macro AC_NOPE; if m4/ or aclocal.m4 defines it, write here what it does^JAC_NOPE^JAC_OUTPUT^J][]
 port; => 2[][acrun: file configure.ac^J]
 port,a,b; => 2[][acrun: usage^J]
 header;;AC_INIT([x],[1])^JAC_PROG_CC^JAC_CHECK_HEADERS([stdio.h])^JAC_DEFINE([X],[1],[Define to 1^J  to use X.])^JAC_DEFINE([X])^JAC_OUTPUT^J => 0[/* Generated from configure.ac by acrun header.  */^J^J/* Define to 1 if you have the <stdio.h> header file. */^J#undef HAVE_STDIO_H^J^J/* Define to the address where bug reports for this package should be sent. */^J#undef PACKAGE_BUGREPORT^J^J/* Define to the full name of this package. */^J#undef PACKAGE_NAME^J^J/* Define to the full name and version of this package. */^J#undef PACKAGE_STRING^J^J/* Define to the one symbol short name of this package. */^J#undef PACKAGE_TARNAME^J^J/* Define to the home page for this package. */^J#undef PACKAGE_URL^J^J/* Define to the version of this package. */^J#undef PACKAGE_VERSION^J^J/* Define to 1 to use X. */^J#undef X^J][]

@@ -4,7 +4,7 @@ use Rattle.cmd_port.proofs.Saying.{lost_of, memory_said, none_left}
 use Rattle.cmd_port.proofs.command.port_source.Goals as goal
 
 pub returns-in-Ok-Some-clause-refused : goal.returns-in-Ok-Some-clause-refused
-returns-in-Ok-Some-clause-refused g c = lost_of _ _ _ _ _ _ _ c.print_ported.ensures.refused
+returns-in-Ok-Some-clause-refused g c = lost_of _ _ _ _ _ _ _ c.end_ported.ensures.refused
 
 pub returns-in-Ok-None-clause-refused : goal.returns-in-Ok-None-clause-refused
 returns-in-Ok-None-clause-refused g c = λ two.

@@ -15,5 +15,6 @@ returns-clause-said g c =
     let pages = pages_then contents has_failed _ _ _ asked c.explain_directories.ensures.paged
     (pages_then contents has_failed _ _ _ asked c.explain_short.ensures.paged
     (pages_then contents has_failed _ _ _ asked c.explain_compilers.ensures.paged
-    (pages_then contents has_failed _ _ _ asked c.explain_long_cache.ensures.paged c.explain_completed.ensures.paged))) in
+    (pages_then contents has_failed _ _ _ asked c.explain_long_cache.ensures.paged
+    (pages_then contents has_failed _ _ _ asked c.explain_completed.ensures.paged c.explain_made.ensures.paged)))) in
     report_said contents has_failed _ _ _ _ asked _ _ _ c.as_slice-messages.ensures told.told told.whole told.kept pages c.tell_written.ensures.said
