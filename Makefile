@@ -51,6 +51,7 @@ demo: all
 	@sh examples/help/run.sh out/acrun
 	@sh examples/lint/run.sh out/acrun
 	@sh examples/port/run.sh out/acrun
+	@sh examples/built/run.sh out/acrun
 	@sh examples/tools/run.sh out/acrun
 	@sh examples/exact/run.sh out/acrun
 	@sh examples/completions/run.sh out/acrun
