@@ -14,7 +14,6 @@ use Rattle.cmd_call.specs.Calls.{is_input}
 use Rattle.header_template.specs.Pages.{IsTemplate}
 use Rattle.lint_errors.specs.Errors.{IsAccepted}
 use Rattle.lint_errors.specs.Readings.{IsRead}
-use Rattle.lint_findings.specs.declared.finding.Finding.{Finding}
 use Rattle.lint_sources.specs.Sources.{IsNamed}
 use Rattle.cmd_header.specs.Answers.{IsAnswer, IsMade, name_of}
 use Rattle.cmd_header.specs.Refusals.{HasSaid}
@@ -41,7 +40,7 @@ refused text reading fault read is accepted =
     let unread : source_of text ≡ Err fault = subst (IsRead text) is read in
     let e : Err fault ≡ Ok accepted.script = sym unread ∙ accepted.read in absurd cc
 
-pub no_errors : (items : List Finding) (count : ℕ) (P : Type 0) (is : Bool) → count ≡ length items → is ≡ (count == 0) → ((items ≡ []) ↔ P) → is ≡ true → P
+pub no_errors : {A : Type 0} (items : List A) (count : ℕ) (P : Type 0) (is : Bool) → count ≡ length items → is ≡ (count == 0) → ((items ≡ []) ↔ P) → is ≡ true → P
 no_errors [] count P is counted empty both yes = both.0 refl
 no_errors (f ∷ more) count P is counted empty both yes =
     elim (eqb_tells (length (f ∷ more)) 0) [
@@ -49,7 +48,7 @@ no_errors (f ∷ more) count P is counted empty both yes =
       | inr w ↦ (let e : true ≡ false = sym yes ∙ empty ∙ ap (λ n. n == 0) counted ∙ w.0 in absurd cc)
     ]
 
-pub some_errors : (items : List Finding) (count : ℕ) (P : Type 0) (is : Bool) → count ≡ length items → is ≡ (count == 0) → ((items ≡ []) ↔ P) → is ≡ false → P → ⊥
+pub some_errors : {A : Type 0} (items : List A) (count : ℕ) (P : Type 0) (is : Bool) → count ≡ length items → is ≡ (count == 0) → ((items ≡ []) ↔ P) → is ≡ false → P → ⊥
 some_errors items count P is counted empty both no_error holds =
     let none : items ≡ [] = both.1 holds in
     let e : true ≡ false = sym (empty ∙ ap (λ n. n == 0) (counted ∙ ap length none)) ∙ no_error in cc
