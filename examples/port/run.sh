@@ -1,7 +1,8 @@
 #!/bin/sh
 # Rewrites sources by `acrun port`, and compares what is printed with expected.txt; tools/try_port.py looks at each too. A line of
 # sources.txt is a name and a text, with escapes as printf has them. Those of idioms.txt are rewritten by `acrun port --idioms`, and
-# those of namings.txt by that with a name and a version.
+# those of namings.txt by that with a name and a version. The packages of examples/built, and that of examples/lint/rules, have
+# templates that want something.
 #   run.sh PROGRAM            compares
 #   run.sh PROGRAM --write    writes expected.txt
 set -e
@@ -16,6 +17,11 @@ for rows in sources idioms namings; do
         printf '%s.ac\n' "${row%% *}" >> $rows
     done < "$here/$rows.txt"
 done
+mkdir src
+for name in Makefile src/Makefile config.h a; do
+    : > "$name.in"
+done
+cp -R "$here/../built" "$here/../lint/rules" .
 {
     for name in $(cat sources); do
         printf '== %s\n' "$name"
@@ -28,6 +34,13 @@ done
     for name in $(cat namings); do
         printf '== %s --package\n' "$name"
         "$acrun" port --idioms --package=pkg,3.1 "$name" 2>&1 || echo "== status $?"
+    done
+    # What the templates of packages want, and what is left to do in them.
+    for name in rules built/shell built/directories built/suffixes built/flags built/objects built/definitions built/record built/automake; do
+        for switch in '' --idioms; do
+            printf '== %s %s\n' "$name" "$switch"
+            "$acrun" port $switch "$name" 2>&1 || echo "== status $?"
+        done
     done
     cp calls-old-names.ac configure.ac
     "$acrun" port > plain
