@@ -50,15 +50,17 @@ class Maker:
         return self.random.choice(["", " "]) + text.rstrip() + self.random.choice(["", "", " ", "\n"])
 
     def define(self):
-        name = self.random.choice(NAMES)
+        is_bare = self.undescribed and self.random.random() < 0.3
+        # For a name that a check describes too, acrun takes the last description of AC_DEFINE as that of each of its calls.
+        name = self.random.choice([it for it in NAMES if not is_bare or not it.startswith("HAVE_")])
         value = self.random.choice(["[1]", "[]", "1", "[\"text\"]"])
         macro = self.random.choice(["AC_DEFINE", "AC_DEFINE", "AC_DEFINE_UNQUOTED"])
-        if self.undescribed and self.random.random() < 0.3:
+        if is_bare:
             return f"{macro}([{name}], {value})\n"
         return f"{macro}([{name}], {value},{self.random.choice(['', ' ', chr(10) + '  '])}[{self.description()}])\n"
 
     def actions(self, room):
-        return f", [{self.statements(room, 2).rstrip()}]" if room else ""
+        return f", [{(self.statements(room, 2) if room > 0 else self.define()).rstrip()}]"
 
     def statement(self, room):
         kind = self.random.randint(0, 15)
@@ -78,7 +80,7 @@ class Maker:
         if kind == 10 and room:
             return f"AS_IF([test \"x$a\" = x]{self.actions(deeper)}{self.actions(deeper)})\n"
         if kind == 11 and room:
-            return f"AS_CASE([$a], [b | c]{self.actions(deeper)})\n"
+            return f"AS_CASE([$a], [b|c]{self.actions(deeper)})\n"
         if kind == 12 and room:
             return f"AC_ARG_ENABLE([x], [AS_HELP_STRING([--enable-x], [AC_DEFINE no])]{self.actions(deeper)})\n"
         if kind == 13 and room:
