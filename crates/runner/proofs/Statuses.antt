@@ -50,3 +50,18 @@ pub recheck_told : (call : ProgramCall) (status : ℕ) (P : List ℕ → List (L
     → IfRecheck call (status ≢ 2 → (out : List ℕ) × (said : List (List ℕ)) × P out said)
 recheck_told Recheck status P Put Told h = λ ne. let p = h ne in (p.0, p.1, p.2)
 recheck_told call status P Put Told h = tt
+
+-- ---- the program of the tools
+
+-- Of what is said of its commands something else follows.
+pub of_tools : (call : ProgramCall) (P Q : Type 0) → (P → Q) → IfTools call P → IfTools call Q
+of_tools (Lint words) P Q f p = f p
+of_tools (Port words) P Q f p = f p
+of_tools (Header words) P Q f p = f p
+of_tools (Why words) P Q f p = f p
+of_tools call P Q f p = tt
+
+-- What is said of a status, without what was said on the streams.
+pub ends_alone : (ended : Option ℕ) (status : ℕ) (silent told : Type 0) → EndsBy ended status silent told → EndsBy ended status (Unit {0}) (Unit {0})
+ends_alone (Some number) status silent told e = (e.0, tt)
+ends_alone None status silent told e = (e.0, tt)
