@@ -1,11 +1,12 @@
 -- What follows from what happened, for the exit status.
-use Rattle.std.proofs.Common.{◌≡◌, ◌≢◌, ℕ, Bool, true, List, Option, sym, subst, ◌∙◌}
-use Rattle.cmd_call.specs.Calls.{ProgramCall, Configure, Recheck, IfConfigure, IfRecheck}
+use Rattle.std.proofs.Common.{◌≡◌, ◌≢◌, ℕ, Bool, true, List, Option, Some, None, sym, subst, ◌∙◌}
+use Rattle.cmd_call.specs.Calls.{ProgramCall, Configure, Recheck, Lint, Port, Header, Why, IfConfigure, IfRecheck}
 use Rattle.cmd_configure.specs.Ended.{Exits, Prints}
 use Rattle.cmd_status.proofs.Happenings.{done_unless}
 use Rattle.cmd_status.specs.Happened.{is_all_done, is_output_cut, status_after}
 use Rattle.cmd_status.specs.Printed.{WritesSo, Written}
 use Rattle.cmd_status.specs.declared.happened.Happened.{Happened}
+use Rattle.runner.specs.Tools.{EndsBy, IfTools}
 
 -- What holds if all was done, unless the status is 2.
 pub unless_fault : (P : ℕ → Type 0) (status : ℕ) (happened : Happened) → status ≡ status_after happened → (is_all_done happened ≡ true → P (status_after happened)) → status ≢ 2 → P status
