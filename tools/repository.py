@@ -316,7 +316,7 @@ def counts_that_are_old():
     macros = len(re.findall(r'(?m)^    \(b"A[CS]_', (CRATES / "ac_macros/src/table.rt").read_text()))
     sources = len(pathlib.Path("examples/lint/sources.txt").read_text().splitlines())
     for file, form, count in (("README.md", r"outside the (\d+)\s+macros", macros), ("CHANGELOG.md", r"a configure.ac of (\d+) macros", macros),
-                              ("docs/promises.md", r"(\d+) sources and three packages", sources)):
+                              ("docs/promises.md", r"(\d+) sources and four packages", sources)):
         found = re.findall(form, pathlib.Path(file).read_text())
         if found != [str(count)]:
             yield f"{file}: it has {' and '.join(found) or 'no number'} in place of {count}, by {form}"
