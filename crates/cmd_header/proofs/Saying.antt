@@ -25,9 +25,9 @@ page_told contents has_failed old new text told whole kept = record { told = tol
 
 -- ---- what is lost
 
-pub output_lost : {E : Type 0} (contents : E → Option (List ℕ)) (has_failed : E → Bool) (old new : E) (is_full : Bool) (status : ℕ)
-    → (status ≡ 2 → (is_full ≡ true) × IsTold contents has_failed old new (error_line (codes "file") (codes "standard output"))) → status ≡ 2 → Says contents has_failed old new (IsLost is_full)
-output_lost contents has_failed old new is_full status told is = let h = told is in inr (_, unwritten h.0, h.1)
+pub output_told : {E : Type 0} (contents : E → Option (List ℕ)) (has_failed : E → Bool) (old new : E) (is_full : Bool) → is_full ≡ true → IsTold contents has_failed old new (error_line (codes "file") (codes "standard output"))
+    → Says contents has_failed old new (IsLost is_full)
+output_told contents has_failed old new is_full full told = inr (_, unwritten full, told)
 
 pub stream_lost : {E : Type 0} (contents : E → Option (List ℕ)) (has_failed : E → Bool) (old new : E) (is_full : Bool) (status : ℕ) → (status ≡ 2 → has_failed new ≡ true) → status ≡ 2 → Says contents has_failed old new (IsLost is_full)
 stream_lost contents has_failed old new is_full status failed is = inl (failed is)

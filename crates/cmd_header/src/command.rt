@@ -131,7 +131,7 @@ fn put_said<E: Hears>(said: &[u8], errors: &mut E) -> u8
 
 /// Writes a template, and what is said of its names without a description, and returns the exit
 /// status.
-#[tactic(auto, using(crate::proofs::Saying::output_lost, crate::proofs::Saying::stream_lost))]
+#[tactic(auto, using(crate::proofs::Saying::stream_lost))]
 fn put_template<W: Hears, E: Hears>(template: &Template, output: &mut W, errors: &mut E) -> u8
     ensures status { result ≢ 2 → result ≡ 0 }
     ensures put { result ≢ 2
