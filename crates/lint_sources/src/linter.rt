@@ -125,7 +125,7 @@ fn written() -> &'static [u8]
 }
 
 /// Returns the offset at which a source has a text first.
-#[tactic(auto, using(lint_templates::proofs::Lost::first_is))]
+#[tactic(auto, using(crate::proofs::Placed::first_is))]
 fn first_place(source: &[u8], sought: &[u8]) -> Option<usize>
     ensures { result ≡ unlisted.first_place source.now sought.now }
 {
