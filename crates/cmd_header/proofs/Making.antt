@@ -1,6 +1,6 @@
 -- The template that is printed.
-use Rattle.std.proofs.Common.{◌≡◌, ◌≢◌, ◌⊎◌, ◌↔◌, ◌==◌, inl, inr, ℕ, List, [], ◌∷◌, Option, Some, None, Bool, true, false, ◌&&◌, Result, Ok, Err, length, map, ap, subst, sym, refl, arith, ◌∙◌}
-use Rattle.std.proofs.lemmas.Bool.Decides.{eqb_tells}
+use Rattle.std.proofs.Common.{◌≡◌, ◌≢◌, ◌⊎◌, ◌↔◌, inl, inr, ℕ, List, [], ◌∷◌, Option, Some, None, Bool, true, false, ◌&&◌, Result, Ok, Err, length, map, ap, subst, sym, refl, arith, ◌∙◌}
+use Rattle.std.specs.Prelude.{MatchOption}
 use Rattle.std.specs.List.{list_any}
 use Rattle.std.specs.Io.KnownBytes.{Appends}
 use Rattle.file_disk.specs.Known.{Known}
@@ -40,19 +40,6 @@ refused text reading fault read is accepted =
     let unread : source_of text ≡ Err fault = subst (IsRead text) is read in
     let e : Err fault ≡ Ok accepted.script = sym unread ∙ accepted.read in absurd cc
 
-pub no_errors : {A : Type 0} (items : List A) (count : ℕ) (P : Type 0) (is : Bool) → count ≡ length items → is ≡ (count == 0) → ((items ≡ []) ↔ P) → is ≡ true → P
-no_errors [] count P is counted empty both yes = both.0 refl
-no_errors (f ∷ more) count P is counted empty both yes =
-    elim (eqb_tells (length (f ∷ more)) 0) [
-      | inl w ↦ (let z = w.1 in absurd (omega (arith, z)))
-      | inr w ↦ (let e : true ≡ false = sym yes ∙ empty ∙ ap (λ n. n == 0) counted ∙ w.0 in absurd cc)
-    ]
-
-pub some_errors : {A : Type 0} (items : List A) (count : ℕ) (P : Type 0) (is : Bool) → count ≡ length items → is ≡ (count == 0) → ((items ≡ []) ↔ P) → is ≡ false → P → ⊥
-some_errors items count P is counted empty both no_error holds =
-    let none : items ≡ [] = both.1 holds in
-    let e : true ≡ false = sym (empty ∙ ap (λ n. n == 0) (counted ∙ ap length none)) ∙ no_error in cc
-
 pub answered : {E : Type 0} (contents : E → Option (List ℕ)) (old new : E) (text lent page said : List ℕ) (status : ℕ) (a b : Option (List ℕ)) → lent ≡ text → IsMade lent page said
     → (status ≢ 2 → Appends a b page) → (status ≢ 2 → HasSaid contents old new said)
     → status ≢ 2 → (p : List ℕ) × (s : List ℕ) × IsMade text p s × Appends a b p × HasSaid contents old new s
@@ -77,3 +64,10 @@ by_words contents old new files words asked name reads status a b is some all gi
     let stream : (reads && is_input name) ≡ is_input name = ap (λ r. r && is_input name) all ∙ stream_is words name (sym found) in
     let answer : IsAnswer files (Some name) g.0 g.1 = (g.2.0, g.2.1, subst (λ s. IsNamed files s name g.2.0 g.2.1) stream g.2.2, g.2.3) in
     (g.0, g.1, subst (λ w. IsAnswer files w g.0 g.1) found answer, g.3, g.4)
+
+-- What is said of a value that is there, or of none.
+pub from_some : {T : Type 0} (o : Option T) (v : T) (A : Type 0) (P : T → Type 0) → o ≡ Some v → MatchOption o A P → P v
+from_some o v A P is m = subst (λ x. MatchOption x A P) is m
+
+pub from_none : {T : Type 0} (o : Option T) (A : Type 0) (P : T → Type 0) → o ≡ None → MatchOption o A P → A
+from_none o A P is m = subst (λ x. MatchOption x A P) is m

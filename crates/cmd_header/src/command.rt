@@ -16,7 +16,7 @@ use cmd_call::{FAULT, Hears, print_text, tell_file, tell_memory, tell_usage, wri
 use deftable::Bytes;
 use file_disk::Disk;
 use header_template::{Template, template_of};
-use lint_errors::{Reading, errors_of, read};
+use lint_errors::{Reading, errors_of, is_accepted, read};
 use lint_excerpts::excerpt_of;
 use lint_sources::{Linted, has_input, read_named};
 use std::alloc::{AllocError, Global};
@@ -57,14 +57,13 @@ fn tell_refused<E: Hears>(alloc: Global, linted: &Linted, errors: &mut E) -> u8
     }
 }
 
-/// Returns whether a source with this reading has no error.
-fn has_no_error(alloc: Global, text: &[u8], reading: &Reading) -> Result<bool, AllocError>
-    requires { IsReading text.now reading.now }
+/// Returns whether acrun accepts a source.
+fn has_no_error(alloc: Global, text: &[u8]) -> Result<bool, AllocError>
     ensures yes { IfOk result (λ is. is ≡ true → IsAccepted text.now) }
     ensures no { IfOk result (λ is. is ≡ false → IsAccepted text.now → ⊥) }
 {
-    let errors = errors_of(alloc, text, reading)?;
-    Ok(errors.is_empty())
+    let is_right = is_accepted(alloc, text)?;
+    Ok(is_right)
 }
 
 /// Returns the template of a source with this reading, if it is accepted.
@@ -78,7 +77,7 @@ fn template_with(
     ensures { IfOk result (λ o.
         MatchOption o (IsAccepted text.now → ⊥) (λ t. specs.IsMade text.now t.page t.said)) }
 {
-    if !has_no_error(alloc, text, reading)? {
+    if !has_no_error(alloc, text)? {
         return Ok(None);
     }
     match &reading.source {

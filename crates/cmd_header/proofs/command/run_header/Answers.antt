@@ -10,4 +10,4 @@ returns-in-Some-clause-refused g c =
 
 pub returns-in-Some-clause-made : goal.returns-in-Some-clause-made
 returns-in-Some-clause-made g c =
-    by_words _ _ _ _ c.args.words.now _ c.in-Some.name.now c.has_input-reads.result _ _ _ c.name_of.ensures (ap (option_map (λ n. n.now)) c.in-Some.is) c.has_input-reads.ensures c.print_named.ensures.made
+    by_words g.E.Write.contents _ _ _ c.args.words.now _ c.in-Some.name.now c.has_input-reads.result _ _ _ c.name_of.ensures (ap (option_map (λ n. n.now)) c.in-Some.is) c.has_input-reads.ensures c.print_named.ensures.made
