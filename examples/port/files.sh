@@ -41,7 +41,7 @@ echo '@answers@' > answers.in
 sed -n '/^front=/,/^answers="$answers"$/p' tests.ac > tests.sh
 sh -c '. ./tests.sh; printf "%s\n" "$answers"' > wanted
 "$acrun" port --idioms tests.ac > configure.ac
-[ "$(grep -c '^AC_RUN_IFELSE' configure.ac)" = "$(grep -c '^if test' tests.ac)" ] || { echo 'files: a test stays'; exit 1; }
+[ "$(grep -c '^acrun_CFLAGS=' configure.ac)" = "$(grep -c '^if test' tests.ac)" ] || { echo 'files: a test stays'; exit 1; }
 "$acrun" -j4 configure > said 2>&1 || { cat said; exit 1; }
 cmp answers wanted || { echo 'files: an answer differs'; tr ' ' '\n' < wanted > a; tr ' ' '\n' < answers > b; diff a b; exit 1; }
 echo "files: $(wc -w < answers) answers are the same"

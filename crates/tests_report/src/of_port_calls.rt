@@ -302,7 +302,7 @@ dnl AC_PROG_MKDIR_P^JAC_PROG_MKDIR_P => dnl AC_PROG_MKDIR_P^JAS_IF([test -z "$MK
 m4_pattern_allow([AC_FOO])^Ja=AC_BAR => a=AC_BAR
 m4_pattern_allow([AC_FOO])^JAC_FOO=1 => m4_pattern_allow([AC_FOO])^J[AC_FOO]=1
 m4_pattern_allow([FOO])^Ja="AM_[FOO]" => the same
-m4_pattern_allow([^FOO$])^Ja="MY_FOO LIB" => a="MY_FOO LIB"
+m4_pattern_allow([^FOO$])^Ja="MY_FOO LIB" => the same
 m4_pattern_allow([_?FOO])^Ja=1 => the same
 "##;
 
