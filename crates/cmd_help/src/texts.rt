@@ -95,10 +95,13 @@ the shell that mean the same as a call: `if`, and a statement after a test and
 `&&` or `||`, become AS_IF, and `case` becomes AS_CASE. A statement after
 AC_DEFINE gets a line of its own, an argument with an `if` or a `case` gets
 brackets, AC_HELP_STRING becomes AS_HELP_STRING, and backslashes go from the
-ends of lines of lists. All else is copied. What has to be done by hand has a
-line `dnl acrun: ..` above it, with what `acrun lint` says there. FILE itself
-is not written. Standard error gets those warnings of `acrun lint` that say
-that something in the text that is printed means another thing to Autoconf.
+ends of lines of lists. All else is copied. If FILE is not standard input, and
+acrun then accepts the text, it gets lines that set what its templates use and
+Autoconf sets itself: below AC_PROG_CC and above AC_OUTPUT, most of them with
+--idioms alone. What has to be done by hand, in a template too, has a line
+`dnl acrun: ..` above it, with what `acrun lint` says there. FILE itself is
+not written. Standard error gets those warnings of `acrun lint` that say that
+something in the text that is printed means another thing to Autoconf.
 
   --idioms   write texts too that differ from the macro, with the call's
              arguments in them, and AC_MSG_RESULT in place of `echo`, each

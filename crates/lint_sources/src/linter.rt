@@ -6,7 +6,6 @@ ghost use Rattle.lint_templates.specs.Unlisted as unlisted;
 
 use crate::listing::{Lister, listed_names};
 use crate::sheets::Sheets;
-use crate::wants::shape_of;
 use crate::warnings::{Part, Warner};
 use ac_tree::Source;
 use bstr::ByteSlice;
@@ -76,7 +75,7 @@ fn warn_of_part(
         Part::Outputs => warn_of_outputs(alloc, text, source, out),
         Part::Template(number) => match given {
             Some(given) => {
-                let shape = shape_of(text, source);
+                let shape = Shape::of(text, source);
                 warn_of_template(alloc, given, text, shape, sheets, number, out)
             }
             None => Ok(()),

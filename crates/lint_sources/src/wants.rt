@@ -15,25 +15,6 @@ use lint_templates::{Given, Shape, add_wanted, span_of_output, wants_flags, warn
 use lint_text::position_of;
 use std::alloc::{AllocError, Global};
 
-/// What lines of `port` have that put CFLAGS back.
-const PUT_BACK: &[u8] = b"CFLAGS=$acrun_CFLAGS";
-
-/// What a test has of whether CFLAGS is empty.
-const TESTS: [&[u8]; 3] = [b"$CFLAGS\" = x", b"-z \"$CFLAGS\"", b"-n \"$CFLAGS\""];
-
-/// Returns what decides what is said of the templates of a source with this text. Lines of `port` that
-/// put CFLAGS back give it no value.
-pub(crate) fn shape_of(text: &[u8], source: &Source) -> Shape {
-    let shape = Shape::of(text, source);
-    let is_put_back = text.contains_str(PUT_BACK);
-    let is_tested = TESTS.iter().any(|test| text.contains_str(*test));
-    Shape {
-        has_compiler: shape.has_compiler,
-        lacks_flags: shape.lacks_flags || shape.has_compiler && is_put_back && !is_tested,
-        adds_objects: shape.adds_objects,
-    }
-}
-
 /// What the templates of a source want of it.
 #[derive(Drop)]
 pub struct Wanted {
@@ -88,7 +69,7 @@ fn wanted_by(
     sheets: &Sheets,
 ) -> Result<Wanted, AllocError> {
     let given = Given::of(alloc, source)?;
-    let shape = shape_of(text, source);
+    let shape = Shape::of(text, source);
     let takes_directories = !sets_directory(sheets);
     let mut wanted = nothing(alloc);
     for index in 0..sheets.files() {
@@ -252,7 +233,7 @@ fn add_left_of_sheet(
         return Ok(());
     };
     let text = sheet.text.as_slice();
-    let shape = shape_of(linted.text.as_slice(), source);
+    let shape = Shape::of(linted.text.as_slice(), source);
     let mut found = Vec::new(alloc);
     warn_of_file(
         alloc,

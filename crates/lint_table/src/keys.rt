@@ -712,7 +712,7 @@ pub const SCRIPT_VARIABLE: Key = Key(b"script-variable", b"nothing here sets \x0
 
 /// write before it, after AC_PROG_CC
 #[rattlefmt::skip]
-pub const CHECK_GNU: Key = Key(b"check-gnu", b"", b"write before it, after AC_PROG_CC\n  AC_CACHE_CHECK([whether the compiler is GNU C],\n    [ac_cv_c_compiler_gnu],\n    [AC_COMPILE_IFELSE([AC_LANG_PROGRAM([[#ifndef __GNUC__\n  #error another compiler\n  #endif]], [])],\n      [ac_cv_c_compiler_gnu=yes], [ac_cv_c_compiler_gnu=no])])\n  AS_IF([test \"$ac_cv_c_compiler_gnu\" = yes], [GCC=yes], [GCC=])");
+pub const CHECK_GNU: Key = Key(b"check-gnu", b"", b"write before it, after AC_PROG_CC\n  AC_CACHE_CHECK([whether the compiler is GNU C],\n    [ac_cv_c_compiler_gnu],\n    [AC_COMPILE_IFELSE([AC_LANG_PROGRAM([[#ifndef __GNUC__\n  #error another compiler\n  #endif]], [])],\n      [ac_cv_c_compiler_gnu=yes], [ac_cv_c_compiler_gnu=no])])\n  ac_compiler_gnu=$ac_cv_c_compiler_gnu\n  AS_IF([test \"$ac_compiler_gnu\" = yes], [GCC=yes], [GCC=])");
 
 /// acrun makes checks of C alone
 #[rattlefmt::skip]

@@ -4,12 +4,19 @@ use ac_tree::{Case, Declares, Effect, Source, Stmt, Subject, When};
 use bstr::ByteSlice;
 use shellword::{Condition, Element, Part, Test};
 
+/// What lines of `port` have that put CFLAGS back.
+const PUT_BACK: &[u8] = b"CFLAGS=$acrun_CFLAGS";
+
+/// What a test has of whether CFLAGS is empty.
+const TESTS: [&[u8]; 3] = [b"$CFLAGS\" = x", b"-z \"$CFLAGS\"", b"-n \"$CFLAGS\""];
+
 /// What of a source decides what is said of its templates.
 #[derive(Clone, Copy)]
 pub struct Shape {
     /// Whether a statement looks for the compiler.
     pub has_compiler: bool,
-    /// Whether CFLAGS is left as the user gives it after that.
+    /// Whether CFLAGS is left as the user gives it after that. Lines of `port` that put it back give it
+    /// no value.
     pub lacks_flags: bool,
     /// Whether the source names a variable to which objects are added.
     pub adds_objects: bool,
@@ -146,6 +153,12 @@ fn lacks_flags(statements: &[Stmt]) -> bool {
     true
 }
 
+/// Returns whether a source with this text puts CFLAGS back after lines of `port`, and has no test of
+/// whether it is empty.
+fn puts_back(text: &[u8]) -> bool {
+    text.contains_str(PUT_BACK) && !TESTS.iter().any(|test| text.contains_str(*test))
+}
+
 impl Shape {
     /// Returns what is taken of a source of which only what it made is known.
     pub(crate) fn made() -> Shape {
@@ -161,7 +174,7 @@ impl Shape {
         let has_compiler = list_has_compiler(source.statements());
         Shape {
             has_compiler,
-            lacks_flags: has_compiler && lacks_flags(source.statements()),
+            lacks_flags: has_compiler && (puts_back(text) || lacks_flags(source.statements())),
             adds_objects: text.contains_str(b"LIBOBJS") || text.contains_str(b"EXTRA_OBJS"),
         }
     }
