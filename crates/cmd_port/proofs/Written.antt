@@ -22,16 +22,16 @@ status_lent status wanted result is same ne = same ne ∙ is
 
 -- What was rewritten gets what its templates want, and is printed.
 pub answered : (idioms : Idioms) (naming : Option Package) (is_stream : Bool) (text slice mid : List ℕ) (had : Bool) (result : ℕ) (a b : Option (List ℕ)) → slice ≡ text → IsPorted idioms naming slice had mid
-    → (result ≢ 2 → (out : List ℕ) × (has : Bool) × IsEnded is_stream had idioms mid has out × (result ≡ status_of has) × Appends a b out)
+    → (result ≢ 2 → (out : List ℕ) × (has : Bool) × IsEnded None is_stream had idioms mid has out × (result ≡ status_of has) × Appends a b out)
     → result ≢ 2 → (o : List ℕ) × IsPrinted idioms naming is_stream text o result × Appends a b o
 answered idioms naming is_stream text slice mid had result a b lent ported ends ne =
     let e = ends ne in
     (e.0, record { had_comments = had; mid = mid; ported = subst (λ t. IsPorted idioms naming t had mid) lent ported; has_comments = e.1; ended = e.2; status_is = e.3 }, e.4)
 
 -- What is printed and its status, once what the templates want is there.
-pub ended_so : (idioms : Idioms) (is_stream had has : Bool) (mid out : List ℕ) (result : ℕ) (a b : Option (List ℕ)) → IsEnded is_stream had idioms mid has out
+pub ended_so : (idioms : Idioms) (is_stream had has : Bool) (mid out : List ℕ) (result : ℕ) (a b : Option (List ℕ)) → IsEnded None is_stream had idioms mid has out
     → (result ≢ 2 → result ≡ status_of has) → (result ≢ 2 → Appends a b out)
-    → result ≢ 2 → (o : List ℕ) × (h : Bool) × IsEnded is_stream had idioms mid h o × (result ≡ status_of h) × Appends a b o
+    → result ≢ 2 → (o : List ℕ) × (h : Bool) × IsEnded None is_stream had idioms mid h o × (result ≡ status_of h) × Appends a b o
 ended_so idioms is_stream had has mid out result a b ended same put ne = (out, has, ended, same ne, put ne)
 
 -- A text without comments about what is left is accepted.

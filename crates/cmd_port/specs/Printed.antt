@@ -20,7 +20,7 @@ pub record IsPrinted (idioms : Idioms) (naming : Option Package) (is_stream : Bo
   pub mid : List ℕ
   pub ported : IsPorted idioms naming text had_comments mid
   pub has_comments : Bool
-  pub ended : IsEnded is_stream had_comments idioms mid has_comments out
+  pub ended : IsEnded None is_stream had_comments idioms mid has_comments out
   pub status_is : status ≡ status_of has_comments
 
 -- The source that is asked for has a text, which becomes what is printed by the idioms that are asked for, with the name and the version

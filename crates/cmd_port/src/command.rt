@@ -14,6 +14,7 @@ ghost use Rattle.lint_errors.specs.Errors.{IsAccepted};
 
 use crate::asking::request_of;
 use crate::serving::ended;
+use crate::templates::Nearby;
 use crate::{Ported, port};
 use cmd_call::{FAULT, Hears, print_text, tell_file, tell_memory, tell_usage, write_errors};
 use deftable::Bytes;
@@ -225,13 +226,14 @@ fn end_ported<D: Disk, W: Hears, E: Hears>(
         ⊎ ((page : List ℕ) × Appends (E.contents errors.old) (E.contents errors.new) page) }
     ensures ended { result ≢ 2
         → (out : List ℕ) × (has : Bool)
-        × IsEnded is_stream ported.has_comments idioms ported.text has out
+        × IsEnded None is_stream ported.has_comments idioms ported.text has out
         × (result ≡ specs.status_of has)
         × Appends (W.contents output.old) (W.contents output.new) out }
     ensures refused { result ≡ 2
         → Says E.contents E.has_failed errors.old errors.new (IsLost (W.has_failed output.new)) }
 {
-    match ended(alloc, disk, is_stream, idioms, linted, ported) {
+    let templates = Nearby { disk, linted };
+    match ended(alloc, &templates, is_stream, idioms, ported) {
         Ok(ported) => print_ported(alloc, disk, linted, &ported, output, errors),
         Err(_) => tell_memory(errors),
     }

@@ -23,7 +23,7 @@
 //!
 //! Read `specs/Ported`, which says what is copied, and `specs/Served`. `port_calls` replaces the calls, `port_shell`
 //! the statements, `port_messages` what they print, and `lint_all` finds each statement with an error. In `src`, read `lines` (above
-//! which line a comment can be), `comments`, `moving`, `whole`, and then `serving`. For the command, read
+//! which line a comment can be), `comments`, `moving`, `whole`, `templates`, and then `serving`. For the command, read
 //! `specs/Asked` (what the words ask for), `specs/Printed` and `specs/Refusals`, and then `asking`
 //! and `command`.
 #![tactic(auto)]
@@ -34,6 +34,7 @@ mod comments;
 mod lines;
 mod moving;
 mod serving;
+mod templates;
 mod whole;
 
 pub use command::run_port;
