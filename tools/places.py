@@ -30,6 +30,7 @@ FORMS = pathlib.Path("crates/lint_words/src/forms.rt")
 LINES = "J?(?:start refused|failed program was)"
 LINT = ["examples/lint/sources.txt"]
 WORDS = ["crates/lint_table/words.txt"]
+PORT = ["docs/commands.md", "docs/migrate.md", "CHANGELOG.md", "examples/port/sources.txt", "crates/tests_report/src/of_port_shell.rt", "tools/exact_forms.py"]
 WARNING = [*WORDS, *LINT, "crates/tests_report/src/of_lint_warnings.rt", "docs/promises.md"]
 # What is written, by what.
 BY_MACROS = ("tools/macro_table.py", ["crates/lint_macros/src/text.rt", "crates/port_idioms/src/table.rt", "docs/macros.md"])
@@ -37,6 +38,7 @@ BY_WORDS = ("tools/word_table.py", ["crates/lint_table/src/keys.rt", "docs/error
 BY_DIFFERENCES = ("tools/word_table.py, if something means another thing to Autoconf", ["crates/lint_table/specs/Differences.antt"])
 BY_FAULTS = ("tools/lint_codes.py", ["docs/errors.md"])
 BY_LINT = ("examples/lint/run.sh PROGRAM --write", ["examples/lint/expected.txt"])
+BY_PORT = ("examples/port/run.sh PROGRAM --write", ["examples/port/expected.txt"])
 
 # The change, the nearest one, its identifiers, its name as texts of the code have it, the crates to
 # search (all of them if there is none), the documents, data and examples, and what is written.
@@ -65,6 +67,8 @@ KINDS = [
     ("The words of a fault", "`CacheBody`", r"CacheBody|CACHE_BODY", "", ("lint_words", "run_words"), [*WORDS, *LINT], [BY_WORDS, BY_LINT]),
     ("A warning of `lint`, a row", "`COMMA_IN_NAME`", r"COMMA_IN_NAME", "", ("lint_warnings",), WARNING, [BY_WORDS, BY_DIFFERENCES, BY_LINT]),
     ("A warning of `lint`, a function", "`warn_of_compiler`", r"warn_of_compiler", "", (), WARNING, [BY_WORDS, BY_DIFFERENCES, BY_LINT]),
+    ("A rewrite of `port`, a statement", "`X=${X:-WORD}`", r"IsDefaulting|DefaultOf|DefaultCut|default_of", "",
+     ("port_parts", "port_statements", "port_compounds", "port_shell"), PORT, [BY_PORT]),
 ]
 
 
