@@ -3,6 +3,14 @@
 #   run.sh [SHELL]     the shell that runs it; by default each of sh, dash and bash that is there
 set -u
 here=$(realpath "$(dirname "$0")") || exit 2
+# A shell can't take back that a signal is ignored, as it is below nohup and in a job in the background.
+if [ -z "${signals_are_usual-}" ]; then
+    exec env signals_are_usual=1 python3 -c 'import os, signal, sys
+for name in ("SIGHUP", "SIGINT", "SIGQUIT", "SIGTERM"):
+    signal.signal(getattr(signal, name), signal.SIG_DFL)
+os.execvp(sys.argv[1], sys.argv[1:])' sh "$0" "$@"
+fi
+unset signals_are_usual
 script=$here/../../share/configure
 folder=$(mktemp -d) || exit 2
 trap 'rm -rf "$folder"' EXIT
