@@ -1,0 +1,4 @@
+mod Apart
+mod OneJob
+mod TwoReadings
+mod Taken
