@@ -1,4 +1,4 @@
-mod Apart
+pub mod Apart
 mod OneJob
 mod TwoReadings
 mod Taken
