@@ -16,6 +16,7 @@ pub struct ProgramAt {
 }
 
 /// What a run rests on.
+#[derive(Clone, Copy)]
 pub struct RunInputs<'a> {
     /// The version of acrun.
     pub version: &'a [u8],
