@@ -1,3 +1,4 @@
 pub mod Below
+pub mod Each
 pub mod Made
 pub mod Steps

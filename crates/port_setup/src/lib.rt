@@ -9,17 +9,18 @@
 //! AM_INIT_AUTOMAKE(a, 1.0)        // if this is below it
 //! ```
 //!
-//! Read `specs/Making` and `specs/Compiler` of `port_passes` (what is put), and then `package`, `compiler`
-//! with `gnu`, and `seeking`. A call fails only if memory runs out. "own" marks a rule that no manual
-//! gives.
+//! Read `specs/Making` and `specs/Compiler` of `port_passes` (what is put) and `specs/Needed` (whether it
+//! is), and then `package`, `compiler` with `needing` and `gnu`, and `seeking`. A call fails only if memory
+//! runs out. "own" marks a rule that no manual gives.
 #![tactic(auto)]
 
 mod compiler;
 mod gnu;
+mod needing;
 mod package;
 mod seeking;
 
-pub use compiler::lines_needed;
 pub use gnu::{compiler_in, pass_compiler};
+pub use needing::lines_needed;
 pub use package::{Title, first_two, pass_title, title_in};
 pub use seeking::pass_search;
