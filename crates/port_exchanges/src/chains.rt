@@ -9,11 +9,11 @@ ghost use Rattle.port_passes.specs.Chains as specs;
 ghost use Rattle.port_passes.specs.Rewritten as rewritten;
 
 use crate::exchanging::put_exchange;
+use crate::reading::{takes_words, text_in};
 use crate::types::is_c_name;
 use ac_calls::{CallAt, Extent};
-use lint_text::part;
 use port_definitions::argument;
-use port_idioms::{Idioms, text_of};
+use port_idioms::Idioms;
 use port_passes::{Pass, can_be_made};
 use port_spots::{Known, Spot, line_indent};
 use std::alloc::{AllocError, Global};
@@ -213,12 +213,18 @@ fn is_value(value: &[u8]) -> bool
 }
 
 /// Returns the text of the third argument, or nothing if there is none.
-fn value_of<'a>(text: &'a [u8], call: &CallAt) -> Option<&'a [u8]>
-    ensures { IfSome result (λ v. v.now ≡ specs.value_of text.now (macro_call_of call.now)) }
+fn value_of<'a>(
+    alloc: Global,
+    text: &'a [u8],
+    call: &CallAt,
+    are_text: bool,
+) -> Result<Option<&'a [u8]>, AllocError>
+    ensures { IfOk result (λ o.
+        IfSome o (λ v. v.now ≡ specs.value_of text.now (macro_call_of call.now))) }
 {
     match argument(call, 2) {
-        Some(value) => text_of(part(text, value.start, value.end)),
-        None => Some(b""),
+        Some(value) => text_in(alloc, text, value, are_text),
+        None => Ok(Some(b"")),
     }
 }
 
@@ -268,6 +274,7 @@ fn chain_in(
     text: &[u8],
     indent: &[u8],
     call: &CallAt,
+    are_text: bool,
     variable: Extent,
     programs: Extent,
 ) -> Result<Option<Vec<u8>>, AllocError>
@@ -280,13 +287,13 @@ fn chain_in(
     ensures { IfOk result (λ o.
         IfSome o (λ v. specs.IsChain text.now (macro_call_of call.now) v.items)) }
 {
-    let Some(name) = text_of(part(text, variable.start, variable.end)) else {
+    let Some(name) = text_in(alloc, text, variable, are_text)? else {
         return Ok(None);
     };
-    let Some(list) = text_of(part(text, programs.start, programs.end)) else {
+    let Some(list) = text_in(alloc, text, programs, are_text)? else {
         return Ok(None);
     };
-    let Some(value) = value_of(text, call) else {
+    let Some(value) = value_of(alloc, text, call, are_text)? else {
         return Ok(None);
     };
     if !is_c_name(name) || !is_value(value) {
@@ -302,6 +309,7 @@ fn chain_of(
     text: &[u8],
     indent: &[u8],
     call: &CallAt,
+    are_text: bool,
 ) -> Result<Option<Vec<u8>>, AllocError>
     requires { list_all is_space_or_return indent.now ≡ true }
     ensures { IfOk result (λ o.
@@ -316,7 +324,7 @@ fn chain_of(
     let Some(programs) = argument(call, 1) else {
         return Ok(None);
     };
-    chain_in(alloc, text, indent, call, variable, programs)
+    chain_in(alloc, text, indent, call, are_text, variable, programs)
 }
 
 /// Writes lines in the place of a call.
@@ -352,7 +360,8 @@ pub fn pass_chain(
     if !can_be_made(known, text, spot, call) {
         return Ok(());
     }
-    match chain_of(alloc, text, line_indent(text, spot), call)? {
+    let are_text = takes_words(idioms, known, text, call);
+    match chain_of(alloc, text, line_indent(text, spot), call, are_text)? {
         Some(put) => put_chain(idioms, text, call, put.as_slice(), pass),
         None => Ok(()),
     }

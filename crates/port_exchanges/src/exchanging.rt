@@ -10,6 +10,7 @@ ghost use Rattle.port_passes.specs.Exchanged as specs;
 ghost use Rattle.port_passes.specs.Rewritten as rewritten;
 
 use crate::chains::put_both;
+use crate::reading::{takes_words, text_in};
 use ac_calls::{CallAt, Extent};
 use lint_text::part;
 use port_definitions::argument;
@@ -157,6 +158,7 @@ fn found_with(
     alloc: Global,
     text: &[u8],
     call: &CallAt,
+    are_text: bool,
     name: &[u8],
     list: Extent,
     action: Extent,
@@ -170,7 +172,7 @@ fn found_with(
     ensures { IfOk result (λ o.
         IfSome o (λ v. specs.IsFirstFound text.now (macro_call_of call.now) v.items)) }
 {
-    let Some(words) = text_of(part(text, list.start, list.end)) else {
+    let Some(words) = text_in(alloc, text, list, are_text)? else {
         return Ok(None);
     };
     if !is_breaking(text, action) {
@@ -180,7 +182,12 @@ fn found_with(
 }
 
 /// Returns what is put in the place of a call that looks for the first of two.
-fn found_in(alloc: Global, text: &[u8], call: &CallAt) -> Result<Option<Vec<u8>>, AllocError>
+fn found_in(
+    alloc: Global,
+    text: &[u8],
+    call: &CallAt,
+    are_text: bool,
+) -> Result<Option<Vec<u8>>, AllocError>
     ensures { IfOk result (λ o.
         IfSome o (λ v. specs.IsFirstFound text.now (macro_call_of call.now) v.items)) }
 {
@@ -193,7 +200,7 @@ fn found_in(alloc: Global, text: &[u8], call: &CallAt) -> Result<Option<Vec<u8>>
     let Some(action) = argument(call, 1) else {
         return Ok(None);
     };
-    found_with(alloc, text, call, name, list, action)
+    found_with(alloc, text, call, are_text, name, list, action)
 }
 
 /// Writes the calls that look for the second of two if the first one is not there.
@@ -229,7 +236,8 @@ pub fn pass_first_found(
     if !can_be_made(known, text, spot, call) {
         return Ok(());
     }
-    match found_in(alloc, text, call)? {
+    let are_text = takes_words(idioms, known, text, call);
+    match found_in(alloc, text, call, are_text)? {
         Some(put) => put_first_found(idioms, text, call, put.as_slice(), pass),
         None => Ok(()),
     }

@@ -10,14 +10,15 @@
 //! ```
 //!
 //! Read `specs/Exchanged`, `specs/Chains` and `specs/Pathed` of `port_passes`, and then `exchanging`,
-//! `chains`, `cached` and `pathed`. `types` finds the old form of AC_CHECK_TYPE, and knows the names of
-//! C. A call fails only if memory runs out.
+//! `chains`, `cached` and `pathed`. `reading` has the texts of arguments. `types` finds the old form of
+//! AC_CHECK_TYPE, and knows the names of C. A call fails only if memory runs out.
 #![tactic(auto)]
 
 mod cached;
 mod chains;
 mod exchanging;
 mod pathed;
+mod reading;
 mod types;
 
 pub use cached::pass_cached;

@@ -12,10 +12,10 @@ ghost use Rattle.port_passes.specs.Pathed as specs;
 ghost use Rattle.port_passes.specs.Rewritten as rewritten;
 
 use crate::chains::is_value_byte;
+use crate::reading::{takes_words, text_in};
 use ac_calls::{CallAt, Extent};
-use lint_text::part;
 use port_definitions::argument;
-use port_idioms::{Idioms, text_of};
+use port_idioms::Idioms;
 use port_passes::{Pass, can_be_made, put_made};
 use port_spots::{Known, Spot, difference, line_indent, put_text};
 use std::alloc::{AllocError, Global};
@@ -54,12 +54,24 @@ fn is_path(path: &[u8]) -> bool
 }
 
 /// Returns the path that an argument is, if it may be one.
-fn path_in(text: &[u8], arg: Extent) -> Option<&[u8]>
-    ensures { IfSome result (λ p.
-        (p.now ≡ text_of (Some (arg_text text.now arg))) × (specs.is_path p.now ≡ true)) }
+fn path_in<'a>(
+    alloc: Global,
+    text: &'a [u8],
+    arg: Extent,
+    are_text: bool,
+) -> Result<Option<&'a [u8]>, AllocError>
+    ensures { IfOk result (λ o.
+        IfSome o (λ p.
+        (p.now ≡ text_of (Some (arg_text text.now arg))) × (specs.is_path p.now ≡ true))) }
 {
-    let path = text_of(part(text, arg.start, arg.end))?;
-    if is_path(path) { Some(path) } else { None }
+    let Some(path) = text_in(alloc, text, arg, are_text)? else {
+        return Ok(None);
+    };
+    if is_path(path) {
+        Ok(Some(path))
+    } else {
+        Ok(None)
+    }
 }
 
 /// Returns the name of the macro of a call that has four arguments, if the fourth is a path.
@@ -170,6 +182,7 @@ fn pathed_in(
     text: &[u8],
     indent: &[u8],
     call: &CallAt,
+    are_text: bool,
     third: Extent,
     fourth: Extent,
 ) -> Result<Option<Vec<u8>>, AllocError>
@@ -182,7 +195,7 @@ fn pathed_in(
     let Some(name) = name_of(text, call) else {
         return Ok(None);
     };
-    let Some(path) = path_in(text, fourth) else {
+    let Some(path) = path_in(alloc, text, fourth, are_text)? else {
         return Ok(None);
     };
     if third.end < call.start || text.len() < third.end {
@@ -199,6 +212,7 @@ fn pathed_of(
     text: &[u8],
     indent: &[u8],
     call: &CallAt,
+    are_text: bool,
 ) -> Result<Option<Vec<u8>>, AllocError>
     requires { list_all is_space_or_return indent.now ≡ true }
     ensures { IfOk result (λ o.
@@ -210,7 +224,7 @@ fn pathed_of(
     let Some(fourth) = argument(call, 3) else {
         return Ok(None);
     };
-    pathed_in(alloc, text, indent, call, third, fourth)
+    pathed_in(alloc, text, indent, call, are_text, third, fourth)
 }
 
 /// Returns the lines that are put in the place of a call, if it looks for a program along a path of
@@ -220,12 +234,13 @@ fn made_of(
     text: &[u8],
     indent: &[u8],
     call: &CallAt,
+    are_text: bool,
 ) -> Result<Option<Vec<u8>>, AllocError>
     requires { list_all is_space_or_return indent.now ≡ true }
     ensures { IfOk result (λ o.
         IfSome o (λ v. made.IsMade text.now (macro_call_of call.now) v.items)) }
 {
-    let lines = pathed_of(alloc, text, indent, call)?;
+    let lines = pathed_of(alloc, text, indent, call, are_text)?;
     Ok(lines)
 }
 
@@ -236,6 +251,7 @@ fn put_pathed(
     text: &[u8],
     indent: &[u8],
     call: &CallAt,
+    are_text: bool,
     pass: &mut Pass,
 ) -> Result<(), AllocError>
     requires call { Contains (calls_in text.now) (macro_call_of call.now) }
@@ -244,7 +260,7 @@ fn put_pathed(
     requires begun { rewritten.IsPass idioms text.now pass.old.at pass.old.out.items }
     ensures { OnOk result (rewritten.IsPass idioms text.now pass.new.at pass.new.out.items) }
 {
-    match made_of(alloc, text, indent, call)? {
+    match made_of(alloc, text, indent, call, are_text)? {
         Some(put) => put_made(idioms, text, call, put.as_slice(), pass),
         None => Ok(()),
     }
@@ -269,8 +285,9 @@ pub fn pass_path(
         return Ok(());
     }
     let indent = line_indent(text, spot);
+    let are_text = takes_words(idioms, known, text, call);
     match idioms {
         Idioms::Exact => Ok(()),
-        Idioms::All => put_pathed(alloc, idioms, text, indent, call, pass),
+        Idioms::All => put_pathed(alloc, idioms, text, indent, call, are_text, pass),
     }
 }

@@ -230,6 +230,7 @@ AC_PATH_PROGS([A],^J  [b-1 c.d^J   e+], /f/g) => AC_PATH_PROG([A], [b-1])^JAS_IF
 AS_IF([:], [AC_PATH_PROGS([A], [b])]) => AS_IF([:], [AC_PATH_PROG([A], [b])])
 // it has a path, or words that are not plain
 AC_PATH_PROGS([A], [b c], [], [/d]) => the same
+AC_PATH_PROGS(LPD_LOG, b c, /d) => the same
 AC_PATH_PROGS([A], [b $c]) => the same
 AC_PATH_PROGS([A], []) => the same
 AC_PATH_PROGS([A]) => the same
@@ -324,6 +325,11 @@ AC_PREFIX_DEFAULT([/a])^JAC_MSG_NOTICE([in ${libdir}])^JAC_OUTPUT => the same
 AC_HAVE_FUNCS(MY_X) => AC_CHECK_FUNCS([MY_X])
 AC_HAVE_FUNCS(AC_X) => the same
 AC_DEFUN([MY_X], [$1])^JAC_HAVE_FUNCS(MY_X) => the same
+AC_PATH_PROGS(LPD_LOG, b c, /d) => AC_PATH_PROG([LPD_LOG], [b])^JAS_IF([test -z "$LPD_LOG"], [AC_PATH_PROG([LPD_LOG], [c])])^JAS_IF([test -z "$LPD_LOG"], [LPD_LOG="/d"])
+AC_PATH_PROGS([A], B_C d) => AC_PATH_PROG([A], [B_C])^JAS_IF([test -z "$A"], [AC_PATH_PROG([A], [d])])
+AC_CHECK_FUNCS(A_B c_d, break) => AC_CHECK_FUNCS([A_B], [], [AC_CHECK_FUNCS([c_d])])
+AC_PATH_PROGS(AC_X, b) => the same
+AC_DEFUN([LPD_LOG], [$1])^JAC_PATH_PROGS(LPD_LOG, b) => the same
 "##;
 
 #[test]
@@ -339,6 +345,7 @@ AC_PATH_PROG([A], [b], [no], [$PATH:/sbin]) => dnl acrun: in place of AC_PATH_PR
 AC_CHECK_PROGS([A], [b c], [:], [/d]) => dnl acrun: in place of AC_CHECK_PROGS: PATH is set to the path of the call while the program is looked for^Jacrun_PATH=$PATH^JPATH="/d"^JAC_CHECK_PROGS([A], [b c], [:])^JPATH=$acrun_PATH
 AC_PATH_PROGS([A], [b c], [], [/d]) => dnl acrun: in place of AC_PATH_PROGS: PATH is set to the path of the call while the program is looked for^Jacrun_PATH=$PATH^JPATH="/d"^JAC_PATH_PROG([A], [b])^JAS_IF([test -z "$A"], [AC_PATH_PROG([A], [c])])^JPATH=$acrun_PATH
 AS_IF([:], [AC_PATH_PROG([A], [b], [], [/d])]) => AS_IF([:], [dnl acrun: in place of AC_PATH_PROG: PATH is set to the path of the call while the program is looked for^Jacrun_PATH=$PATH^JPATH="/d"^JAC_PATH_PROG([A], [b], [])^JPATH=$acrun_PATH])
+AC_PATH_PROG([A], [b], [], ${MY_DIR}:/c) => dnl acrun: in place of AC_PATH_PROG: PATH is set to the path of the call while the program is looked for^Jacrun_PATH=$PATH^JPATH="${MY_DIR}:/c"^JAC_PATH_PROG([A], [b], [])^JPATH=$acrun_PATH
 // the path is not plain, or a comment can't be above the call
 AC_PATH_PROG([A], [b], [], [`c`]) => the same
 AC_PATH_PROG([A], [b], [], [/c d]) => the same
