@@ -1,0 +1,3 @@
+mod Joining
+mod Keeping
+mod Supplies

@@ -1,0 +1,256 @@
+//! A crew that takes replies from the records of an earlier run.
+
+ghost use Rattle.std.specs.Prelude.{◌≡◌, ◌≢◌, ◌+◌, ◌^◌, ◌<◌, ◌≤◌, false, [], ◌∷◌, ◌++◌, OnOk, OnErr, IfNone, IfSome, OnSome, length, vec_capacity};
+ghost use Rattle.crew_trait.specs.Events.{busy, IsSomeBusy, failure_of};
+ghost use Rattle.crew_kept.specs.Taking.{AreTaken, HasReply, account_with};
+ghost use Rattle.crew_kept.specs.declared.placed.Step.TheVariants.{Happened, Refusal};
+ghost use Rattle.crew_trait.specs.declared.event.CrewEvent.TheVariants.{Started, Ended};
+
+use crate::links::is_link;
+use crate::placed::{Placed, Step, Waiting};
+use crate::room::put;
+use crate::supply::Supply;
+use crate::taken::Taken;
+use answers_text::Record;
+use crew_jobs::Job;
+use crew_trait::{Crew, CrewEvent, Refused, Reply};
+use std::alloc::{AllocError, Global};
+use std::marker::Model;
+
+/// A crew that takes replies from the records of an earlier run, and gives other jobs to the crew
+/// inside (own).
+///
+/// The reply to a start is taken if the records have one for an equal job at its number. From the
+/// first job on that differs from the one that the records have at its number, nothing is taken. If
+/// memory runs out, the crew inside gets the job.
+///
+/// A link is taken only if the records have the start after it too, which may run the program. That
+/// start is then taken or refused, and never reaches the crew inside: the program that it would run
+/// is of another link, or gone.
+#[derive(Drop)]
+pub struct Kept<C: Crew + Drop> {
+    crew: C,
+    alloc: Global,
+    supply: Supply,
+    // What was done without the crew inside, with room for the ends of the replies that wait, and for
+    // the refusal of the start after a link.
+    placed: Vec<Placed>,
+    waiting: Vec<Waiting>,
+    // Whether the last start was a link that was taken.
+    linked: bool,
+    // The number of events of the crew inside, and of starts that were tried here.
+    events: u64,
+    attempts: u64,
+}
+
+impl<C: Crew + Drop> Model for Kept<C> {
+    ghost use Rattle.std.specs.Prelude.{◌+◌, ◌≤◌, if◌then◌else◌, length, vec_capacity};
+    ghost use Rattle.crew_kept.specs.Taking.{IsKeeping, Keeping};
+
+    ghost Value = { Keeping C };
+
+    ghost view = { λ k. record { crew = k.crew; records = k.supply.records.items; placed = k.placed.items; waiting = k.waiting.items; linked = k.linked } };
+
+    ghost invariant = { λ k. IsKeeping (C.account k.crew) k.supply.records.items k.placed.items k.waiting.items k.linked k.events k.attempts
+        × (length k.placed.items + length k.waiting.items + (if k.linked then 1 else 0) ≤ vec_capacity k.placed) };
+}
+
+/// Makes room for a start, the end of it, the refusal of the next one, and the ends of those that
+/// wait.
+fn make_room(placed: &mut Vec<Placed>, waiting: &mut Vec<Waiting>) -> Result<(), AllocError>
+    ensures placed { placed.new.items ≡ placed.old.items }
+    ensures waiting { waiting.new.items ≡ waiting.old.items }
+    ensures grown { vec_capacity placed.old ≤ vec_capacity placed.new }
+    ensures room { OnOk result (
+        length placed.new.items + length waiting.new.items + 3 ≤ vec_capacity placed.new) }
+    ensures place { OnOk result (length waiting.new.items < vec_capacity waiting.new) }
+{
+    placed.reserve(waiting.len() + 3)?;
+    waiting.reserve(1)?;
+    Ok(())
+}
+
+/// Returns the reply that is taken for a job, if one is and there is room for its events.
+fn take(
+    alloc: Global,
+    supply: &mut Supply,
+    placed: &mut Vec<Placed>,
+    waiting: &mut Vec<Waiting>,
+    number: u64,
+    job: &Job,
+) -> Option<Taken>
+    requires { number < 2 ^ 63 }
+    ensures records { supply.new.records ≡ supply.old.records }
+    ensures placed { placed.new.items ≡ placed.old.items }
+    ensures waiting { waiting.new.items ≡ waiting.old.items }
+    ensures grown { vec_capacity placed.old ≤ vec_capacity placed.new }
+    ensures has { IfSome result (λ taken.
+        HasReply supply.old.records.items number job.now taken) }
+    ensures room { OnSome result (
+        length placed.new.items + length waiting.new.items + 3 ≤ vec_capacity placed.new) }
+    ensures place { OnSome result (length waiting.new.items < vec_capacity waiting.new) }
+{
+    let Some(taken) = supply.taken(alloc, number, job) else {
+        return None;
+    };
+    match make_room(placed, waiting) {
+        Ok(()) => Some(taken),
+        Err(_) => None,
+    }
+}
+
+/// Adds the start of a job, and the reply that was taken for it.
+fn put_start(
+    placed: &mut Vec<Placed>,
+    waiting: &mut Vec<Waiting>,
+    place: u64,
+    slot: usize,
+    job: Job,
+    number: u64,
+    taken: Taken,
+)
+    requires room { length placed.old.items + length waiting.old.items + 3 ≤ vec_capacity placed.old }
+    requires place { length waiting.old.items < vec_capacity waiting.old }
+    ensures placed { placed.new.items ≡ placed.old.items
+        ++ record { place = place; step = Happened (Started slot job number) } ∷ [] }
+    ensures waiting { waiting.new.items ≡ waiting.old.items ++ record { slot = slot; taken = taken } ∷ [] }
+    ensures room { length placed.new.items + length waiting.new.items + 1 ≤ vec_capacity placed.new }
+{
+    let event = CrewEvent::Started { slot, job, number };
+    let step = Step::Happened(event);
+    put(placed, Placed { place, step });
+    put(waiting, Waiting { slot, taken });
+}
+
+/// Adds the refusal of a start.
+fn put_refusal(placed: &mut Vec<Placed>, place: u64)
+    requires { length placed.old.items < vec_capacity placed.old }
+    ensures placed { placed.new.items ≡ placed.old.items ++ record { place = place; step = Refusal } ∷ [] }
+    ensures room { vec_capacity placed.old ≤ vec_capacity placed.new }
+{
+    let step = Step::Refusal;
+    put(placed, Placed { place, step });
+}
+
+/// Returns the reply that was taken last of those that wait, and adds its end.
+fn put_end(
+    placed: &mut Vec<Placed>,
+    waiting: &mut Vec<Waiting>,
+    place: u64,
+    number: u64,
+) -> Option<(usize, Reply)>
+    requires room { length placed.old.items + length waiting.old.items ≤ vec_capacity placed.old }
+    ensures none { IfNone result (waiting.old.items ≡ []) }
+    ensures left { IfNone result (waiting.new.items ≡ []) }
+    ensures kept { IfNone result (placed.new.items ≡ placed.old.items) }
+    ensures waiting { IfSome result (λ end. waiting.old.items
+        ≡ waiting.new.items ++ record { slot = end.0; taken = end.1 } ∷ []) }
+    ensures placed { IfSome result (λ end. placed.new.items ≡ placed.old.items
+        ++ record { place = place; step = Happened (Ended end.0 end.1 number) } ∷ []) }
+    ensures count { length placed.new.items + length waiting.new.items
+        ≤ length placed.old.items + length waiting.old.items }
+    ensures grown { vec_capacity placed.old ≤ vec_capacity placed.new }
+{
+    let Some(Waiting { slot, taken }) = waiting.pop() else {
+        return None;
+    };
+    let (reply, copy) = taken.both();
+    let event = CrewEvent::Ended {
+        slot,
+        reply: copy,
+        number,
+    };
+    let step = Step::Happened(event);
+    put(placed, Placed { place, step });
+    Some((slot, reply))
+}
+
+impl<C: Crew + Drop> Kept<C> {
+    /// Returns a crew around one that has started nothing, which takes replies from these records.
+    pub fn new(alloc: Global, crew: C, records: Vec<Record>) -> Kept<C>
+        requires events { (C.account crew).events ≡ [] }
+        requires attempts { (C.account crew).attempts ≡ 0 }
+        ensures { result ≡ record { crew = crew; records = records.items; placed = []; waiting = []; linked = false } }
+    {
+        Kept {
+            crew,
+            alloc,
+            supply: Supply::new(records),
+            placed: Vec::new(alloc),
+            waiting: Vec::new(alloc),
+            linked: false,
+            events: 0,
+            attempts: 0,
+        }
+    }
+
+    /// Returns the crew inside.
+    pub fn crew(&self) -> &C
+        ensures inner { result.now ≡ self.now.crew }
+        // Each reply that was taken is one that the records have for an equal job at its number. The
+        // start after a link that was taken never reaches the crew inside.
+        ensures taken { AreTaken self.now.records self.now.placed self.now.waiting
+            (account_with self.now.placed (C.account self.now.crew)).attempts self.now.linked }
+        // Without records nothing is taken, and the account is that of the crew inside.
+        ensures alone { self.now.records ≡ []
+            → account_with self.now.placed (C.account self.now.crew) ≡ C.account self.now.crew }
+    {
+        &self.crew
+    }
+}
+
+impl<C: Crew + Drop> Crew for Kept<C> {
+    ghost account = { λ k. account_with k.placed (C.account k.crew) };
+
+    fn start(&mut self, slot: usize, job: Job) -> Result<(), Refused> {
+        self.attempts += 1;
+        match take(
+            self.alloc,
+            &mut self.supply,
+            &mut self.placed,
+            &mut self.waiting,
+            self.attempts,
+            &job,
+        ) {
+            Some(taken) => {
+                self.linked = is_link(&job);
+                put_start(
+                    &mut self.placed,
+                    &mut self.waiting,
+                    self.events,
+                    slot,
+                    job,
+                    self.attempts,
+                    taken,
+                );
+                Ok(())
+            }
+            None => {
+                if self.linked {
+                    self.linked = false;
+                    put_refusal(&mut self.placed, self.events);
+                    return Err(Refused);
+                }
+                self.crew.start(slot, job)?;
+                self.events += 1;
+                Ok(())
+            }
+        }
+    }
+
+    fn next(&mut self) -> (usize, Reply) {
+        match put_end(
+            &mut self.placed,
+            &mut self.waiting,
+            self.events,
+            self.attempts,
+        ) {
+            Some(end) => end,
+            None => {
+                let end = self.crew.next();
+                self.events += 1;
+                end
+            }
+        }
+    }
+}
