@@ -340,7 +340,7 @@ def of_statements(found):
 # What docs/commands.md states of the lines that --idioms writes below AC_PROG_CC.
 OF_SETUP = ("commands", "they set CFLAGS to `-g -O2` if it is empty")
 OF_HEADERS = ("commands", "Flags that the source sets below AC_PROG_CC don't count for these headers")
-OF_STANDARD = ("commands", "and define STDC_HEADERS, unless the source names that")
+OF_STANDARD = ("commands", "and define STDC_HEADERS, unless an AC_DEFINE or AC_DEFINE_UNQUOTED does in such a place")
 
 
 def of_setup(found, ported):
