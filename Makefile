@@ -9,7 +9,7 @@
 # make edits    tries the wrong bodies of every crate, or of those that NAMES names: make edits NAMES="crew plan"
 # make edits-test  tries the script that does it
 # make plants   tries the wrong bodies that tests alone refuse, of every crate, or of those that NAMES names
-# make install  puts the programs, acrun-compare, the manual pages, completions, share/configure and macros of rpm below $(DESTDIR)$(prefix)
+# make install  puts the programs, acrun-compare, the manual pages, completions, share/configure, share/port and macros of rpm below $(DESTDIR)$(prefix)
 # make uninstall  removes them
 # make dist     makes an archive of the programs for machines without the toolchain, out/acrun-VERSION-x86_64-linux.tar.gz
 # make deb      makes a Debian package of the same files, with a build system and an add-on of debhelper
@@ -67,6 +67,8 @@ demo: all
 ports: all
 	@sh examples/ports/run.sh out/acrun || [ $$? -eq 77 ]
 	@sh examples/debian/run.sh out/acrun || [ $$? -eq 77 ]
+	@sh examples/debian/port.sh out/acrun || [ $$? -eq 77 ]
+	@sh examples/debian/unpatched.sh out/acrun || [ $$? -eq 77 ]
 	@sh examples/rpm/run.sh out/acrun || [ $$? -eq 77 ]
 
 compile:
@@ -97,6 +99,7 @@ install-files:
 	[ -z "$(tools)" ] || install -m 755 "$(tools)" "$(DESTDIR)$(bindir)/acrun-tools"
 	install -m 755 share/acrun-compare "$(DESTDIR)$(bindir)/acrun-compare"
 	install -m 755 share/configure "$(DESTDIR)$(datadir)/acrun/configure"
+	[ -z "$(tools)" ] || install -m 755 share/port "$(DESTDIR)$(datadir)/acrun/port"
 	install -m 644 share/acrun.1 "$(DESTDIR)$(mandir)/man1/acrun.1"
 	install -m 644 share/acrun-compare.1 "$(DESTDIR)$(mandir)/man1/acrun-compare.1"
 	[ -z "$(tools)" ] || install -m 644 share/acrun-tools.1 "$(DESTDIR)$(mandir)/man1/acrun-tools.1"
@@ -107,7 +110,7 @@ install-files:
 
 uninstall:
 	rm -f "$(DESTDIR)$(bindir)/acrun" "$(DESTDIR)$(datadir)/acrun/configure" "$(DESTDIR)$(mandir)/man1/acrun.1"
-	rm -f "$(DESTDIR)$(bindir)/acrun-tools" "$(DESTDIR)$(mandir)/man1/acrun-tools.1"
+	rm -f "$(DESTDIR)$(bindir)/acrun-tools" "$(DESTDIR)$(mandir)/man1/acrun-tools.1" "$(DESTDIR)$(datadir)/acrun/port"
 	rm -f "$(DESTDIR)$(bindir)/acrun-compare" "$(DESTDIR)$(mandir)/man1/acrun-compare.1"
 	rm -f "$(DESTDIR)$(bashdir)/acrun" "$(DESTDIR)$(zshdir)/_acrun" "$(DESTDIR)$(fishdir)/acrun.fish"
 	rm -f "$(DESTDIR)$(rpmmacrodir)/macros.acrun"

@@ -74,7 +74,7 @@ Section: devel
 Priority: optional
 Architecture: amd64
 Depends: libc6 (>= $(glibc))
-Provides: dh-sequence-acrun
+Provides: dh-sequence-acrun, dh-sequence-acrun-port
 Enhances: debhelper
 Installed-Size: $(installed_size)
 Maintainer: $(git log -1 --format='%an <%ae>')

@@ -38,7 +38,7 @@ sub configure {
 sub build {
 	my ($this, @words) = @_;
 	-e $this->get_buildpath('config.status')
-		or error('acrun has not configured it: if debian/rules calls dh_auto_configure itself, give it --buildsystem=acrun');
+		or error('acrun has not configured it: if debian/rules calls dh_auto_configure itself, give it --buildsystem=' . $this->NAME);
 	return $this->SUPER::build(@words);
 }
 

@@ -7,8 +7,11 @@ use Debian::Debhelper::Dh_Lib;
 remove_command('dh_autoreconf');
 remove_command('dh_autoreconf_clean');
 
-for my $command (qw(dh_auto_configure dh_auto_build dh_auto_test dh_auto_install dh_auto_clean)) {
-	add_command_options($command, '--buildsystem=acrun');
+# If the add-on acrun-port is there too, its build system is the one, whichever comes first.
+if (!$INC{'Debian/Debhelper/Sequence/acrun_port.pm'}) {
+	for my $command (qw(dh_auto_configure dh_auto_build dh_auto_test dh_auto_install dh_auto_clean)) {
+		add_command_options($command, '--buildsystem=acrun');
+	}
 }
 
 1;
