@@ -1,5 +1,5 @@
 #!/bin/sh
-# Builds a package by rpmbuild with the macro %acrun_configure.
+# Builds a package by rpmbuild with the macro %acrun_configure, and one that %acrun_port ports first.
 #   run.sh PROGRAM
 # The program and what `make install` puts beside it are in a directory of their own: nothing is installed. The package is examples/tally.
 # If rpmbuild or a C compiler is missing, the script says so and ends with 77. It ends with 1 if something is otherwise than it should be.
@@ -47,7 +47,8 @@ END
 # built WORD..: rpmbuild of the package, with these words for env. The status is that of rpmbuild.
 built() {
     env "PATH=$work/root/usr/bin:$PATH" "$@" rpmbuild -bb --load "$macros" --define "_topdir $work/tree" --define "_sourcedir $work" \
-        --define "_acrun_configure $work/root/usr/share/acrun/configure" "$work/tally.spec" > "$work/log" 2>&1
+        --define "_acrun_configure $work/root/usr/share/acrun/configure" --define "_acrun_port $work/root/usr/share/acrun/port" \
+        "$work/tally.spec" > "$work/log" 2>&1
 }
 
 (cd "$top" && make -s install-files "DESTDIR=$work/root" prefix=/usr "program=$program") > "$work/log" 2>&1 || { cat "$work/log"; exit 1; }
@@ -98,5 +99,42 @@ END
 rm -rf "$work/tree"
 ! built CC=/nowhere/cc || wrong 'it is built without a compiler'
 has ': /nowhere/cc: No such file or directory'
+
+# A configure.in of the older kind, which is ported first. The version is that of the package, since a macro makes that of AC_INIT.
+# shellcheck disable=SC2016
+(cd "$work/tally" && sed -e 's/^AC_INIT(\[tally\], \[1.0\]/AC_INIT([tally], m4_esyscmd([cat VERSION])/' -e 's/AC_CONFIG_HEADERS(/AC_CONFIG_HEADER(/' \
+    -e 's/^AC_OUTPUT$/if test "$enable_bars" = yes; then\n  AC_MSG_NOTICE([with bars])\nfi\n&/' configure.ac > configure.in && rm configure.ac) || exit 2
+tar -C "$work" -cf "$work/tally.tar" tally
+spec << 'END'
+%acrun_port
+test "$(stat -c %y configure.ac)" = "$(stat -c %y configure.in)"
+%acrun_configure
+%make_build
+END
+rm -rf "$work/tree"
+rows=$((rows + 1))
+built A=1 || { wrong 'rpmbuild fails with a configure.in'; tail -n 15 "$work/log"; }
+has '+AC_INIT([tally], [1.0]'
+has '+AC_CONFIG_HEADERS([config.h])'
+has 'acrun: child 1: '
+rows=$((rows + 1))
+[ -n "$(find "$work/tree" -name 'tally-1.0-1.*.rpm')" ] || wrong 'there is no package of what was ported'
+
+# A source in another directory, with a line that is left to do.
+printf 'AM_PATH_NOTHING([1.0])\n' >> "$work/tally/configure.in"
+sed -i '$!{/^AC_OUTPUT$/d}' "$work/tally/configure.in" && echo AC_OUTPUT >> "$work/tally/configure.in"
+tar -C "$work" -cf "$work/tally.tar" tally
+spec << 'END'
+cd ..
+%acrun_port tally
+echo it went on
+END
+rm -rf "$work/tree"
+rows=$((rows + 1))
+! built A=1 || wrong 'rpmbuild goes on with a line that is left to do'
+has 'acrun does not know the macro AM_PATH_NOTHING'
+has 'acrun port: 1 line is left to do'
+rows=$((rows + 1))
+! grep -q '^it went on' "$work/log" || wrong 'the build goes on'
 [ "$failed" = 0 ] && echo "rpm: $rows rows as they should be"
 exit $failed
