@@ -6,7 +6,7 @@ ghost use Rattle.port_definitions.specs.Defined.{is_of_name};
 ghost use Rattle.port_spots.specs.Put as specs;
 
 use crate::spots::Spot;
-use lint_text::{before, from, part};
+use lint_text::{before, from, is_word_byte, part};
 use port_definitions::{is_dropped, is_of_name, last_line, space_len};
 use text_cut::{is_blank_or_return, is_space_or_return};
 
@@ -159,8 +159,51 @@ pub fn ends_in_word(text: &[u8]) -> bool {
     is_word && !before.is_some_and(|byte| !is_blank_or_return(*byte) && *byte != b';')
 }
 
+/// Returns whether a statement may come after this text on its line: a call, a separator, the begin
+/// of an argument, `then` or `else` is at its end.
+fn may_precede(text: &[u8]) -> bool {
+    ends_in_word(text)
+        || text
+            .last()
+            .is_some_and(|byte| matches!(*byte, b')' | b';' | b'[' | b'(' | b','))
+}
+
+/// Returns what is before the first `dnl` of a line that has no `#` before it.
+fn before_drop(line: &[u8]) -> Option<&[u8]> {
+    let mut is_in_word = false;
+    for at in 0..line.len() {
+        if line[at] == b'#' {
+            return None;
+        }
+        if !is_in_word && is_dropped(from(line, at)) {
+            return Some(before(line, at));
+        }
+        is_in_word = is_word_byte(line[at]);
+    }
+    None
+}
+
+/// Returns whether `dnl` joins the line at an offset to a command above it.
+fn is_joined_to_command(text: &[u8], line: usize) -> bool {
+    let mut front = before(text, line);
+    for _ in 0..text.len() {
+        let above = before(front, front.len().saturating_sub(1));
+        let start = last_line(above);
+        let Some(kept) = before_drop(from(above, start)) else {
+            return false;
+        };
+        let kept = without_end_blanks(kept);
+        if !kept.is_empty() {
+            return !may_precede(kept);
+        }
+        front = before(above, start);
+    }
+    false
+}
+
 /// Returns whether a statement may begin at a place: an argument begins there, `then` or `else` is
-/// before it on its line, or nothing is, and no operator ends the line before.
+/// before it on its line, or nothing is, and neither an operator ends the line before, nor `dnl`
+/// joins the line to a command.
 pub fn begins_statement(text: &[u8], spot: Spot, at: usize) -> bool {
     let before = without_end_blanks(text_before(text, spot, at));
     match before.last() {
@@ -168,7 +211,8 @@ pub fn begins_statement(text: &[u8], spot: Spot, at: usize) -> bool {
         Some(_) if !spot.is_first && ends_in_word(before) => true,
         Some(byte) => {
             let is_joined = matches!(*byte, b'&' | b'|' | b'\\' | b'!');
-            matches!(*byte, b'[' | b'(' | b',') || spot.is_first && !is_joined
+            let begins = matches!(*byte, b'[' | b'(' | b',') || spot.is_first && !is_joined;
+            begins && !(spot.is_first && is_joined_to_command(text, spot.line))
         }
     }
 }
