@@ -308,6 +308,13 @@ m4_pattern_allow([AC_FOO])^JAC_FOO=1 => m4_pattern_allow([AC_FOO])^J[AC_FOO]=1
 m4_pattern_allow([FOO])^Ja="AM_[FOO]" => the same
 m4_pattern_allow([^FOO$])^Ja="MY_FOO LIB" => the same
 m4_pattern_allow([_?FOO])^Ja=1 => the same
+// `dnl` joins the call to what is before it
+a=b dnl c^JAC_HAVE_FUNCS(d) => the same
+a=b dnl c^Jdnl e^JAC_HAVE_FUNCS(d) => the same
+a=b dnl c^J^JAC_HAVE_FUNCS(d) => a=b dnl c^J^JAC_CHECK_FUNCS([d])
+a=b; dnl c^JAC_HAVE_FUNCS(d) => a=b; dnl c^JAC_CHECK_FUNCS([d])
+AC_SUBST([A]) dnl c^JAC_HAVE_FUNCS(d) => AC_SUBST([A]) dnl c^JAC_CHECK_FUNCS([d])
+# a dnl c^JAC_HAVE_FUNCS(d) => # a dnl c^JAC_CHECK_FUNCS([d])
 "##;
 
 #[test]
