@@ -1,3 +1,5 @@
+mod Indexed
 mod Joining
 mod Keeping
-mod Supplies
+mod Linking
+mod Recorded

@@ -1,3 +1,5 @@
+pub mod Index
 pub mod Links
 pub mod Offers
+pub mod Records
 pub mod Taking

@@ -1,39 +1,19 @@
 -- Replies that are taken from the records of an earlier run, and the account of a run that takes some.
-use Rattle.std.specs.Prelude.{◌≡◌, ℕ, ◌+◌, ◌-◌, ◌^◌, ◌≤◌, ◌==◌, Bool, true, false, List, [], ◌∷◌, ◌++◌, drop, length, map, take, if◌then◌else◌}
+use Rattle.std.specs.Prelude.{◌≡◌, ℕ, ◌+◌, ◌-◌, ◌^◌, ◌≤◌, ◌==◌, Bool, true, false, List, [], ◌∷◌, ◌++◌, None, Some, drop, length, map, take, if◌then◌else◌}
 use Rattle.crew_jobs.specs.declared.job.Job.{Job}
 use Rattle.crew_trait.specs.Events.{Account, busy}
 use Rattle.crew_trait.specs.declared.reply.Reply.{Reply}
-use Rattle.crew_trait.specs.declared.reply.Reply.TheVariants.{Answer}
 use Rattle.crew_trait.specs.declared.event.CrewEvent.{CrewEvent}
 use Rattle.crew_trait.specs.declared.event.CrewEvent.TheVariants.{Started, Ended}
-use Rattle.answers_text.specs.Texts.{job_text}
 use Rattle.answers_text.specs.declared.record.Record.{Record}
-use Rattle.crew_kept.specs.Links.{is_link}
+use Rattle.crew_kept.specs.Links.{after_asked, after_taken, is_refused}
+use Rattle.crew_kept.specs.Records.{after_start, answer_of}
+use Rattle.crew_kept.specs.declared.state.State.{State}
+use Rattle.crew_kept.specs.declared.state.State.TheVariants.{Open, Lacked}
 use Rattle.crew_kept.specs.declared.placed.Step.{Step}
 use Rattle.crew_kept.specs.declared.placed.Step.TheVariants.{Happened, Refusal}
 use Rattle.crew_kept.specs.declared.placed.Placed.{Placed}
 use Rattle.crew_kept.specs.declared.placed.Waiting.{Waiting}
-
--- One of the records has this number. (own)
-pub record IsOf (records : List Record) (number : ℕ) (it : Record) : Type 0 where
-  pub earlier : List Record
-  pub later : List Record
-  pub is_one : records ≡ earlier ++ it ∷ later
-  pub number_is : it.number ≡ number
-
--- Some record has this number. (own)
-pub record HasNumber (records : List Record) (number : ℕ) : Type 0 where
-  pub it : Record
-  pub is_of : IsOf records number it
-
--- The records have this reply for the job at the start of this number. If the job links a program, they also have the start after
--- it. (own)
-pub record HasReply (records : List Record) (number : ℕ) (job : Job) (reply : Reply) : Type 0 where
-  pub it : Record
-  pub is_of : IsOf records number it
-  pub job_is : it.job ≡ job_text job
-  pub reply_is : reply ≡ Answer it.status it.text
-  pub followed : is_link job ≡ true → HasNumber records (number + 1)
 
 -- The starts of an event: one, or none if it is the end of a child. (own)
 abbrev pub starts_of : CrewEvent → ℕ
@@ -82,22 +62,38 @@ abbrev pub account_with : List Placed → Account → Account
 account_with placed a =
     record { events = joined 0 0 placed a.events; attempts = a.attempts + own_starts placed; failures = a.failures + own_refusals placed }
 
--- What was done of each start, after so many of them, and whether the last one was a link that was taken. A start is asked of the
--- crew inside only if the one before it wasn't such a link: it may run the program, which the crew inside didn't link. A start is
--- taken only if the records have a reply for it, and an end returns such a reply. A start is refused here only after a link that
--- was taken. `waiting` are the replies that weren't returned yet. (own)
-pub data AreTaken (records : List Record) : List Placed → List Waiting → ℕ → Bool → Type 0 where
-  nothing_yet : AreTaken records [] [] 0 false
-  asked : {placed : List Placed} {waiting : List Waiting} (attempts : ℕ) → AreTaken records placed waiting attempts false → AreTaken records placed waiting (attempts + 1) false
-  taken : {placed : List Placed} {waiting : List Waiting} (was_link : Bool) (place slot attempts : ℕ) (job : Job) (reply : Reply) → HasReply records (attempts + 1) job reply
-      → AreTaken records placed waiting attempts was_link
+-- What was done of each start, after so many of them. `waiting` are the replies that weren't returned yet, and `events` those of the
+-- crew inside. The flag says whether the link that was started last was taken, and the state how far replies are taken. Each start
+-- for which the records have a reply is taken. Any other one is given to the crew inside, which starts or refuses it. Only if it may
+-- run a program, and the last link was taken, it is refused here. Memory may run out at any time, and then nothing more is taken.
+-- (own)
+pub data AreTaken (records : List Record) : List Placed → List Waiting → List CrewEvent → ℕ → Bool → State → Type 0 where
+  nothing_yet : AreTaken records [] [] [] 0 false Open
+  lacked : {placed : List Placed} {waiting : List Waiting} {events : List CrewEvent} {linked : Bool} (attempts : ℕ) (state : State) → AreTaken records placed waiting events attempts linked state
+      → AreTaken records placed waiting events attempts linked Lacked
+  taken : {placed : List Placed} {waiting : List Waiting} {events : List CrewEvent} (linked : Bool) (state : State) (place slot attempts : ℕ) (job : Job) (reply : Reply)
+      → answer_of state records (attempts + 1) job ≡ Some reply
+      → AreTaken records placed waiting events attempts linked state
       → AreTaken records (placed ++ record { place = place; step = Happened (Started slot job (attempts + 1)) } ∷ [])
-      (waiting ++ record { slot = slot; taken = reply } ∷ []) (attempts + 1) (is_link job)
-  refused : {placed : List Placed} {waiting : List Waiting} (place attempts : ℕ) → AreTaken records placed waiting attempts true
-      → AreTaken records (placed ++ record { place = place; step = Refusal } ∷ []) waiting (attempts + 1) false
-  returned : {placed : List Placed} (waiting : List Waiting) (was_link : Bool) (place slot attempts : ℕ) (reply : Reply)
-      → AreTaken records placed (waiting ++ record { slot = slot; taken = reply } ∷ []) attempts was_link
-      → AreTaken records (placed ++ record { place = place; step = Happened (Ended slot reply attempts) } ∷ []) waiting attempts was_link
+      (waiting ++ record { slot = slot; taken = reply } ∷ []) events (attempts + 1) (after_taken linked job) state
+  asked : {placed : List Placed} {waiting : List Waiting} (events : List CrewEvent) (linked : Bool) (state : State) (slot number attempts : ℕ) (job : Job)
+      → answer_of state records (attempts + 1) job ≡ None → is_refused linked job ≡ false
+      → AreTaken records placed waiting events attempts linked state
+      → AreTaken records placed waiting (events ++ Started slot job number ∷ []) (attempts + 1) (after_asked linked job) (after_start state records (attempts + 1) job)
+  not_started : {placed : List Placed} {waiting : List Waiting} {events : List CrewEvent} {linked : Bool} (state : State) (attempts : ℕ) (job : Job)
+      → answer_of state records (attempts + 1) job ≡ None → is_refused linked job ≡ false
+      → AreTaken records placed waiting events attempts linked state
+      → AreTaken records placed waiting events (attempts + 1) linked (after_start state records (attempts + 1) job)
+  refused : {placed : List Placed} {waiting : List Waiting} {events : List CrewEvent} (linked : Bool) (state : State) (place attempts : ℕ) (job : Job)
+      → answer_of state records (attempts + 1) job ≡ None → is_refused linked job ≡ true
+      → AreTaken records placed waiting events attempts linked state
+      → AreTaken records (placed ++ record { place = place; step = Refusal } ∷ []) waiting events (attempts + 1) false (after_start state records (attempts + 1) job)
+  returned : {placed : List Placed} {events : List CrewEvent} {linked : Bool} {state : State} (waiting : List Waiting) (place slot attempts : ℕ) (reply : Reply)
+      → AreTaken records placed (waiting ++ record { slot = slot; taken = reply } ∷ []) events attempts linked state
+      → AreTaken records (placed ++ record { place = place; step = Happened (Ended slot reply attempts) } ∷ []) waiting events attempts linked state
+  ended : {placed : List Placed} {waiting : List Waiting} {linked : Bool} {state : State} (events : List CrewEvent) (slot number attempts : ℕ) (reply : Reply)
+      → AreTaken records placed waiting events attempts linked state
+      → AreTaken records placed waiting (events ++ Ended slot reply number ∷ []) attempts linked state
 
 -- How often a slot has a reply that was taken. (own)
 abbrev pub times : ℕ → List Waiting → ℕ
@@ -125,20 +121,26 @@ pub record EndsOnce (account : Account) : Type 0 where
   pub few : length account.events + length slots ≤ account.attempts + account.attempts
 
 -- What contracts see of the crew: the crew inside, the records, the starts that were taken or refused with the ends that were
--- returned, the replies that wait, and whether the last start was a link that was taken. (own)
+-- returned, the replies that wait, whether the link that was started last was taken, and how far replies are taken. (own)
 pub record Keeping (C : Type 0) : Type 0 where
   pub crew : C
   pub records : List Record
   pub placed : List Placed
   pub waiting : List Waiting
   pub linked : Bool
+  pub state : State
+
+-- What is known of the records. (own)
+pub record Supplied : Type 0 where
+  pub records : List Record
+  pub state : State
 
 -- The invariant: what is counted of the crew inside, and what was done of each start. (own)
-pub record IsKeeping (account : Account) (records : List Record) (placed : List Placed) (waiting : List Waiting) (linked : Bool) (events attempts : ℕ) : Type 0 where
+pub record IsKeeping (account : Account) (records : List Record) (placed : List Placed) (waiting : List Waiting) (linked : Bool) (state : State) (events attempts : ℕ) : Type 0 where
   pub counted : events ≡ length account.events
   pub tried : attempts ≡ account.attempts + own_starts placed
   pub few : attempts ≤ 2 ^ 62
   pub ends_once : EndsOnce account
   pub in_place : ArePlaced 0 (length account.events) placed
   pub shares : SharesSlots (joined 0 0 placed account.events) account.events waiting
-  pub are_taken : AreTaken records placed waiting attempts linked
+  pub are_taken : AreTaken records placed waiting account.events attempts linked state

@@ -1,12 +1,14 @@
 //! A crew that takes replies from the records of an earlier run.
 
-ghost use Rattle.std.specs.Prelude.{◌≡◌, ◌≢◌, ◌+◌, ◌^◌, ◌<◌, ◌≤◌, false, [], ◌∷◌, ◌++◌, OnOk, OnErr, IfNone, IfSome, OnSome, length, vec_capacity};
+ghost use Rattle.std.specs.Prelude.{◌≡◌, ◌≢◌, ◌+◌, ◌^◌, ◌<◌, ◌≤◌, false, [], ◌∷◌, ◌++◌, OnOk, OnErr, IfNone, IfSome, OnSome, Some, None, ◌⊎◌, length, vec_capacity};
 ghost use Rattle.crew_trait.specs.Events.{busy, IsSomeBusy, failure_of};
-ghost use Rattle.crew_kept.specs.Taking.{AreTaken, HasReply, account_with};
+ghost use Rattle.crew_kept.specs.Records.{MayPass, answer_of};
+ghost use Rattle.crew_kept.specs.Taking.{AreTaken, account_with};
 ghost use Rattle.crew_kept.specs.declared.placed.Step.TheVariants.{Happened, Refusal};
+ghost use Rattle.crew_kept.specs.declared.state.State.TheVariants.{Open, Lacked};
 ghost use Rattle.crew_trait.specs.declared.event.CrewEvent.TheVariants.{Started, Ended};
 
-use crate::links::is_link;
+use crate::links::{after_asked, after_taken, is_refused};
 use crate::placed::{Placed, Step, Waiting};
 use crate::room::put;
 use crate::supply::Supply;
@@ -20,23 +22,25 @@ use std::marker::Model;
 /// A crew that takes replies from the records of an earlier run, and gives other jobs to the crew
 /// inside (own).
 ///
-/// The reply to a start is taken if the records have one for an equal job at its number. From the
-/// first job on that differs from the one that the records have at its number, nothing is taken. If
-/// memory runs out, the crew inside gets the job.
+/// The reply to a start is taken if the records have one for an equal job at its number. If they have
+/// several records of one number, the first of them counts. From the first job on that differs from
+/// the one that the records have at its number, nothing is taken. If memory runs out, the crew inside
+/// gets the job, and nothing more is taken.
 ///
-/// A link is taken only if the records have the start after it too, which may run the program. That
-/// start is then taken or refused, and never reaches the crew inside: the program that it would run
-/// is of another link, or gone.
+/// A link is taken only if the records have the start after it too, which may run the program. If the
+/// link that was started last was taken, a start that may run a program is taken or refused, and never
+/// reaches the crew inside: the program is of another link, or gone. A refusal cuts the run, so it ends
+/// this.
 #[derive(Drop)]
 pub struct Kept<C: Crew + Drop> {
     crew: C,
     alloc: Global,
     supply: Supply,
     // What was done without the crew inside, with room for the ends of the replies that wait, and for
-    // the refusal of the start after a link.
+    // the refusal of a start that may run the program of a link that was taken.
     placed: Vec<Placed>,
     waiting: Vec<Waiting>,
-    // Whether the last start was a link that was taken.
+    // Whether the link that was started last was taken.
     linked: bool,
     // The number of events of the crew inside, and of starts that were tried here.
     events: u64,
@@ -49,13 +53,13 @@ impl<C: Crew + Drop> Model for Kept<C> {
 
     ghost Value = { Keeping C };
 
-    ghost view = { λ k. record { crew = k.crew; records = k.supply.records.items; placed = k.placed.items; waiting = k.waiting.items; linked = k.linked } };
+    ghost view = { λ k. record { crew = k.crew; records = k.supply.records; placed = k.placed.items; waiting = k.waiting.items; linked = k.linked; state = k.supply.state } };
 
-    ghost invariant = { λ k. IsKeeping (C.account k.crew) k.supply.records.items k.placed.items k.waiting.items k.linked k.events k.attempts
+    ghost invariant = { λ k. IsKeeping (C.account k.crew) k.supply.records k.placed.items k.waiting.items k.linked k.supply.state k.events k.attempts
         × (length k.placed.items + length k.waiting.items + (if k.linked then 1 else 0) ≤ vec_capacity k.placed) };
 }
 
-/// Makes room for a start, the end of it, the refusal of the next one, and the ends of those that
+/// Makes room for a start, the end of it, the refusal of a later one, and the ends of those that
 /// wait.
 fn make_room(placed: &mut Vec<Placed>, waiting: &mut Vec<Waiting>) -> Result<(), AllocError>
     ensures placed { placed.new.items ≡ placed.old.items }
@@ -84,8 +88,11 @@ fn take(
     ensures placed { placed.new.items ≡ placed.old.items }
     ensures waiting { waiting.new.items ≡ waiting.old.items }
     ensures grown { vec_capacity placed.old ≤ vec_capacity placed.new }
-    ensures has { IfSome result (λ taken.
-        HasReply supply.old.records.items number job.now taken) }
+    ensures taken { IfSome result (λ taken.
+        answer_of supply.old.state supply.old.records number job.now ≡ Some taken) }
+    ensures same { IfSome result (λ taken. supply.new ≡ supply.old) }
+    ensures none { IfNone result (
+        MayPass supply.old.records number job.now supply.old.state supply.new.state) }
     ensures room { OnSome result (
         length placed.new.items + length waiting.new.items + 3 ≤ vec_capacity placed.new) }
     ensures place { OnSome result (length waiting.new.items < vec_capacity waiting.new) }
@@ -95,7 +102,10 @@ fn take(
     };
     match make_room(placed, waiting) {
         Ok(()) => Some(taken),
-        Err(_) => None,
+        Err(_) => {
+            supply.lack();
+            None
+        }
     }
 }
 
@@ -166,16 +176,23 @@ fn put_end(
 }
 
 impl<C: Crew + Drop> Kept<C> {
-    /// Returns a crew around one that has started nothing, which takes replies from these records.
+    /// Returns a crew around one that has started nothing, which takes replies from these records. If
+    /// memory runs out, it takes none.
     pub fn new(alloc: Global, crew: C, records: Vec<Record>) -> Kept<C>
         requires events { (C.account crew).events ≡ [] }
         requires attempts { (C.account crew).attempts ≡ 0 }
-        ensures { result ≡ record { crew = crew; records = records.items; placed = []; waiting = []; linked = false } }
+        ensures crew { result.crew ≡ crew }
+        ensures records { result.records ≡ records.items }
+        ensures placed { result.placed ≡ [] }
+        ensures waiting { result.waiting ≡ [] }
+        ensures linked { result.linked ≡ false }
+        ensures state { (result.state ≡ Open) ⊎ (result.state ≡ Lacked) }
     {
+        let supply = Supply::new(alloc, records);
         Kept {
             crew,
             alloc,
-            supply: Supply::new(records),
+            supply,
             placed: Vec::new(alloc),
             waiting: Vec::new(alloc),
             linked: false,
@@ -187,10 +204,13 @@ impl<C: Crew + Drop> Kept<C> {
     /// Returns the crew inside.
     pub fn crew(&self) -> &C
         ensures inner { result.now ≡ self.now.crew }
-        // Each reply that was taken is one that the records have for an equal job at its number. The
-        // start after a link that was taken never reaches the crew inside.
+        // Each start for which the records have a reply is taken, with that reply, and no other one
+        // is. If the link that was started last was taken, no start that may run a program reaches
+        // the crew inside.
         ensures taken { AreTaken self.now.records self.now.placed self.now.waiting
-            (account_with self.now.placed (C.account self.now.crew)).attempts self.now.linked }
+            (C.account self.now.crew).events
+            (account_with self.now.placed (C.account self.now.crew)).attempts self.now.linked
+            self.now.state }
         // Without records nothing is taken, and the account is that of the crew inside.
         ensures alone { self.now.records ≡ []
             → account_with self.now.placed (C.account self.now.crew) ≡ C.account self.now.crew }
@@ -213,7 +233,7 @@ impl<C: Crew + Drop> Crew for Kept<C> {
             &job,
         ) {
             Some(taken) => {
-                self.linked = is_link(&job);
+                self.linked = after_taken(self.linked, &job);
                 put_start(
                     &mut self.placed,
                     &mut self.waiting,
@@ -226,12 +246,14 @@ impl<C: Crew + Drop> Crew for Kept<C> {
                 Ok(())
             }
             None => {
-                if self.linked {
+                if is_refused(self.linked, &job) {
                     self.linked = false;
                     put_refusal(&mut self.placed, self.events);
                     return Err(Refused);
                 }
+                let linked = after_asked(self.linked, &job);
                 self.crew.start(slot, job)?;
+                self.linked = linked;
                 self.events += 1;
                 Ok(())
             }

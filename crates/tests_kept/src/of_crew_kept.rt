@@ -106,10 +106,9 @@ cc,-c,conftest.c,slot|conftest.c int x;|1:a|S 11:o E =>  1:S 0:1:a 2:11:o 3:E
 cc,-o,conftest,conftest.c,slot|conftest.c int x;|1:a 2:b 3:c 4:d 5:e|10:n =>  3:4:d 2:3:c 1:2:b 0:1:a
 // A link is asked if the start after it is not recorded.
 cc,-o,conftest,conftest.c,slot|conftest.c int x;|1:a|10:n 11:o 12:p 13:q =>  0:10:n 1:11:o 2:12:p 3:13:q
-// The start after a link that was taken is refused if it is not taken: the second has no record of the
-// start after it, or it differs.
-cc,-o,conftest,conftest.c,slot|conftest.c int x;|1:a 2:b|10:n 11:o =>  1:S 0:1:a 2:10:n 3:11:o
-cc,-o,conftest,conftest.c,slot|conftest.c int x;|1:a E 3:c|10:n 11:o =>  1:S 0:1:a 2:10:n 3:11:o
+// A row of links is gone on with: the second has no record of the start after it, or it differs.
+cc,-o,conftest,conftest.c,slot|conftest.c int x;|1:a 2:b|10:n 11:o 12:p =>  0:1:a 1:10:n 2:11:o 3:12:p
+cc,-o,conftest,conftest.c,slot|conftest.c int x;|1:a E 3:c|10:n 11:o 12:p =>  0:1:a 1:10:n 2:11:o 3:12:p
 // No conftest is linked.
 cc,-o,conftest,slot||1:a|10:n 11:o 12:p =>  0:1:a 1:10:n 2:11:o 3:12:p
 ";

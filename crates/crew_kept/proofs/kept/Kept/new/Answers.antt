@@ -3,6 +3,6 @@ use Rattle.crew_kept.proofs.kept.Kept.new.Goals as goal
 
 pub invariant_of-result : goal.invariant_of-result
 invariant_of-result g c = (
-  kept_begun (g.C.Crew.account c.args.crew) c.new.result.records.items c.new-2.result.items c.new-3.result.items c.new-2.ensures.items c.new-3.ensures.items c.requires.events c.requires.attempts,
-  fits_begun c.new-2.result.items c.new-3.result.items _ c.new-2.ensures.items c.new-3.ensures.items,
+  kept_begun (g.C.Crew.account c.args.crew) c.new-supply.result.records c.new.result.items c.new-2.result.items c.new-supply.result.state c.new-supply.ensures.state c.new.ensures.items c.new-2.ensures.items c.requires.events c.requires.attempts,
+  fits_begun c.new.result.items c.new-2.result.items _ c.new.ensures.items c.new-2.ensures.items,
 )
