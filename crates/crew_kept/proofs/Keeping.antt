@@ -206,7 +206,7 @@ not_started_so records placed waiting events linked attempts job old _ lacks let
 
 refused_so : (records : List Record) (placed : List Placed) (waiting : List Waiting) (events : List CrewEvent) (linked : Bool) (place attempts : ℕ) (job : Job) (old new : State)
     → MayPass records (attempts + 1) job old new → is_refused linked job ≡ true → AreTaken records placed waiting events attempts linked old
-    → AreTaken records (placed ++ record { place = place; step = Refusal } ∷ []) waiting events (attempts + 1) false new
+    → AreTaken records (placed ++ record { place = place; step = Refusal (attempts + 1) } ∷ []) waiting events (attempts + 1) false new
 refused_so records placed waiting events linked place attempts job old _ (passes none) stopped before = refused linked old place attempts job none stopped before
 refused_so records placed waiting events linked place attempts job old _ lacks stopped before = refused linked Lacked place attempts job refl stopped (lacked attempts old before)
 
@@ -303,16 +303,16 @@ kept_taken a records placed later waiting more linked link state events attempts
 -- After a start that was refused here.
 pub kept_turned : (a : Account) (records : List Record) (placed later : List Placed) (waiting : List Waiting) (linked : Bool) (state : State) (events attempts : ℕ) (next : State) (job : Job)
     → IsKeeping a records placed waiting linked state events attempts → MayPass records (attempts + 1) job state next → is_refused linked job ≡ true → attempts < 2 ^ 62
-    → later ≡ placed ++ record { place = events; step = Refusal } ∷ []
+    → later ≡ placed ++ record { place = events; step = Refusal (attempts + 1) } ∷ []
     → IsKeeping a records later waiting false next events (attempts + 1)
 kept_turned a records placed later waiting linked state events attempts next job h may stopped few later_is =
-    let joined_is = events_placed a placed events Refusal h.in_place h.counted ∙ append-nil (joined 0 0 placed a.events) in
-    let done : IsKeeping a records (placed ++ record { place = events; step = Refusal } ∷ []) waiting false next events (attempts + 1) = record {
+    let joined_is = events_placed a placed events (Refusal (attempts + 1)) h.in_place h.counted ∙ append-nil (joined 0 0 placed a.events) in
+    let done : IsKeeping a records (placed ++ record { place = events; step = Refusal (attempts + 1) } ∷ []) waiting false next events (attempts + 1) = record {
       counted = h.counted;
-      tried = omega (arith, h.tried, starts_push placed (record { place = events; step = Refusal }));
+      tried = omega (arith, h.tried, starts_push placed (record { place = events; step = Refusal (attempts + 1) }));
       few = omega (arith, few);
       ends_once = h.ends_once;
-      in_place = placed_push 0 (length a.events) placed (record { place = events; step = Refusal }) h.in_place h.counted;
+      in_place = placed_push 0 (length a.events) placed (record { place = events; step = Refusal (attempts + 1) }) h.in_place h.counted;
       shares = subst (λ es. SharesSlots es a.events waiting) (sym joined_is) h.shares;
       are_taken = refused_so records placed waiting a.events linked events attempts job state next may stopped h.are_taken;
     } in
@@ -565,12 +565,12 @@ kept_taken_on a records same placed mid later waiting middle more linked link st
 pub kept_turned_on : (a : Account) (records same : List Record) (placed mid later : List Placed) (waiting middle : List Waiting) (linked test : Bool) (state next : State) (events attempts : ℕ) (job : Job)
     → IsKeeping a records placed waiting linked state events attempts → MayPass records (attempts + 1) job state next → test ≡ is_refused linked job → test ≡ true
     → a.attempts + own_starts placed < 2 ^ 62 → same ≡ records → mid ≡ placed → middle ≡ waiting
-    → later ≡ mid ++ record { place = events; step = Refusal } ∷ [] → IsKeeping a same later middle false next events (attempts + 1)
+    → later ≡ mid ++ record { place = events; step = Refusal (attempts + 1) } ∷ [] → IsKeeping a same later middle false next events (attempts + 1)
 kept_turned_on a records same placed mid later waiting middle linked test state next events attempts job h may test_is is small same_is mid_is middle_is later_is =
     let few : attempts < 2 ^ 62 = omega (arith, h.tried, small) in
     subst (λ r. IsKeeping a r later middle false next events (attempts + 1)) (sym same_is)
     (subst (λ w. IsKeeping a records later w false next events (attempts + 1)) (sym middle_is)
-    (kept_turned a records placed later waiting linked state events attempts next job h may (sym test_is ∙ is) few (later_is ∙ ap (λ p. p ++ record { place = events; step = Refusal } ∷ []) mid_is)))
+    (kept_turned a records placed later waiting linked state events attempts next job h may (sym test_is ∙ is) few (later_is ∙ ap (λ p. p ++ record { place = events; step = Refusal (attempts + 1) } ∷ []) mid_is)))
 
 pub taken_events_on : (a : Account) (records : List Record) (placed mid later : List Placed) (waiting : List Waiting) (linked : Bool) (state : State) (events attempts slot : ℕ) (job : Job)
     → IsKeeping a records placed waiting linked state events attempts → mid ≡ placed → later ≡ mid ++ record { place = events; step = Happened (Started slot job (attempts + 1)) } ∷ []
@@ -581,11 +581,11 @@ taken_events_on a records placed mid later waiting linked state events attempts 
     ∙ ap (λ n. joined 0 0 placed a.events ++ Started slot job (n + 1) ∷ []) h.tried
 
 pub turned_events_on : (a : Account) (records : List Record) (placed mid later : List Placed) (waiting : List Waiting) (linked : Bool) (state : State) (events attempts : ℕ)
-    → IsKeeping a records placed waiting linked state events attempts → mid ≡ placed → later ≡ mid ++ record { place = events; step = Refusal } ∷ []
+    → IsKeeping a records placed waiting linked state events attempts → mid ≡ placed → later ≡ mid ++ record { place = events; step = Refusal (attempts + 1) } ∷ []
     → joined 0 0 later a.events ≡ joined 0 0 placed a.events
 turned_events_on a records placed mid later waiting linked state events attempts h mid_is later_is =
-    ap (λ p. joined 0 0 p a.events) (later_is ∙ ap (λ p. p ++ record { place = events; step = Refusal } ∷ []) mid_is)
-    ∙ events_placed a placed events Refusal h.in_place h.counted ∙ append-nil (joined 0 0 placed a.events)
+    ap (λ p. joined 0 0 p a.events) (later_is ∙ ap (λ p. p ++ record { place = events; step = Refusal (attempts + 1) } ∷ []) mid_is)
+    ∙ events_placed a placed events (Refusal (attempts + 1)) h.in_place h.counted ∙ append-nil (joined 0 0 placed a.events)
 
 -- One more start here, and perhaps one more refusal.
 pub own_number_on : (n place : ℕ) (step : Step) (placed mid later : List Placed) → mid ≡ placed → later ≡ mid ++ record { place = place; step = step } ∷ []

@@ -23,17 +23,17 @@ starts_of (Ended slot reply number) = 0
 -- The starts of a step: those of its event, or the one that was refused. (own)
 abbrev pub starts_in : Step → ℕ
 starts_in (Happened event) = starts_of event
-starts_in Refusal = 1
+starts_in (Refusal number) = 1
 
 -- The events of a step. A start that was refused has none. (own)
 abbrev pub events_in : Step → List CrewEvent
 events_in (Happened event) = event ∷ []
-events_in Refusal = []
+events_in (Refusal number) = []
 
 -- The refusals of a step. (own)
 abbrev pub refusals_in : Step → ℕ
 refusals_in (Happened event) = 0
-refusals_in Refusal = 1
+refusals_in (Refusal number) = 1
 
 -- An event of the crew inside, after so many starts that it didn't see. (own)
 abbrev pub raised : ℕ → CrewEvent → CrewEvent
@@ -87,7 +87,7 @@ pub data AreTaken (records : List Record) : List Placed → List Waiting → Lis
   refused : {placed : List Placed} {waiting : List Waiting} {events : List CrewEvent} (linked : Bool) (state : State) (place attempts : ℕ) (job : Job)
       → answer_of state records (attempts + 1) job ≡ None → is_refused linked job ≡ true
       → AreTaken records placed waiting events attempts linked state
-      → AreTaken records (placed ++ record { place = place; step = Refusal } ∷ []) waiting events (attempts + 1) false (after_start state records (attempts + 1) job)
+      → AreTaken records (placed ++ record { place = place; step = Refusal (attempts + 1) } ∷ []) waiting events (attempts + 1) false (after_start state records (attempts + 1) job)
   returned : {placed : List Placed} {events : List CrewEvent} {linked : Bool} {state : State} (waiting : List Waiting) (place slot attempts : ℕ) (reply : Reply)
       → AreTaken records placed (waiting ++ record { slot = slot; taken = reply } ∷ []) events attempts linked state
       → AreTaken records (placed ++ record { place = place; step = Happened (Ended slot reply attempts) } ∷ []) waiting events attempts linked state

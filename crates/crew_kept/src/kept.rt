@@ -33,12 +33,12 @@ use std::marker::Model;
 /// this.
 #[derive(Drop)]
 pub struct Kept<C: Crew + Drop> {
-    crew: C,
+    pub(crate) crew: C,
     alloc: Global,
     supply: Supply,
     // What was done without the crew inside, with room for the ends of the replies that wait, and for
     // the refusal of a start that may run the program of a link that was taken.
-    placed: Vec<Placed>,
+    pub(crate) placed: Vec<Placed>,
     waiting: Vec<Waiting>,
     // Whether the link that was started last was taken.
     linked: bool,
@@ -132,13 +132,14 @@ fn put_start(
     put(waiting, Waiting { slot, taken });
 }
 
-/// Adds the refusal of a start.
-fn put_refusal(placed: &mut Vec<Placed>, place: u64)
+/// Adds the refusal of the start of this number.
+fn put_refusal(placed: &mut Vec<Placed>, place: u64, number: u64)
     requires { length placed.old.items < vec_capacity placed.old }
-    ensures placed { placed.new.items ≡ placed.old.items ++ record { place = place; step = Refusal } ∷ [] }
+    ensures placed { placed.new.items
+        ≡ placed.old.items ++ record { place = place; step = Refusal number } ∷ [] }
     ensures room { vec_capacity placed.old ≤ vec_capacity placed.new }
 {
-    let step = Step::Refusal;
+    let step = Step::Refusal(number);
     put(placed, Placed { place, step });
 }
 
@@ -248,7 +249,7 @@ impl<C: Crew + Drop> Crew for Kept<C> {
             None => {
                 if is_refused(self.linked, &job) {
                     self.linked = false;
-                    put_refusal(&mut self.placed, self.events);
+                    put_refusal(&mut self.placed, self.events, self.attempts);
                     return Err(Refused);
                 }
                 let linked = after_asked(self.linked, &job);

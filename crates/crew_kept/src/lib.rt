@@ -9,12 +9,14 @@
 //! "own" marks a rule that no manual gives.
 //!
 //! `specs/Records.antt` defines which replies are taken, `specs/Taking.antt` the account of a run that
-//! takes some, and `specs/Links.antt` which jobs link and which may run what was linked. In the code,
-//! read `links`, `taken`, `supply`, `placed`, `room` and then `kept`. `laws` says what holds of the
+//! takes some, `specs/Links.antt` which jobs link and which may run what was linked, and
+//! `specs/Numbers.antt` by which numbers the crew inside knows its children. In the code,
+//! read `links`, `taken`, `supply`, `placed`, `room`, `kept` and then `known`. `laws` says what holds of the
 //! definitions.
 #![tactic(auto)]
 
 mod kept;
+mod known;
 mod laws;
 mod links;
 mod placed;

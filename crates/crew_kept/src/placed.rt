@@ -8,8 +8,8 @@ use crew_trait::CrewEvent;
 pub(crate) enum Step {
     /// An event of a reply that was taken.
     Happened(CrewEvent),
-    /// A start that was refused.
-    Refusal,
+    /// The start of this number, which was refused.
+    Refusal(u64),
 }
 
 /// A step at its place.

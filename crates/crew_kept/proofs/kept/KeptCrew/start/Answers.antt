@@ -22,12 +22,12 @@ invariant_of-self-then-is_refused g c = (
       c.in-None.ensures.records c.in-None.ensures.placed c.in-None.ensures.waiting c.put_refusal.ensures.placed,
   fits_turned c.self.inside.linked c.is_refused.result c.args.job (length c.self.inside.placed.items) (length c.take.new.placed.items) (length c.put_refusal.new.placed.items) (length c.self.inside.waiting.items) (length c.take.new.waiting.items) (vec_capacity c.self.inside.placed) (vec_capacity c.take.new.placed) (vec_capacity c.put_refusal.new.placed) c.is_refused.ensures c.if-is_refused.true c.self.invariant.1
       (ap length c.in-None.ensures.placed) (ap length c.in-None.ensures.waiting) c.in-None.ensures.grown
-      (ap length c.put_refusal.ensures.placed ∙ length-append c.take.new.placed.items (record { place = c.self.inside.events; step = Refusal } ∷ [])) c.put_refusal.ensures.room,
+      (ap length c.put_refusal.ensures.placed ∙ length-append c.take.new.placed.items (record { place = c.self.inside.events; step = Refusal (c.self.inside.attempts + 1) } ∷ [])) c.put_refusal.ensures.room,
 )
 
 pub returns-then-is_refused-clause-number : goal.returns-then-is_refused-clause-number
 returns-then-is_refused-clause-number g c =
-    own_number_on (g.C.Crew.account c.self.inside.crew).attempts c.self.inside.events Refusal c.self.inside.placed.items c.take.new.placed.items c.put_refusal.new.placed.items c.in-None.ensures.placed c.put_refusal.ensures.placed
+    own_number_on (g.C.Crew.account c.self.inside.crew).attempts c.self.inside.events (Refusal (c.self.inside.attempts + 1)) c.self.inside.placed.items c.take.new.placed.items c.put_refusal.new.placed.items c.in-None.ensures.placed c.put_refusal.ensures.placed
     ∙ ap (λ k. ((g.C.Crew.account k.crew).attempts + own_starts k.placed) + 1) c.self.view_is
 
 pub returns-then-is_refused-clause-refused : goal.returns-then-is_refused-clause-refused
@@ -37,7 +37,7 @@ returns-then-is_refused-clause-refused g c =
 
 pub returns-then-is_refused-clause-refused_count : goal.returns-then-is_refused-clause-refused_count
 returns-then-is_refused-clause-refused_count g c =
-    own_refusals_on (g.C.Crew.account c.self.inside.crew).failures c.self.inside.events Refusal c.self.inside.placed.items c.take.new.placed.items c.put_refusal.new.placed.items c.in-None.ensures.placed c.put_refusal.ensures.placed
+    own_refusals_on (g.C.Crew.account c.self.inside.crew).failures c.self.inside.events (Refusal (c.self.inside.attempts + 1)) c.self.inside.placed.items c.take.new.placed.items c.put_refusal.new.placed.items c.in-None.ensures.placed c.put_refusal.ensures.placed
     ∙ ap (λ k. ((g.C.Crew.account k.crew).failures + own_refusals k.placed) + 1) c.self.view_is
 
 pub invariant_of-self-in_err-start-in-None : goal.invariant_of-self-in_err-start-in-None
