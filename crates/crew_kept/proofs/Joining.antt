@@ -6,7 +6,7 @@ use Rattle.crew_trait.specs.declared.event.CrewEvent.TheVariants.{Started, Ended
 use Rattle.crew_kept.specs.declared.placed.Placed.{Placed}
 use Rattle.crew_kept.specs.Taking.{events_in, starts_in, raised, joined, own_starts, own_refusals, refusals_in, ArePlaced}
 
-placed_last : (at end : ℕ) (ps : List Placed) → ArePlaced at end ps → at ≤ end
+pub placed_last : (at end : ℕ) (ps : List Placed) → ArePlaced at end ps → at ≤ end
 placed_last at end [] h = h
 placed_last at end (p ∷ ps) h = let later = placed_last p.place end ps h.1 in omega (arith, h.0, later)
 

@@ -1,3 +1,4 @@
+mod Asking
 mod Indexed
 mod Joining
 mod Keeping

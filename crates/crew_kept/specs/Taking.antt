@@ -46,6 +46,11 @@ joined at more [] events = map (raised more) events
 joined at more (p ∷ ps) events =
     map (raised more) (take (p.place - at) events) ++ (events_in p.step ++ joined p.place (more + starts_in p.step) ps (drop (p.place - at) events))
 
+-- The events of the crew inside from this place on, with their numbers in the run. (own)
+abbrev pub asked_in : ℕ → ℕ → List Placed → List CrewEvent → List CrewEvent
+asked_in at more [] events = map (raised more) events
+asked_in at more (p ∷ ps) events = map (raised more) (take (p.place - at) events) ++ asked_in p.place (more + starts_in p.step) ps (drop (p.place - at) events)
+
 -- The number of starts that the crew inside didn't see: they were taken or refused. (own)
 abbrev pub own_starts : List Placed → ℕ
 own_starts [] = 0
@@ -61,6 +66,10 @@ own_refusals (p ∷ ps) = refusals_in p.step + own_refusals ps
 abbrev pub account_with : List Placed → Account → Account
 account_with placed a =
     record { events = joined 0 0 placed a.events; attempts = a.attempts + own_starts placed; failures = a.failures + own_refusals placed }
+
+-- The events of the crew inside, with their numbers in the run. (own)
+abbrev pub asked_with : List Placed → Account → List CrewEvent
+asked_with placed a = asked_in 0 0 placed a.events
 
 -- What was done of each start, after so many of them. `waiting` are the replies that weren't returned yet, and `events` those of the
 -- crew inside. The flag says whether the link that was started last was taken, and the state how far replies are taken. Each start

@@ -1,9 +1,9 @@
 //! A crew that takes replies from the records of an earlier run.
 
-ghost use Rattle.std.specs.Prelude.{◌≡◌, ◌≢◌, ◌+◌, ◌^◌, ◌<◌, ◌≤◌, false, [], ◌∷◌, ◌++◌, OnOk, OnErr, IfNone, IfSome, OnSome, Some, None, ◌⊎◌, length, vec_capacity};
+ghost use Rattle.std.specs.Prelude.{◌≡◌, ◌≢◌, ◌+◌, ◌^◌, ◌<◌, ◌≤◌, false, true, [], ◌∷◌, ◌++◌, OnOk, OnErr, IfNone, IfOk, IfSome, OnSome, Some, None, ◌⊎◌, length, vec_capacity};
 ghost use Rattle.crew_trait.specs.Events.{busy, IsSomeBusy, failure_of};
 ghost use Rattle.crew_kept.specs.Records.{MayPass, answer_of};
-ghost use Rattle.crew_kept.specs.Taking.{AreTaken, account_with};
+ghost use Rattle.crew_kept.specs.Taking.{AreTaken, account_with, asked_with};
 ghost use Rattle.crew_kept.specs.declared.placed.Step.TheVariants.{Happened, Refusal};
 ghost use Rattle.crew_kept.specs.declared.state.State.TheVariants.{Open, Lacked};
 ghost use Rattle.crew_trait.specs.declared.event.CrewEvent.TheVariants.{Started, Ended};
@@ -218,12 +218,48 @@ impl<C: Crew + Drop> Kept<C> {
     {
         &self.crew
     }
-}
 
-impl<C: Crew + Drop> Crew for Kept<C> {
-    ghost account = { λ k. account_with k.placed (C.account k.crew) };
-
-    fn start(&mut self, slot: usize, job: Job) -> Result<(), Refused> {
+    /// Starts a job in a free slot. Returns the number of the start, or `None` if its reply was taken
+    /// from the records.
+    ///
+    /// # Errors
+    ///
+    /// Returns [`Refused`] if the job isn't started. The slot stays free, and the job is dropped.
+    pub fn begin(&mut self, slot: usize, job: Job) -> Result<Option<u64>, Refused>
+        requires slot { slot < 16 }
+        requires free { busy slot (account_with self.old.placed (C.account self.old.crew)).events ≡ false }
+        requires attempts { (account_with self.old.placed (C.account self.old.crew)).attempts < 2 ^ 62 }
+        requires failures { (account_with self.old.placed (C.account self.old.crew)).failures < 2 ^ 62 }
+        ensures number { (account_with self.new.placed (C.account self.new.crew)).attempts
+            ≡ (account_with self.old.placed (C.account self.old.crew)).attempts + 1 }
+        ensures taken { OnOk result (
+            (account_with self.new.placed (C.account self.new.crew)).events
+            ≡ (account_with self.old.placed (C.account self.old.crew)).events
+            ++ Started slot job ((account_with self.old.placed (C.account self.old.crew)).attempts + 1)
+            ∷ []) }
+        ensures taken_count { OnOk result (
+            (account_with self.new.placed (C.account self.new.crew)).failures
+            ≡ (account_with self.old.placed (C.account self.old.crew)).failures) }
+        ensures refused { OnErr result (
+            (account_with self.new.placed (C.account self.new.crew)).events
+            ≡ (account_with self.old.placed (C.account self.old.crew)).events) }
+        ensures refused_count { OnErr result (
+            (account_with self.new.placed (C.account self.new.crew)).failures
+            ≡ (account_with self.old.placed (C.account self.old.crew)).failures + 1) }
+        // A number is that of a start of the crew inside.
+        ensures asked { IfOk result (λ found. IfSome found (λ number.
+            asked_with self.new.placed (C.account self.new.crew)
+            ≡ asked_with self.old.placed (C.account self.old.crew)
+            ++ Started slot job number ∷ [])) }
+        ensures asked_number { IfOk result (λ found. IfSome found (λ number.
+            number ≡ (account_with self.new.placed (C.account self.new.crew)).attempts)) }
+        ensures unasked { IfOk result (λ found. IfNone found (
+            asked_with self.new.placed (C.account self.new.crew)
+            ≡ asked_with self.old.placed (C.account self.old.crew))) }
+        ensures not_started { OnErr result (
+            asked_with self.new.placed (C.account self.new.crew)
+            ≡ asked_with self.old.placed (C.account self.old.crew)) }
+    {
         self.attempts += 1;
         match take(
             self.alloc,
@@ -244,7 +280,7 @@ impl<C: Crew + Drop> Crew for Kept<C> {
                     self.attempts,
                     taken,
                 );
-                Ok(())
+                Ok(None)
             }
             None => {
                 if is_refused(self.linked, &job) {
@@ -256,24 +292,64 @@ impl<C: Crew + Drop> Crew for Kept<C> {
                 self.crew.start(slot, job)?;
                 self.linked = linked;
                 self.events += 1;
-                Ok(())
+                Ok(Some(self.attempts))
             }
         }
     }
 
-    fn next(&mut self) -> (usize, Reply) {
+    /// Waits for the end of a child, frees its slot, and returns the slot with the reply, and whether
+    /// the reply was taken from the records.
+    pub fn end(&mut self) -> (usize, Reply, bool)
+        requires flying { IsSomeBusy (account_with self.old.placed (C.account self.old.crew)).events }
+        requires failures { (account_with self.old.placed (C.account self.old.crew)).failures < 2 ^ 62 }
+        ensures was_busy { busy result.0 (account_with self.old.placed (C.account self.old.crew)).events ≡ true }
+        ensures ended { (account_with self.new.placed (C.account self.new.crew)).events
+            ≡ (account_with self.old.placed (C.account self.old.crew)).events
+            ++ Ended result.0 result.1 (account_with self.old.placed (C.account self.old.crew)).attempts
+            ∷ [] }
+        ensures number { (account_with self.new.placed (C.account self.new.crew)).attempts
+            ≡ (account_with self.old.placed (C.account self.old.crew)).attempts }
+        ensures reply { result.1 ≢ Reply.StartRefused }
+        ensures count { (account_with self.new.placed (C.account self.new.crew)).failures
+            ≡ (account_with self.old.placed (C.account self.old.crew)).failures + failure_of result.1 }
+        // A reply that wasn't taken is one of the crew inside.
+        ensures asked { result.2 ≡ false
+            → asked_with self.new.placed (C.account self.new.crew)
+            ≡ asked_with self.old.placed (C.account self.old.crew)
+            ++ Ended result.0 result.1 (account_with self.old.placed (C.account self.old.crew)).attempts
+            ∷ [] }
+        ensures unasked { result.2 ≡ true
+            → asked_with self.new.placed (C.account self.new.crew)
+            ≡ asked_with self.old.placed (C.account self.old.crew) }
+    {
         match put_end(
             &mut self.placed,
             &mut self.waiting,
             self.events,
             self.attempts,
         ) {
-            Some(end) => end,
+            Some(end) => (end.0, end.1, true),
             None => {
                 let end = self.crew.next();
                 self.events += 1;
-                end
+                (end.0, end.1, false)
             }
         }
+    }
+}
+
+impl<C: Crew + Drop> Crew for Kept<C> {
+    ghost account = { λ k. account_with k.placed (C.account k.crew) };
+
+    fn start(&mut self, slot: usize, job: Job) -> Result<(), Refused> {
+        match self.begin(slot, job) {
+            Ok(_) => Ok(()),
+            Err(_) => Err(Refused),
+        }
+    }
+
+    fn next(&mut self) -> (usize, Reply) {
+        let (slot, reply, _) = self.end();
+        (slot, reply)
     }
 }

@@ -1,10 +1,11 @@
-use Rattle.std.proofs.Common.{◌+◌, ◌^◌, ◌<◌, ◌≤◌, arith, cond, length, length-append, vec_capacity, [], ◌∷◌, ◌++◌, sym, ap, ◌∙◌, subst}
+use Rattle.std.proofs.Common.{◌≡◌, ◌+◌, ◌^◌, ◌<◌, ◌≤◌, arith, cond, length, length-append, vec_capacity, [], ◌∷◌, ◌++◌, sym, ap, ◌∙◌, subst}
 use Rattle.crew_trait.specs.Events.{busy}
 use Rattle.crew_trait.specs.declared.event.CrewEvent.TheVariants.{Started}
 use Rattle.crew_kept.specs.declared.placed.Step.TheVariants.{Happened, Refusal}
-use Rattle.crew_kept.specs.Taking.{joined, own_refusals, own_starts}
+use Rattle.crew_kept.proofs.Asking.{asked_placed, asked_started}
+use Rattle.crew_kept.specs.Taking.{asked_with, joined, own_refusals, own_starts}
 use Rattle.crew_kept.proofs.Keeping.{asked_events_on, fits_asked, fits_linked, fits_turned, kept_asked_on, kept_refused_on, kept_taken_on, kept_turned_on, no_refusal_on, own_number_on, own_refusals_on, taken_events_on, turned_events_on}
-use Rattle.crew_kept.proofs.kept.KeptCrew.start.Goals as goal
+use Rattle.crew_kept.proofs.kept.Kept.begin.Goals as goal
 
 pub invariant_of-self : goal.invariant_of-self
 invariant_of-self g c = (
@@ -79,3 +80,19 @@ pub returns-in_ok-start-in-None-clause-taken : goal.returns-in_ok-start-in-None-
 returns-in_ok-start-in-None-clause-taken g c =
     asked_events_on (g.C.Crew.account c.self.inside.crew) (g.C.Crew.account c.start.new.self) c.self.inside.placed.items c.take.new.placed.items c.args.slot c.args.job c.self.invariant.0.in_place c.in-None.ensures.placed c.in_ok-start-in-None.ensures.taken
     ∙ ap (λ k. joined 0 0 k.placed (g.C.Crew.account k.crew).events ++ Started c.args.slot c.args.job (((g.C.Crew.account k.crew).attempts + own_starts k.placed) + 1) ∷ []) c.self.view_is
+
+pub returns-then-is_refused-clause-not_started : goal.returns-then-is_refused-clause-not_started
+returns-then-is_refused-clause-not_started g c =
+    asked_placed (g.C.Crew.account c.self.inside.crew).events c.self.inside.placed.items c.take.new.placed.items c.put_refusal.new.placed.items c.self.inside.events (Refusal (c.self.inside.attempts + 1)) c.self.invariant.0.in_place c.self.invariant.0.counted c.in-None.ensures.placed c.put_refusal.ensures.placed
+    ∙ ap (λ k. asked_with k.placed (g.C.Crew.account k.crew)) c.self.view_is
+
+pub returns-in-Some-clause-unasked : goal.returns-in-Some-clause-unasked
+returns-in-Some-clause-unasked g c =
+    asked_placed (g.C.Crew.account c.self.inside.crew).events c.self.inside.placed.items c.take.new.placed.items c.put_start.new.placed.items c.self.inside.events (Happened (Started c.args.slot c.args.job (c.self.inside.attempts + 1))) c.self.invariant.0.in_place c.self.invariant.0.counted c.in-Some.ensures.placed c.put_start.ensures.placed
+    ∙ ap (λ k. asked_with k.placed (g.C.Crew.account k.crew)) c.self.view_is
+
+pub returns-in_ok-start-in-None-clause-asked : goal.returns-in_ok-start-in-None-clause-asked
+returns-in_ok-start-in-None-clause-asked g c =
+    let number : c.self.inside.attempts + 1 ≡ ((g.C.Crew.account c.self.inside.crew).attempts + 1) + own_starts c.self.inside.placed.items = omega (arith, c.self.invariant.0.tried) in
+    asked_started (g.C.Crew.account c.self.inside.crew) (g.C.Crew.account c.start.new.self) c.self.inside.placed.items c.take.new.placed.items c.args.slot (c.self.inside.attempts + 1) c.args.job c.self.invariant.0.in_place c.in-None.ensures.placed c.in_ok-start-in-None.ensures.taken number
+    ∙ ap (λ k. asked_with k.placed (g.C.Crew.account k.crew) ++ Started c.args.slot c.args.job (c.self.inside.attempts + 1) ∷ []) c.self.view_is
