@@ -143,6 +143,8 @@ impl<C: Crew + Drop, F: AnswerFile + Drop> Journal<C, F> {
         ensures file { result.file ≡ file }
         ensures first { result.first ≡ digest }
         ensures before { result.before ≡ used }
+        ensures account { account_with result.kept.placed (C.account result.kept.crew)
+            ≡ account_with kept.placed (C.account kept.crew) }
     {
         let mut pen = Pen::new(file, digest, used);
         let flights = flights_or_stop(alloc, &mut pen);

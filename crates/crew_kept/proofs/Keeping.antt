@@ -18,7 +18,7 @@ use Rattle.crew_kept.specs.declared.placed.Step.{Step}
 use Rattle.crew_kept.specs.declared.placed.Step.TheVariants.{Happened, Refusal}
 use Rattle.crew_kept.specs.declared.placed.Placed.{Placed}
 use Rattle.crew_kept.specs.declared.placed.Waiting.{Waiting}
-use Rattle.crew_kept.specs.Taking.{AreTaken, ArePlaced, EndsOnce, IsKeeping, SharesSlots, account_with, asked, ended, events_in, how_often, joined, lacked, not_started, nothing_yet, own_refusals, own_starts, raised, refusals_in, refused, returned, starts_in, taken, times}
+use Rattle.crew_kept.specs.Taking.{AreTaken, ArePlaced, EndsOnce, IsKeeping, SharesSlots, account_with, asked, asked_in, asked_with, ended, events_in, how_often, joined, lacked, not_started, nothing_yet, own_refusals, own_starts, raised, refusals_in, refused, returned, starts_in, taken, times}
 use Rattle.crew_kept.proofs.Joining.{joined_inner, joined_own, joined_nothing, placed_more, placed_push, refusals_push, starts_push}
 
 fold_push : (f : Bool → CrewEvent → Bool) (b : Bool) (es : List CrewEvent) (x : CrewEvent) → fold f b (es ++ x ∷ []) ≡ f (fold f b es) x
@@ -661,3 +661,16 @@ fits_asked linked link job placed mid waiting middle room grown link_is h mid_is
     let fewer = fewer_after (is_link job) linked in
     let same : cond link 1 0 ≡ cond (after_asked linked job) 1 0 = ap count link_is in
     omega (arith, fewer, same, h, mid_is, middle_is, grows)
+
+add_none : (n : ℕ) → n + 0 ≡ n
+add_none n = omega arith
+
+-- The account of a crew that has done nothing.
+pub account_begun : (a : Account) (placed : List Placed) → placed ≡ [] → account_with placed a ≡ a
+account_begun a placed none =
+    ap (λ p. account_with p a) none
+    ∙ ap (λ es. record a { events = es; attempts = a.attempts + 0; failures = a.failures + 0 }) (joined_nothing a.events) ∙ ap (λ n. record a { attempts = n; failures = a.failures + 0 }) (add_none a.attempts)
+    ∙ ap (λ n. record a { failures = n }) (add_none a.failures)
+
+pub asked_begun : (a : Account) (placed : List Placed) → placed ≡ [] → a.events ≡ [] → asked_with placed a ≡ []
+asked_begun a placed none events_none = ap (λ p. asked_with p a) none ∙ ap (asked_in 0 0 []) events_none

@@ -188,6 +188,8 @@ impl<C: Crew + Drop> Kept<C> {
         ensures waiting { result.waiting ≡ [] }
         ensures linked { result.linked ≡ false }
         ensures state { (result.state ≡ Open) ⊎ (result.state ≡ Lacked) }
+        ensures account { account_with result.placed (C.account result.crew) ≡ C.account crew }
+        ensures asked { asked_with result.placed (C.account result.crew) ≡ [] }
     {
         let supply = Supply::new(alloc, records);
         Kept {
