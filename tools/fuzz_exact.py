@@ -247,7 +247,9 @@ def left(room, body, setting, names, assigned, defined, creates=True):
         made = run(room, [setting.shell, "./configure", *([] if creates else ["--no-create"])], folder, setting)
         log = (folder / "config.log").read_text(errors="replace") if (folder / "config.log").exists() else ""
         found = {"status": made.returncode, "standard output": printed_lines(made.stdout)}
+        # A call that `dnl` joins to `export` gives it the number of a line.
         found["standard error"] = [re.sub(r"^\./configure: (line )?\d+: |^(ac_fn_\w+ )\d+ ", r"\2", it) for it in made.stderr.splitlines()]
+        found["standard error"] = [re.sub(r"^(export: )\d+(: bad variable name)$", r"\1\2", it) for it in found["standard error"]]
         cached, values = values_in(section(log, "Cache variables.")), values_in(section(log, "Output variables."))
         found |= {f"cache {name}": value for name, value in cached.items() if not name.startswith("ac_cv_env_")}
         found |= {f"output {name}": value for name, value in values.items() if name != "INSTALL"}
@@ -474,6 +476,11 @@ OF_KEEPERS = ("differences", "Autoconf's checks keep values in variables of thei
 OF_STATUS = ("commands", "The value of `$?` after a call that is rewritten may be another one")
 READS_STATUS = re.compile(r"(?m)\b(\w+)=\$\?")
 
+# What docs/differences.md states of the headers of the default includes, if the source has changed the flags before it names one.
+OF_EARLY = ("differences", "Such a check has the flags of its place; Autoconf asks for all these headers at its first check with default includes")
+EARLY = re.compile(r"config\.h HAVE_(STDIO|STDLIB|STRING|INTTYPES|STDINT|STRINGS|SYS_STAT|SYS_TYPES|UNISTD)_H$")
+SETS_FLAGS = re.compile(r"(?m)^[ \t]*(CFLAGS|CPPFLAGS)=")
+
 # What docs/differences.md states of the lines of a value.
 OF_LINES = ("differences", "Autoconf drops the blanks at the ends of all lines of a script")
 
@@ -493,7 +500,7 @@ def said(document, sentence):
 def unsaid():
     """Yields a line for each sentence that is looked for here, and that its document doesn't have."""
     stated_once = (OF_IDIOMS, OF_MEANWHILE, OF_PACKAGE, OF_AUTOMAKE, OF_INIT, OF_JOINTS, OF_WORDS, OF_TESTS, OF_EXIT, OF_UNSET, OF_EQUALS, OF_COMPILER, OF_DNL, OF_GIVEN, OF_LINES, OF_STATUS, OF_CROSS, OF_SETUP, OF_HEADERS, OF_STANDARD,
-                   OF_KEEPERS, OF_SCRIPT)
+                   OF_KEEPERS, OF_SCRIPT, OF_EARLY)
     if not is_commented(*OF_SET_TO_NOTHING):
         yield f"crates/lint_macros/macros.txt does not say of {OF_SET_TO_NOTHING[0]} what tools/fuzz_exact.py looks for: {OF_SET_TO_NOTHING[1]}"
     for document, sentence in (*stated_once, *(("differences", sentence) for sentence, _ in OF_LANGUAGE)):
@@ -532,7 +539,7 @@ def beside_acrun(room, program, text, setting, names, defined, before):
         return {}
     kept["standard error"] = mine["standard error"] if mine["status"] == kept["status"] else before["standard error"]
     found = differences(kept, mine)
-    for it in (OF_GIVEN, OF_LINES):
+    for it in (OF_GIVEN, OF_LINES, OF_EARLY):
         said(*it)
     given = {f"values {name}" for name in ("OBJEXT", "EXEEXT") for it in (*setting.arguments, *dict(setting.environment)) if it.partition("=")[0] == name}
 
@@ -546,7 +553,10 @@ def beside_acrun(room, program, text, setting, names, defined, before):
     def has_more_blanks(before, after):
         return isinstance(before, str) and isinstance(after, str) and re.sub(r"(?m)[ \t]+$", "", after) == before
 
-    return {name: it for name, it in found.items() if not is_told(name, it[1]) and not has_more_blanks(*it)}
+    def is_early(name):
+        return EARLY.search(name) and SETS_FLAGS.search(text)
+
+    return {name: it for name, it in found.items() if not is_told(name, it[1]) and not has_more_blanks(*it) and not is_early(name)}
 
 
 def reads_script(text):
