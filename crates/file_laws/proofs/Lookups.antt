@@ -10,7 +10,7 @@ use Rattle.std.proofs.lemmas.Str.{IsUtf8-from_is_utf8, is_utf8-from_IsUtf8}
 use Rattle.deftable.specs.Table.{value_of}
 use Rattle.file_disk.specs.Known.{Known, directory_under, text_under}
 use Rattle.file_texts.specs.Names.{IsFileName, has_nul, home_of}
-use Rattle.file_texts.specs.Places.{begins_own, is_one, is_own}
+use Rattle.file_texts.specs.Places.{is_own_part, is_one, is_own}
 use Rattle.file_texts.specs.Reading.{IsReadWhole, whole}
 use Rattle.engine_frame.specs.Faults.{◌>>=◌}
 use Rattle.engine_frame.specs.Given.{none_missing, present}
@@ -69,8 +69,8 @@ read_again k other name text read first there r =
 pub same_own : (k other : Known) (name : List ℕ) → directory_under k (home_of name) ≡ directory_under other (home_of name)
     → directory_under k (codes ".") ≡ directory_under other (codes ".") → is_own k name ≡ is_own other name
 same_own k other name home here =
-    ap (λ o. begins_own name && is_one o (directory_under k (codes "."))) home
-    ∙ ap (λ o. begins_own name && is_one (directory_under other (home_of name)) o) here
+    ap (λ o. is_own_part name && is_one o (directory_under k (codes "."))) home
+    ∙ ap (λ o. is_own_part name && is_one (directory_under other (home_of name)) o) here
 
 -- The path of a template that was read is none that a run has for itself.
 pub read_free : (k : Known) (path text : List ℕ) (own : Bool) → IsTemplateRead k path own (Some text) → own ≡ false

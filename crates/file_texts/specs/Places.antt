@@ -61,14 +61,14 @@ is_one (Some d) (Some e) = (d.0 == e.0) && (d.1 == e.1)
 abbrev pub is_here : Known → List ℕ → Bool
 is_here k name = is_one (directory_under k (home_of name)) (directory_under k (codes "."))
 
--- The last part of the name begins with conftest. (own)
-abbrev pub begins_own : List ℕ → Bool
-begins_own name = starts_with nat_eq (last_of name) (codes "conftest")
+-- The last part of the name begins with conftest, or it is config.answers. (own)
+abbrev pub is_own_part : List ℕ → Bool
+is_own_part name = starts_with nat_eq (last_of name) (codes "conftest") || bytes_eq (last_of name) (codes "config.answers")
 
--- A run has the name for itself: its checks make files of such names in the current directory, and
--- Autoconf removes all of them. If the directory of the name isn't there, it is no such name. (own)
+-- A run has the name for itself: its checks make files of such names in the current directory, of
+-- which Autoconf removes all that begin with conftest, or its answers are kept there. If the directory of the name isn't there, it is no such name. (own)
 abbrev pub is_own : Known → List ℕ → Bool
-is_own k name = begins_own name && is_here k name
+is_own k name = is_own_part name && is_here k name
 
 -- The same, if the files are known. (own)
 abbrev pub is_own_in : Option Known → List ℕ → Bool

@@ -121,11 +121,12 @@ fn is_here<D: Disk>(disk: &D, name: &str) -> Result<bool, AllocError>
     Ok(is_one(home, here))
 }
 
-/// Returns whether the last part of a name begins with `conftest`.
-fn begins_own(name: &str) -> bool
-    ensures { result ≡ meant.begins_own name.now }
+/// Returns whether the last part of a name begins with `conftest`, or is `config.answers`.
+fn is_own_part(name: &str) -> bool
+    ensures { result ≡ meant.is_own_part name.now }
 {
-    last_of(name).as_bytes().starts_with(b"conftest")
+    let last = last_of(name).as_bytes();
+    last.starts_with(b"conftest") || last == b"config.answers".as_slice()
 }
 
 /// Returns whether a run has this name for itself. Fails only if memory runs out.
@@ -133,14 +134,15 @@ fn is_own_path<D: Disk>(disk: &D, name: &str) -> Result<bool, AllocError>
     ensures { IfOk result
         (λ own. IfSome (D.known disk.now) (λ k. own ≡ meant.is_own k name.now)) }
 {
-    if !begins_own(name) {
+    if !is_own_part(name) {
         return Ok(false);
     }
     is_here(disk, name)
 }
 
 /// Returns whether a run has this name of a file for itself: the name is in the current directory,
-/// and its last part begins with `conftest`, as the names of all files that a check makes (own).
+/// and its last part begins with `conftest`, as the names of all files that a check makes, or is
+/// `config.answers`, in which a run keeps its answers until it ends (own).
 ///
 /// A name whose directory isn't there, or that no file can have, is no such name.
 ///
