@@ -15,7 +15,7 @@ use cmd_call::{Hears, Terminal};
 use cmd_explain::Why;
 use cmd_status::{Happened, RECORD, no_memory, no_record, tell_unread};
 use crew_refusals::Causes;
-use crew_trait::Crew;
+use crew_resume::Resumes;
 use engine_frame::recheck_args;
 use file_disk::Disk;
 use file_texts::read_text;
@@ -36,7 +36,7 @@ fn why_of(is_asked: bool, text: &[u8]) -> Why<'_>
 
 /// Runs a configure.ac again with the arguments of the record that has this text, and returns
 /// what happened.
-fn run_again<D: Disk, C: Crew + Causes, R: Read, W: Hears, E: Hears>(
+fn run_again<D: Disk, C: Resumes + Causes, R: Read, W: Hears, E: Hears>(
     terminal: &mut Terminal<'_, D, R, W, E>,
     text: &[u8],
     crew: &mut C,
@@ -79,7 +79,7 @@ fn run_again<D: Disk, C: Crew + Causes, R: Read, W: Hears, E: Hears>(
 /// The environment is that of now, and at most one child runs at once. The record and the log are
 /// written again, and the cache if one is named, but no file and no header. If anything is wrong,
 /// standard error has a line for it (own). If it is asked, further lines may say why.
-pub fn run_recheck<D: Disk, C: Crew + Causes, R: Read, W: Hears, E: Hears>(
+pub fn run_recheck<D: Disk, C: Resumes + Causes, R: Read, W: Hears, E: Hears>(
     terminal: &mut Terminal<'_, D, R, W, E>,
     crew: &mut C,
 ) -> Happened

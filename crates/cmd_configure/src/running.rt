@@ -24,7 +24,7 @@ use cmd_status::{
     Happened, finish_run, no_memory, print_shown, tell_own_cache, tell_run, tell_unread,
 };
 use crew_refusals::Causes;
-use crew_trait::Crew;
+use crew_resume::{Givens, Resumes};
 use deftable::Bytes;
 use engine::{Fault, Judged, Needs, go, judge};
 use file_disk::Disk;
@@ -56,9 +56,31 @@ fn given_of<'a>(needs: &'a Needs<'_>, cache: Option<&'a [u8]>) -> Given<'a>
     }
 }
 
+/// Tells the crew what a run is given, if it has a cache and makes its files.
+fn tell_crew<C: Resumes>(
+    why: &Why<'_>,
+    environment: &[(Bytes, Bytes)],
+    needs: &Needs<'_>,
+    cache: Option<&[u8]>,
+    crew: &mut C,
+)
+    ensures { C.account crew.new ≡ C.account crew.old }
+{
+    let settings = needs.settings();
+    if settings.no_create || settings.cache_name.is_none() {
+        return;
+    }
+    crew.resume(&Givens {
+        source: why.text,
+        arguments: why.args,
+        environment,
+        cache,
+    });
+}
+
 /// Runs a source that was judged, with what was read for it, and returns what happened.
 #[tactic(auto, using(file_texts::proofs::Unused::fresh_unused))]
-fn run_supplied<D: Disk, C: Crew + Causes, R: Read, W: Hears, E: Hears>(
+fn run_supplied<D: Disk, C: Resumes + Causes, R: Read, W: Hears, E: Hears>(
     terminal: &mut Terminal<'_, D, R, W, E>,
     window: usize,
     why: &Why<'_>,
@@ -104,8 +126,46 @@ fn run_supplied<D: Disk, C: Crew + Causes, R: Read, W: Hears, E: Hears>(
     finish_run(terminal, why, &given, answer, crew)
 }
 
+/// Tells the crew what a run is given, runs it, and returns what happened.
+fn run_told<D: Disk, C: Resumes + Causes, R: Read, W: Hears, E: Hears>(
+    terminal: &mut Terminal<'_, D, R, W, E>,
+    window: usize,
+    why: &Why<'_>,
+    needs: &Needs<'_>,
+    supplies: &Supplies,
+    crew: &mut C,
+) -> Happened
+    requires window { IsWindow window }
+    requires may_run { MayRun (C.account crew.old) }
+    requires asked { why.now.is_asked ≡ terminal.old.is_asked }
+    requires apart { IsCacheApart (D.known terminal.old.outputs.disk)
+        needs.now.settings.cache_name }
+    requires source { IsRead (script_in needs.now) }
+    requires given { AreGiven (D.known terminal.old.outputs.disk) (script_in needs.now)
+        needs.now.settings.cache_name needs.now.settings.srcdir needs.now.settings.no_create
+        supplies.now.cache supplies.now.templates.items }
+    requires fresh { terminal.old.outputs ≡ fresh terminal.old.outputs.disk }
+    ensures idle { IsIdle (C.account crew.new).events }
+    ensures run { is_all_done result ≡ true
+        → Prints (W.contents terminal.old.output) (W.contents terminal.new.output) E.contents
+        E.has_failed terminal.old.errors terminal.new.errors terminal.old.is_asked (λ out said.
+        IsRun window needs.now.arguments (script_in needs.now) needs.now.settings
+        (C.account crew.old) (C.account crew.new) (D.known terminal.old.outputs.disk)
+        (D.known terminal.new.outputs.disk) out said (status_after result)) }
+    ensures ended { WritesSo W.contents W.has_failed E.contents E.has_failed terminal.old.output
+        terminal.new.output terminal.old.errors terminal.new.errors terminal.old.is_asked
+        (is_output_cut result) (
+        IsRunEnd window needs.now.arguments (script_in needs.now) needs.now.settings
+        (C.account crew.old) (C.account crew.new) (D.known terminal.old.outputs.disk)
+        (D.known terminal.new.outputs.disk) result) }
+    ensures input { terminal.new.input ≡ terminal.old.input }
+{
+    tell_crew(why, terminal.env, needs, cache_of(supplies), crew);
+    run_supplied(terminal, window, why, needs, supplies, crew)
+}
+
 /// Reads what a source that was judged needs, runs it, and returns what happened.
-fn run_needs<D: Disk, C: Crew + Causes, R: Read, W: Hears, E: Hears>(
+fn run_needs<D: Disk, C: Resumes + Causes, R: Read, W: Hears, E: Hears>(
     terminal: &mut Terminal<'_, D, R, W, E>,
     window: usize,
     why: &Why<'_>,
@@ -137,7 +197,7 @@ fn run_needs<D: Disk, C: Crew + Causes, R: Read, W: Hears, E: Hears>(
     let disk = terminal.outputs.disk();
     match read_supplies(terminal.alloc, disk, needs.source(), needs.settings()) {
         Ok(supplies) => {
-            let happened = run_supplied(terminal, window, why, needs, &supplies, crew);
+            let happened = run_told(terminal, window, why, needs, &supplies, crew);
             // The process ends soon, and the system takes its memory back at once.
             let _kept = ManuallyDrop::new(supplies);
             happened
@@ -165,7 +225,7 @@ fn own_cache<'a, D: Disk>(disk: &D, settings: &'a Settings) -> Result<Option<&'a
 
 /// Runs a source that was judged, unless its cache has a name that a run has for itself, and returns
 /// what happened.
-fn run_judged<D: Disk, C: Crew + Causes, R: Read, W: Hears, E: Hears>(
+fn run_judged<D: Disk, C: Resumes + Causes, R: Read, W: Hears, E: Hears>(
     terminal: &mut Terminal<'_, D, R, W, E>,
     window: usize,
     why: &Why<'_>,
@@ -201,7 +261,7 @@ fn run_judged<D: Disk, C: Crew + Causes, R: Read, W: Hears, E: Hears>(
 }
 
 /// Judges a source, runs it or shows a text, and returns what happened.
-fn run_source<D: Disk, C: Crew + Causes, R: Read, W: Hears, E: Hears>(
+fn run_source<D: Disk, C: Resumes + Causes, R: Read, W: Hears, E: Hears>(
     terminal: &mut Terminal<'_, D, R, W, E>,
     window: usize,
     why: &Why<'_>,
@@ -247,7 +307,7 @@ fn run_source<D: Disk, C: Crew + Causes, R: Read, W: Hears, E: Hears>(
 }
 
 /// Reads a source, runs it, and returns what happened.
-fn run_text<D: Disk, C: Crew + Causes, R: Read, W: Hears, E: Hears>(
+fn run_text<D: Disk, C: Resumes + Causes, R: Read, W: Hears, E: Hears>(
     terminal: &mut Terminal<'_, D, R, W, E>,
     window: usize,
     why: &Why<'_>,
@@ -312,7 +372,7 @@ fn why_of<'a>(is_asked: bool, path: &'a [u8], text: &'a [u8], args: &'a [Bytes])
 /// shown, nothing is written. If anything is wrong, standard error has a line for it (own). If it
 /// is found before the run, nothing is started or written; if a put is refused, or the log can't be
 /// written, outputs may have been written before that. If it is asked, further lines may say why.
-pub fn run_configure<D: Disk, C: Crew + Causes, R: Read, W: Hears, E: Hears>(
+pub fn run_configure<D: Disk, C: Resumes + Causes, R: Read, W: Hears, E: Hears>(
     terminal: &mut Terminal<'_, D, R, W, E>,
     window: usize,
     args: &[Bytes],

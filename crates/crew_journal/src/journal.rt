@@ -14,7 +14,7 @@ ghost use Rattle.crew_journal.specs.Texts.{IsPen, IsWritten};
 use crate::file::AnswerFile;
 use crate::flight::{Flights, no_flights, put_flight, record_of, take_flight};
 use crate::pen::Pen;
-use answers_text::job_text as text_of;
+use answers_text::{Record, job_text as text_of};
 use crew_jobs::Job;
 use crew_kept::Kept;
 use crew_trait::{Crew, Refused, Reply};
@@ -156,6 +156,28 @@ impl<C: Crew + Drop, F: AnswerFile + Drop> Journal<C, F> {
             first: digest,
             before: used,
         }
+    }
+
+    /// Takes replies from these records, and appends to this file, which has so many bytes, in place
+    /// of those that it had. `digest` is that of the last record in it, or of its first line. If a
+    /// start was tried before, nothing changes. Returns whether they are taken.
+    pub fn restart(&mut self, records: Vec<Record>, file: F, digest: [u8; 32], used: u64) -> bool
+        requires texts { IfSome (F.texts file) (λ texts. texts ≡ []) }
+        ensures crew { self.new.kept.crew ≡ self.old.kept.crew }
+        ensures placed { self.new.kept.placed ≡ self.old.kept.placed }
+        ensures records { result ≡ true → self.new.kept.records ≡ records.items }
+        ensures file { result ≡ true → self.new.file ≡ file }
+        ensures same { result ≡ false → self.new ≡ self.old }
+    {
+        if !self.kept.supply(records) {
+            return false;
+        }
+        let mut pen = Pen::new(file, digest, used);
+        self.flights = flights_or_stop(self.alloc, &mut pen);
+        self.pen = pen;
+        self.first = digest;
+        self.before = used;
+        true
     }
 
     /// Returns the crew inside.

@@ -4,3 +4,4 @@ mod Joining
 mod Keeping
 mod Linking
 mod Recorded
+mod Fresh

@@ -176,6 +176,27 @@ fn put_end(
     Some((slot, reply))
 }
 
+/// Returns whether nothing was started yet.
+#[tactic(auto, using(crate::proofs::Fresh::no_items))]
+fn is_fresh(
+    placed: &Vec<Placed>,
+    waiting: &Vec<Waiting>,
+    linked: bool,
+    events: u64,
+    attempts: u64,
+) -> bool
+    ensures placed { result ≡ true → placed.now.items ≡ [] }
+    ensures waiting { result ≡ true → waiting.now.items ≡ [] }
+    ensures linked { result ≡ true → linked ≡ false }
+    ensures events { result ≡ true → events ≡ 0 }
+    ensures attempts { result ≡ true → attempts ≡ 0 }
+{
+    if linked || events != 0 || attempts != 0 {
+        return false;
+    }
+    placed.is_empty() && waiting.is_empty()
+}
+
 impl<C: Crew + Drop> Kept<C> {
     /// Returns a crew around one that has started nothing, which takes replies from these records. If
     /// memory runs out, it takes none.
@@ -202,6 +223,29 @@ impl<C: Crew + Drop> Kept<C> {
             events: 0,
             attempts: 0,
         }
+    }
+
+    /// Takes replies from these records, in place of those that it had. If a start was tried before,
+    /// nothing changes. Returns whether they are taken.
+    pub fn supply(&mut self, records: Vec<Record>) -> bool
+        ensures crew { self.new.crew ≡ self.old.crew }
+        ensures placed { self.new.placed ≡ self.old.placed }
+        ensures begun { result ≡ true → (C.account self.new.crew).events ≡ [] }
+        ensures unplaced { result ≡ true → self.new.placed ≡ [] }
+        ensures records { result ≡ true → self.new.records ≡ records.items }
+        ensures same { result ≡ false → self.new ≡ self.old }
+    {
+        if !is_fresh(
+            &self.placed,
+            &self.waiting,
+            self.linked,
+            self.events,
+            self.attempts,
+        ) {
+            return false;
+        }
+        self.supply = Supply::new(self.alloc, records);
+        true
     }
 
     /// Returns the crew inside.

@@ -35,8 +35,8 @@ use cmd_help::{run_help, run_version};
 use cmd_standin::Meeting;
 use cmd_status::{exit_status, run_standin, run_status};
 use crew_refusals::{Cause, Causes};
+use crew_resume::Resumes;
 use crew_tally::{Children, Counted, Tally, summary};
-use crew_trait::Crew;
 use deftable::Bytes;
 use file_disk::{Disk, Host};
 use file_texts::FileOutputs;
@@ -115,7 +115,7 @@ fn start_tools<T: Tools, E: Hears>(words: &[Bytes], tools: &mut T, errors: &mut 
 }
 
 /// Runs the configure.ac that the arguments name, and returns the exit status of what happened.
-fn configure<D: Disk, C: Crew + Causes, R: Read, W: Hears, E: Hears>(
+fn configure<D: Disk, C: Resumes + Causes, R: Read, W: Hears, E: Hears>(
     terminal: &mut Terminal<'_, D, R, W, E>,
     window: usize,
     args: &[Bytes],
@@ -151,7 +151,7 @@ fn configure<D: Disk, C: Crew + Causes, R: Read, W: Hears, E: Hears>(
 
 /// Runs a configure.ac again with the arguments of its record, and returns the exit status of what
 /// happened.
-fn recheck<D: Disk, C: Crew + Causes, R: Read, W: Hears, E: Hears>(
+fn recheck<D: Disk, C: Resumes + Causes, R: Read, W: Hears, E: Hears>(
     terminal: &mut Terminal<'_, D, R, W, E>,
     crew: &mut C,
 ) -> u8
@@ -195,7 +195,7 @@ fn recheck<D: Disk, C: Crew + Causes, R: Read, W: Hears, E: Hears>(
 /// Each error is reported as one line on standard error. If that can't be written, only the status
 /// reports it. If the terminal's `is_asked` is true, further lines may follow such a line, which
 /// say why; otherwise none do.
-pub fn run<M: Meeting, D: Disk, C: Crew + Causes, T: Tools, R: Read, W: Hears, E: Hears>(
+pub fn run<M: Meeting, D: Disk, C: Resumes + Causes, T: Tools, R: Read, W: Hears, E: Hears>(
     terminal: &mut Terminal<'_, D, R, W, E>,
     meeting: &mut M,
     words: &[Bytes],
@@ -455,7 +455,7 @@ fn put_line<E: Hears>(line: &Option<Vec<u8>>, errors: &mut E)
 /// asked for if standard error is a terminal, or if the environment has an ACRUN_WHY that isn't
 /// empty. If standard error is a terminal, the last line of a run that made a check sums it up
 /// (own).
-pub fn command<C: Crew + Causes + Children, T: Tools>(
+pub fn command<C: Resumes + Causes + Children, T: Tools>(
     rt: HostRuntime,
     alloc: Global,
     words: &[Bytes],

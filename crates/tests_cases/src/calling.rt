@@ -3,9 +3,10 @@
 ghost use Rattle.proberun.specs.Ran.{MayRun};
 
 use cmd_standin::MeetingFiles;
-use crew::{Crew, MemoryCrew, Order, ProcessCrew};
+use crew::{MemoryCrew, Order, ProcessCrew};
 use crew_progress::{Showing, Watched};
 use crew_refusals::{Cause, Causes};
+use crew_resume::Resumes;
 use crew_tally::Children;
 use deftable::Bytes;
 use file_disk::Host;
@@ -69,7 +70,7 @@ impl Tools for Counting {
 
 /// Returns the exit status of the program over a crew. It promises nothing, so that its callers
 /// don't see the long contract of the command.
-pub fn status_over<C: Crew + Causes, R: Read, W: Write, E: Write>(
+pub fn status_over<C: Resumes + Causes, R: Read, W: Write, E: Write>(
     rt: &HostRuntime,
     words: &[Bytes],
     env: &[(Bytes, Bytes)],
@@ -99,7 +100,7 @@ pub fn status_over<C: Crew + Causes, R: Read, W: Write, E: Write>(
 }
 
 /// Returns the exit status of the whole program over a crew, on the streams of the process.
-pub fn command_over<C: Crew + Causes + Children>(
+pub fn command_over<C: Resumes + Causes + Children>(
     rt: &HostRuntime,
     words: &[Bytes],
     env: &[(Bytes, Bytes)],

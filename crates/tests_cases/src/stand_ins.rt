@@ -6,8 +6,9 @@ ghost use Rattle.std.specs.Prelude.{◌≡◌, []};
 use crate::calling::{command_over, status_of_children};
 use conftest::compile_job;
 use conftest_source::{default_includes, header_source};
-use crew::{Crew, FuseKind, Fused, ProcessCrew};
+use crew::{FuseKind, Fused, ProcessCrew};
 use crew_refusals::Causes;
+use crew_resume::Resumes;
 use crew_tally::Children;
 use deftable::{Bytes, Defs, Vars};
 use runner::{ProcessTexts, words};
@@ -100,7 +101,7 @@ struct Cut {
 
 /// Puts the exit status of the whole program over a crew that has started nothing, or over one
 /// around it that refuses a call. What it prints goes to the streams of the process.
-fn put_status<C: Crew + Causes + Children + Drop>(
+fn put_status<C: Resumes + Causes + Children + Drop>(
     page: &mut Page,
     rt: &HostRuntime,
     words: &[Bytes],

@@ -8,8 +8,9 @@ use crate::memory::{MemoryDisk, copied};
 use cmd_call::{Heard, Terminal};
 use cmd_configure::run_configure;
 use cmd_status::{exit_status, run_status};
-use crew::{Crew, MemoryCrew, Order};
+use crew::{MemoryCrew, Order};
 use crew_refusals::Causes;
+use crew_resume::Resumes;
 use deftable::Bytes;
 use file_disk::Disk;
 use file_texts::FileOutputs;
@@ -86,7 +87,7 @@ fn put_told(page: &mut Page, status: u8, output: &[u8], errors: &[u8]) {
 }
 
 /// Configures with both streams in vectors. Returns the exit status and the outputs.
-fn configured_with<D: Disk, C: Crew + Causes>(
+fn configured_with<D: Disk, C: Resumes + Causes>(
     alloc: Global,
     disk: D,
     words: &[Bytes],
@@ -111,7 +112,7 @@ fn configured_with<D: Disk, C: Crew + Causes>(
 }
 
 /// Runs `configure` over a disk and a crew, and returns the outputs.
-fn configure_over<D: Disk, C: Crew + Causes>(
+fn configure_over<D: Disk, C: Resumes + Causes>(
     page: &mut Page,
     disk: D,
     words: &[Bytes],

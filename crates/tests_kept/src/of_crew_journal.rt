@@ -130,7 +130,7 @@ fn put_journal(
     used: u64,
     left: usize,
 )
-    requires fresh { MemoryCrew.account crew ≡ record { events = []; attempts = 0; failures = 0 } }
+    requires fresh { crew.account ≡ record { events = []; attempts = 0; failures = 0 } }
 {
     let alloc = page.alloc();
     let line = first_line(alloc, &RUN);
