@@ -843,4 +843,5 @@ def try_broken(bench):
     return is_right
 
 
-sys.exit(main())
+if __name__ == "__main__":
+    sys.exit(main())
