@@ -21,5 +21,6 @@ mod found;
 mod host_file;
 mod resumed;
 mod said;
+mod told;
 
 pub use resumed::Resumed;

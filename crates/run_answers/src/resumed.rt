@@ -5,6 +5,7 @@ ghost use Rattle.std.specs.Prelude.{◌≡◌, []};
 use crate::found::{Found, found_answers};
 use crate::host_file::{HostFile, remove};
 use crate::said::line_of;
+use crate::told::Told;
 use cmd_call::Hears;
 use crew_jobs::Job;
 use crew_journal::Journal;
@@ -27,6 +28,8 @@ pub struct Resumed<'a, C: Crew + Drop, R: Files + Env, E: Hears + Drop> {
     version: &'static str,
     // Where it is said that a run goes on.
     said: E,
+    // What the run is given, until its first child.
+    told: Option<Told>,
     // Whether the file is there, with the answers from which this run goes on.
     goes_on: bool,
 }
@@ -64,38 +67,25 @@ impl<'a, C: Crew + Drop, R: Files + Env, E: Hears + Drop> Resumed<'a, C, R, E> {
             alloc,
             version,
             said,
+            told: None,
             goes_on: false,
         }
     }
 
-    /// Removes the file of the answers, if this run made it or goes on from it. The run has come to
-    /// its end, and all else is written.
-    pub fn end(&self) {
-        if self.goes_on || self.journal.file().is_made() {
-            remove(self.rt);
-        }
-    }
-}
-
-impl<'a, C: Crew + Drop, R: Files + Env, E: Hears + Drop> Crew for Resumed<'a, C, R, E> {
-    ghost account = { λ r. ⟦<Journal<C, HostFile<'a, R>> as Crew>⟧.account r.journal };
-
-    fn start(&mut self, slot: usize, job: Job) -> Result<(), Refused> {
-        self.journal.start(slot, job)
-    }
-
-    fn next(&mut self) -> (usize, Reply) {
-        self.journal.next()
-    }
-}
-
-impl<'a, C: Crew + Drop, R: Files + Env, E: Hears + Drop> Resumes for Resumed<'a, C, R, E> {
-    /// Looks for the answers of an interrupted run that rested on the same. If there are some, it says
-    /// so, and replies are taken from them. Replies of children are then written to the file. If
-    /// memory runs out, or the system doesn't say what the run rests on, none are.
-    fn resume(&mut self, givens: &Givens<'_>) {
+    /// Looks for the answers of an interrupted run that rested on the same, before the first child. If
+    /// there are some, it says so, and replies are taken from them. Replies of children are then
+    /// written to the file. If memory runs out, or the system doesn't say what the run rests on, none
+    /// are.
+    fn begin(&mut self)
+        ensures { ⟦<Resumed<'a, C, R, E> as Crew>⟧.account self.new
+            ≡ ⟦<Resumed<'a, C, R, E> as Crew>⟧.account self.old }
+    {
+        let Some(told) = self.told.take() else {
+            return;
+        };
         let version = self.version.as_bytes();
-        let Ok(Some(found)) = found_answers(self.alloc, self.rt, version, givens) else {
+        let givens = told.givens();
+        let Ok(Some(found)) = found_answers(self.alloc, self.rt, version, &givens) else {
             return;
         };
         tell(self.alloc, &found, &mut self.said);
@@ -107,6 +97,35 @@ impl<'a, C: Crew + Drop, R: Files + Env, E: Hears + Drop> Resumes for Resumed<'a
         {
             self.goes_on = goes_on;
         }
+    }
+
+    /// Removes the file of the answers, if this run made it or goes on from it, or if it started no
+    /// child. The run has come to its end, and all else is written.
+    pub fn end(&self) {
+        if self.told.is_some() || self.goes_on || self.journal.file().is_made() {
+            remove(self.rt);
+        }
+    }
+}
+
+impl<'a, C: Crew + Drop, R: Files + Env, E: Hears + Drop> Crew for Resumed<'a, C, R, E> {
+    ghost account = { λ r. ⟦<Journal<C, HostFile<'a, R>> as Crew>⟧.account r.journal };
+
+    fn start(&mut self, slot: usize, job: Job) -> Result<(), Refused> {
+        self.begin();
+        self.journal.start(slot, job)
+    }
+
+    fn next(&mut self) -> (usize, Reply) {
+        self.journal.next()
+    }
+}
+
+impl<'a, C: Crew + Drop, R: Files + Env, E: Hears + Drop> Resumes for Resumed<'a, C, R, E> {
+    /// Keeps what the run is given until its first child. Then the answers of an interrupted run that
+    /// rested on the same are looked for.
+    fn resume(&mut self, givens: &Givens<'_>) {
+        self.told = Told::of(self.alloc, givens).ok();
     }
 }
 
