@@ -25,7 +25,7 @@ pub struct Resumed<'a, C: Crew + Drop, R: Files + Env, E: Hears + Drop> {
     pub(crate) journal: Journal<C, HostFile<'a, R>>,
     rt: &'a R,
     alloc: Global,
-    version: &'static str,
+    version: &'a str,
     // Where it is said that a run goes on.
     said: E,
     // What the run is given, until its first child.
@@ -48,13 +48,7 @@ fn tell<E: Hears>(alloc: Global, found: &Found, said: &mut E) {
 impl<'a, C: Crew + Drop, R: Files + Env, E: Hears + Drop> Resumed<'a, C, R, E> {
     /// Returns a crew around one that has started nothing. Until it is told what a run is given, it
     /// keeps no answers. `said` gets the line that says that a run goes on.
-    pub fn new(
-        alloc: Global,
-        rt: &'a R,
-        crew: C,
-        said: E,
-        version: &'static str,
-    ) -> Resumed<'a, C, R, E>
+    pub fn new(alloc: Global, rt: &'a R, crew: C, said: E, version: &'a str) -> Resumed<'a, C, R, E>
         requires events { (C.account crew).events ≡ [] }
         requires attempts { (C.account crew).attempts ≡ 0 }
         ensures account { ⟦<Resumed<'a, C, R, E> as Crew>⟧.account result ≡ C.account crew }
