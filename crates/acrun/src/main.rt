@@ -2,7 +2,8 @@
 //! what starts the program of the tools beside it.
 //!
 //! If standard error is a terminal, or ACRUN_PROGRESS asks for lines, the crew shows its children
-//! there. The log of an earlier run is removed before the first child is started, so that a run
+//! there. With a cache, a run goes on from the answers of one that was interrupted, and keeps its own
+//! in a file until it ends. The log of an earlier run is removed before the first child is started, so that a run
 //! that is interrupted leaves none that looks like its own.
 //!
 //! The gate runs it with the words in `args` on the files in `data`: a whole run of a configure.ac
@@ -12,6 +13,7 @@
 use crew::ReadyCrew;
 use crew_progress::Watched;
 use patient_writer::Patient;
+use run_answers::Resumed;
 use runner::{
     FilterFault, Heard, LOG, ProcessTexts, VERSION, command, environment, showing_of, tell, words,
 };
@@ -29,16 +31,20 @@ fn run(rt: HostRuntime) -> Result<u8, AllocError> {
     let is_terminal = errors.is_terminal();
     let showing = showing_of(words.as_slice(), env.as_slice(), is_terminal);
     let children = ReadyCrew::removing(rt, rt.alloc(), LOG)?;
-    let mut crew = Watched::new(children, Heard::new(Patient::new(errors, &rt)), showing);
+    let watched = Watched::new(children, Heard::new(Patient::new(errors, &rt)), showing);
+    let said = Heard::new(Patient::new(rt.stderr(), &rt));
+    let mut crew = Resumed::new(rt.alloc(), &rt, watched, said, VERSION);
     let mut tools = Neighbour::new(rt, rt.alloc(), VERSION);
-    Ok(command(
+    let status = command(
         rt,
         rt.alloc(),
         words.as_slice(),
         env.as_slice(),
         &mut crew,
         &mut tools,
-    ))
+    );
+    crew.end();
+    Ok(status)
 }
 
 /// Ends the process with the exit status of the command. If memory runs out before the command is

@@ -47,7 +47,7 @@ sub clean {
 	my @outputs = grep { !m{(?:^|/)\.{0,2}(?:/|$)} } $this->_outputs();
 	$this->SUPER::clean(@words);
 	my %directories = map { dirname($_) => 1 } 'config.log', @outputs;
-	my @left = ('config.log', 'config.status', 'config.cache', @outputs, map { $this->_left_in($_) } keys %directories);
+	my @left = ('config.log', 'config.status', 'config.cache', 'config.answers', @outputs, map { $this->_left_in($_) } keys %directories);
 	my @there = grep { (-f $_ || -l $_) } map { $this->get_buildpath($_) } sort @left;
 	doit('rm', '-f', '--', @there) if @there;
 	return;
@@ -94,7 +94,7 @@ printed.
 ACRUN_WHY is 1 unless it is set. ACRUN_JOBS is what B<parallel=N> in DEB_BUILD_OPTIONS and B<--max-parallel> allow, unless it is set.
 
 dh_auto_clean removes the files and headers that the record of the run names, the record, the log, the cache, and what a run that was ended
-leaves: F<acrun-N.tmp> and conftests.
+leaves: F<config.answers>, F<acrun-N.tmp> and conftests.
 
 =head1 SEE ALSO
 
