@@ -52,7 +52,7 @@ for option in --srcdir= --cache-file= -C --prefix= --bindir= --enable- --disable
     '-h, --help' '-V, --version' VARIABLE=VALUE; do
     has configure "$option"
 done
-has configure 'Besides its outputs a run may leave: config.log config.status config.cache conftest* acrun-*.tmp'
+has configure 'Besides its outputs a run may leave: config.log config.status config.cache config.answers conftest* acrun-*.tmp'
 
 for command in '' configure status lint port header why standin help; do
     wide=$("$acrun" help $command | grep -E '^.{80}') && { wrong=1; echo "help $command is wider than 79 columns: $wide"; }

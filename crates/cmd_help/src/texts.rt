@@ -53,7 +53,7 @@ for each N.
   VARIABLE=VALUE          CC, CFLAGS and others
 
 Besides its outputs a run may leave:
-  config.log config.status config.cache conftest* acrun-*.tmp
+  config.log config.status config.cache config.answers conftest* acrun-*.tmp
 
 Exit status: 0 completed; 1 or another, as the source stops the run; 2 an
 error; 3 a child could not be run, and the run was cut.

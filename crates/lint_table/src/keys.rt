@@ -868,7 +868,7 @@ pub const NO_FLAGS: Key = Key(b"no-flags", b"CFLAGS is empty here if the user gi
 
 /// a run may leave conftests: this rule does not remove them, or this list takes them for sources
 #[rattlefmt::skip]
-pub const CONFTESTS_LEFT: Key = Key(b"conftests-left", b"a run may leave conftests: this rule does not remove them, or this list takes them for sources", b"a run may leave these files besides its outputs\n  config.log config.status config.cache conftest* acrun-*.tmp\nwrite a list as `$(filter-out conftest%,$(wildcard *.c))`; the script\nshare/configure removes conftests");
+pub const CONFTESTS_LEFT: Key = Key(b"conftests-left", b"a run may leave conftests: this rule does not remove them, or this list takes them for sources", b"a run may leave these files besides its outputs\n  config.log config.status config.cache config.answers conftest*\n  acrun-*.tmp\nwrite a list as `$(filter-out conftest%,$(wildcard *.c))`; the script\nshare/configure removes conftests");
 
 /// the last line has no newline, and neither has that of the file that is made; Autoconf adds one
 #[rattlefmt::skip]
