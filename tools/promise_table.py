@@ -37,7 +37,6 @@ from the sources.
 WHY_NONE = {
     "tool_start": "It takes what the program starts with. That the right program is started is tested.",
     "crew_launch": "They ask the system in which pipe there is something to read. Whatever it answers, no byte is lost.",
-    "crew_journal": "They make the file of a real system. Nothing is known of what it holds.",
     "run_facts": "They ask the system for what a run rests on, and for whose a file is. Nothing is known of what it answers.",
     "run_answers": "It removes a file. Of real files nothing is known.",
     "cmd_standin": "It takes the handle by which files are made. Nothing is known of them.",

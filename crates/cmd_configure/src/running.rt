@@ -56,7 +56,7 @@ fn given_of<'a>(needs: &'a Needs<'_>, cache: Option<&'a [u8]>) -> Given<'a>
     }
 }
 
-/// Tells the crew what a run is given, if it has a cache and makes its files.
+/// Tells the crew what a run is given, if it has a cache.
 fn tell_crew<C: Resumes>(
     why: &Why<'_>,
     environment: &[(Bytes, Bytes)],
@@ -66,8 +66,7 @@ fn tell_crew<C: Resumes>(
 )
     ensures { C.account crew.new ≡ C.account crew.old }
 {
-    let settings = needs.settings();
-    if settings.no_create || settings.cache_name.is_none() {
+    if needs.settings().cache_name.is_none() {
         return;
     }
     crew.resume(&Givens {

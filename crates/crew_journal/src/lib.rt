@@ -7,10 +7,10 @@
 //!
 //! ```text
 //! let kept = Kept::new(alloc, ProcessCrew::new(rt, alloc)?, records);
-//! let file = NewFile::new(rt, "config.answers");
+//! let file = MemoryFile::new(alloc, 100);
 //! let mut crew = Journal::new(alloc, kept, file, digest, used);
 //! crew.start(0, job)?;                       // nothing is written yet
-//! let (slot, reply) = crew.next();           // the file is made, and has the record
+//! let (slot, reply) = crew.next();           // the file has the record
 //! ```
 //!
 //! If a write fails, memory runs out or the file would have more than 64 MiB, nothing more is appended.
@@ -30,6 +30,6 @@ mod known;
 mod memory;
 mod pen;
 
-pub use file::{AnswerFile, NewFile};
+pub use file::AnswerFile;
 pub use journal::Journal;
 pub use memory::MemoryFile;

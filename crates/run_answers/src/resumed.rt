@@ -1,6 +1,7 @@
 //! A crew whose run goes on from the answers of one that was interrupted.
 
 ghost use Rattle.std.specs.Prelude.{◌≡◌, []};
+ghost use Rattle.crew_kept.specs.Taking.{AreTaken, account_with};
 
 use crate::found::{Found, found_answers};
 use crate::host_file::{HostFile, remove};
@@ -41,7 +42,7 @@ fn tell<E: Hears>(alloc: Global, found: &Found, said: &mut E) {
         return;
     }
     if let Ok(line) = line_of(alloc, records) {
-        let _ = said.say(line.as_slice());
+        let _ = said.say(line.as_bytes());
     }
 }
 
@@ -91,6 +92,26 @@ impl<'a, C: Crew + Drop, R: Files + Env, E: Hears + Drop> Resumed<'a, C, R, E> {
         {
             self.goes_on = goes_on;
         }
+    }
+
+    /// Returns the crew inside.
+    pub fn crew(&self) -> &C
+        ensures inner { result.now ≡ self.now.journal.kept.crew }
+        // The account of the run is that of the crew inside, with the replies that were taken at their
+        // numbers.
+        ensures account { ⟦<Resumed<'a, C, R, E> as Crew>⟧.account self.now
+            ≡ account_with self.now.journal.kept.placed (C.account result.now) }
+        // Each start for which the answers of the interrupted run have a reply is taken, with that
+        // reply, and no other one is.
+        ensures taken { AreTaken self.now.journal.kept.records self.now.journal.kept.placed
+            self.now.journal.kept.waiting (C.account result.now).events
+            (⟦<Resumed<'a, C, R, E> as Crew>⟧.account self.now).attempts
+            self.now.journal.kept.linked self.now.journal.kept.state }
+        // Without such answers the account of the run is that of the crew inside.
+        ensures alone { self.now.journal.kept.records ≡ []
+            → ⟦<Resumed<'a, C, R, E> as Crew>⟧.account self.now ≡ C.account result.now }
+    {
+        self.journal.kept().crew()
     }
 
     /// Removes the file of the answers, if this run made it or goes on from it, or if it started no

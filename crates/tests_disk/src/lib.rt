@@ -13,6 +13,8 @@ pub mod done;
 #[cfg(test)]
 mod memory;
 #[cfg(test)]
+mod noting;
+#[cfg(test)]
 mod of_commands;
 #[cfg(test)]
 mod of_file_texts;

@@ -5,6 +5,7 @@ ghost use Rattle.proberun.specs.Ran.{MayRun};
 
 use crate::done::Placed;
 use crate::memory::{MemoryDisk, copied};
+use crate::noting::Noting;
 use cmd_call::{Heard, Terminal};
 use cmd_configure::run_configure;
 use cmd_status::{exit_status, run_status};
@@ -91,6 +92,7 @@ fn configured_with<D: Disk, C: Resumes + Causes>(
     alloc: Global,
     disk: D,
     words: &[Bytes],
+    env: &[(Bytes, Bytes)],
     crew: &mut C,
     output: &mut Vec<u8>,
     errors: &mut Vec<u8>,
@@ -101,7 +103,7 @@ fn configured_with<D: Disk, C: Resumes + Causes>(
     let mut terminal = Terminal {
         alloc,
         is_asked: false,
-        env: &[],
+        env,
         outputs: FileOutputs::new(alloc, disk),
         input: b"".as_slice(),
         output: Heard::new(output),
@@ -116,6 +118,7 @@ fn configure_over<D: Disk, C: Resumes + Causes>(
     page: &mut Page,
     disk: D,
     words: &[Bytes],
+    env: &[(Bytes, Bytes)],
     crew: &mut C,
 ) -> FileOutputs<D>
     requires unchanged { IfSome (D.known disk) (λ k. k.deeds ≡ []) }
@@ -124,7 +127,15 @@ fn configure_over<D: Disk, C: Resumes + Causes>(
     let alloc = page.alloc();
     let mut output = Vec::new(alloc);
     let mut errors = Vec::new(alloc);
-    let (status, outputs) = configured_with(alloc, disk, words, crew, &mut output, &mut errors);
+    let (status, outputs) = configured_with(
+        alloc,
+        disk,
+        words,
+        env,
+        crew,
+        &mut output,
+        &mut errors,
+    );
     put_told(page, status, output.as_slice(), errors.as_slice());
     outputs
 }
@@ -194,7 +205,7 @@ fn configured<R: Abort>(
     let disk = MemoryDisk::new(rt, page.alloc(), files, false);
     match &mut MemoryCrew::new(page.alloc(), replies, Order::Oldest) {
         Ok(crew) => {
-            let outputs = configure_over(page, disk, words.as_slice(), crew);
+            let outputs = configure_over(page, disk, words.as_slice(), &[], crew);
             files_on(rt, page, outputs.disk(), NAMES)
         }
         Err(_) => {
@@ -267,4 +278,81 @@ CC=cc|S| => 3[checking for a.h... refused^J][configure: cut short at child 1^J]2
 #[test]
 fn outputs_that_are_made_again(rt: HostRuntime) -> Result<(), Fail> {
     try_rows(rt.alloc(), &Commands { rt: &rt }, COMMANDS)
+}
+
+/// Returns an environment with one variable, whose name and value have `=` between them.
+fn env_of(page: &mut Page, text: &[u8]) -> Vec<(Bytes, Bytes)> {
+    let alloc = page.alloc();
+    let mut env = Vec::new(alloc);
+    let (name, value) = cut(text, b"=");
+    if let (Ok(name), Ok(value)) = (
+        Bytes::from_slice(alloc, name),
+        Bytes::from_slice(alloc, value),
+    )
+        && env.push((name, value)).is_ok()
+    {
+        return env;
+    }
+    page.cut();
+    env
+}
+
+/// A row has three parts, with bars between them: a variable of the environment, the arguments of
+/// `configure`, and the text of the cache. It puts what the crew is told of the run, and which
+/// children it starts then.
+#[derive(Drop)]
+struct Told<'a, R: Abort> {
+    rt: &'a R,
+}
+
+/// The package of these rows.
+const SMALL: &[u8] = b"\
+configure.ac AC_INIT([a],[1])
+AC_CHECK_HEADERS([a.h])
+AC_OUTPUT
+";
+
+impl<R: Abort> RowCall for Told<'_, R> {
+    fn put(&self, page: &mut Page, given: &[u8]) {
+        let (env, rest) = cut(given, b"|");
+        let (words, cache) = cut(rest, b"|");
+        let env = env_of(page, env);
+        let words = words_of(page, words);
+        let replies = replies_in(page, b"0");
+        let mut files = package_of(self.rt, page, SMALL);
+        if !cache.is_empty() {
+            add_file(self.rt, page, &mut files, b"config.cache", cache);
+        }
+        let disk = MemoryDisk::new(self.rt, page.alloc(), files.as_slice(), false);
+        match MemoryCrew::new(page.alloc(), replies, Order::Oldest) {
+            Ok(inner) => {
+                let mut crew = Noting::new(page.alloc(), inner);
+                let mut printed = Page::new(page.alloc());
+                configure_over(
+                    &mut printed,
+                    disk,
+                    words.as_slice(),
+                    env.as_slice(),
+                    &mut crew,
+                );
+                page.put(crew.noted());
+            }
+            Err(_) => page.cut(),
+        }
+    }
+}
+
+const TOLD: &[u8] = b"\
+// With a cache the crew is told what the run is given, once, before the first child.
+A=b|-C CC=cc| => [AC_INIT([a],[1])^JAC_CHECK_HEADERS([a.h])^JAC_OUTPUT^J]-C CC=cc A=b no cache [start]
+A=b|-C CC=cc -n| => [AC_INIT([a],[1])^JAC_CHECK_HEADERS([a.h])^JAC_OUTPUT^J]-C CC=cc -n A=b no cache [start]
+A=b|-C CC=cc|v_cv_a=${v_cv_a=1} => [AC_INIT([a],[1])^JAC_CHECK_HEADERS([a.h])^JAC_OUTPUT^J]-C CC=cc A=b [v_cv_a=${v_cv_a=1}][start]
+// Without a cache it is told nothing, and neither if the run has a fault.
+A=b|CC=cc|v_cv_a=${v_cv_a=1} => [start]
+A=b|-C CC=cc --unknown| =>
+";
+
+#[test]
+fn crew_is_told_what_a_run_is_given(rt: HostRuntime) -> Result<(), Fail> {
+    try_rows(rt.alloc(), &Told { rt: &rt }, TOLD)
 }

@@ -10,7 +10,5 @@ mod of_crew_journal;
 #[cfg(test)]
 mod of_crew_kept;
 #[cfg(test)]
-mod of_new_file;
-#[cfg(test)]
 mod of_run_fingerprint;
 pub mod work;
