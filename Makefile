@@ -44,6 +44,7 @@ demo: all
 	@sh examples/run.sh out/acrun examples/first
 	@sh examples/run.sh out/acrun examples/branches
 	@sh examples/standin/run.sh out/acrun
+	@sh examples/answers/run.sh out/acrun
 	@sh examples/tally/run.sh out/acrun
 	@sh examples/libraries/run.sh out/acrun
 	@sh examples/guide/run.sh out/acrun

@@ -1,7 +1,7 @@
 #!/usr/bin/env python3
 """The gate, `make check`: `rt ci`, then what no proof sees of the repository (`repository.py`), what comes of memory that runs out
-at each allocation (`refuse_each.py`), and runs of the built programs: over children that are acrun too (`examples/standin`), on a
-terminal (`try_terminal.py`), with errors (`examples/errors` and the examples of docs/errors.md), of the commands whose words no clause
+at each allocation (`refuse_each.py`), and runs of the built programs: over children that are acrun too (`examples/standin`), that
+are killed and go on (`examples/answers`), on a terminal (`try_terminal.py`), with errors (`examples/errors` and the examples of docs/errors.md), of the commands whose words no clause
 has (`examples/help`, `examples/lint` and `examples/port`), and of acrun with other programs in the place of acrun-tools
 (`examples/tools`).
 
@@ -79,11 +79,11 @@ def tried(*command):
 
 
 def examples():
-    """Tries acrun as the compiler of its own runs, on a terminal, with errors, in commands that explain something, and with other tools."""
+    """Tries acrun as the compiler of its own runs, after kills, on a terminal, with errors, in commands that explain something, and with other tools."""
     gather()
     for name in ("terminal", "errors"):
         yield tried(sys.executable, f"tools/try_{name}.py")
-    for name in ("standin", "help", "errors", "lint", "port", "tools"):
+    for name in ("standin", "answers", "help", "errors", "lint", "port", "tools"):
         yield tried("sh", f"examples/{name}/run.sh")
 
 
