@@ -332,7 +332,7 @@ pub const SHELL_NOT: Key = Key(b"shell-not", b"`\x01` on its own is not supporte
 
 /// `WORD` between statements is not supported
 #[rattlefmt::skip]
-pub const SHELL_AND: Key = Key(b"shell-and", b"`\x01` between statements is not supported", b"write instead; acrun port does it where it can\nAS_IF([test \"$name\" = value],\n  [what is done then],\n  [what is done otherwise])");
+pub const SHELL_AND: Key = Key(b"shell-and", b"`\x01` between statements is not supported", b"write an assignment on its own line; acrun port may do the rest\nAS_IF([test \"$name\" = value],\n  [what is done then],\n  [what is done otherwise])");
 
 /// the shell's `WORD` is not supported
 #[rattlefmt::skip]
