@@ -334,6 +334,10 @@ pub const SHELL_NOT: Key = Key(b"shell-not", b"`\x01` on its own is not supporte
 #[rattlefmt::skip]
 pub const SHELL_AND: Key = Key(b"shell-and", b"`\x01` between statements is not supported", b"write an assignment on its own line; acrun port may do the rest\nAS_IF([test \"$name\" = value],\n  [what is done then],\n  [what is done otherwise])");
 
+/// `+=` is not supported
+#[rattlefmt::skip]
+pub const SHELL_APPEND: Key = Key(b"shell-append", b"`+=` is not supported", b"write NAME=\"$NAME\"WORD for NAME+=WORD");
+
 /// the shell's `WORD` is not supported
 #[rattlefmt::skip]
 pub const SHELL_CASE: Key = Key(b"shell-case", b"the shell's `\x01` is not supported", b"write instead; acrun port does it where it can\nAS_CASE([$name],\n  [pattern | pattern], [what is done then],\n  [what is done otherwise])");

@@ -244,8 +244,11 @@ fn put_plain_text(alloc: Global, page: &mut Page, around: Around<'_>) -> Result<
     if is_called || is_macro_like(name, rest) {
         return put_no_macro(alloc, page, name);
     }
-    if has_blank_after_equals(from(rest, name.len())) {
+    let after = from(rest, name.len());
+    if has_blank_after_equals(after) {
         page.put(keys::BLANK_AFTER_EQUALS, &[]);
+    } else if !name.is_empty() && after.starts_with(b"+=") {
+        page.put(keys::SHELL_APPEND, &[]);
     } else {
         page.put(
             keys::NO_STATEMENT,
