@@ -70,7 +70,8 @@ class Run:
                 path = os.path.join(folder, name)
                 shown = os.path.relpath(path, room)
                 if not name.startswith(("conftest", "acrun-")) and shown not in source.files:
-                    self.texts[shown] = pathlib.Path(path).read_bytes()
+                    # gcc names what it hands to the linker at random, and a failed link says that name.
+                    self.texts[shown] = re.sub(rb"/tmp/cc\w+", b"/tmp/cc", pathlib.Path(path).read_bytes())
         self.calls = log.read_text(errors="replace").splitlines()
         self.starts = [re.sub(r"conftest\d+", "conftest", it.split(" ", 2)[2]) for it in self.calls if it.split(" ")[1] == "posix_spawn"]
         self.ends = sum(it.split(" ")[1] == "waitpid" for it in self.calls)
