@@ -1,9 +1,10 @@
 #!/bin/sh
 # Puts texts and files of all kinds in the place of the answers of a run that was interrupted: nothing of what the run answers changes,
 # and it ends at once.
-#   answers.sh PROGRAM
+#   answers.sh PROGRAM [STEP]       cuts the file at each STEP-th byte, by default each seventh
 set -u
 acrun=$(realpath "$1") || exit 2
+step=${2-7}
 folder=$(mktemp -d) || exit 2
 trap 'rm -rf "$folder"' EXIT
 cd "$folder" || exit 2
@@ -93,7 +94,7 @@ while [ "$at" -le "$size" ]; do
     chmod 600 config.answers
     run
     same "zeros from $at" ''
-    at=$((at + 7))
+    at=$((at + step))
 done
 
 # trial WHAT COMMAND: a file of this kind is there.
@@ -131,11 +132,27 @@ run
 unset ACRUN_AFRESH
 same 'a run that begins afresh' 7
 
-# Another argument, another variable and another source are another run.
-package other
-interrupt
-NOTE=1 export NOTE
-run
-unset NOTE
-same 'another environment' 7
+# Two runs in one directory at once, and one that goes on from the answers of a run that still goes. Each makes what one alone makes.
+cat > "$folder/bin/slow" << 'END'
+#!/bin/sh
+sleep 0.2
+END
+chmod +x "$folder/bin/slow"
+slowly() { timeout 60 "$acrun" configure -C CC="$folder/bin/slow" > "$1.out" 2> "$1.err" || echo "status $?" >> "$1.out"; }
+package beside
+slowly alone
+for each in config.h config.status config.cache config.log; do mv "$each" "$each.alone"; done
+slowly one &
+slowly two &
+sleep 0.7
+slowly three &
+wait
+for each in one two three; do
+    sed 's/^config.status: config.h is unchanged$/config.status: creating config.h/' "$each.out" | cmp -s - alone.out || { wrong=1; echo "answers: beside another run: $(cat "$each.out")"; }
+    grep -v '^configure: goes on from ' "$each.err" | cmp -s - alone.err || { wrong=1; echo "answers: beside another run: $(cat "$each.err")"; }
+done
+for each in config.h config.status config.cache config.log; do
+    cmp -s "$each" "$each.alone" || { wrong=1; echo "answers: beside another run: $each differs"; }
+done
+[ ! -e config.answers ] || { wrong=1; echo 'answers: beside another run: config.answers stays'; }
 exit "$wrong"
