@@ -132,13 +132,19 @@ run
 unset ACRUN_AFRESH
 same 'a run that begins afresh' 7
 
-# Two runs in one directory at once, and one that goes on from the answers of a run that still goes. Each makes what one alone makes.
+# Two runs in one directory at once, and one that goes on from the answers of a run that still goes. They share the conftests, so each may
+# be cut. Each other one makes what one alone makes, and so does one after them.
 cat > "$folder/bin/slow" << 'END'
 #!/bin/sh
 sleep 0.2
 END
 chmod +x "$folder/bin/slow"
 slowly() { timeout 60 "$acrun" configure -C CC="$folder/bin/slow" > "$1.out" 2> "$1.err" || echo "status $?" >> "$1.out"; }
+# like_alone NAME: the run printed what one alone prints.
+like_alone() {
+    sed 's/^config.status: config.h is unchanged$/config.status: creating config.h/' "$1.out" | cmp -s - alone.out &&
+        grep -v '^configure: goes on from ' "$1.err" | cmp -s - alone.err
+}
 package beside
 slowly alone
 for each in config.h config.status config.cache config.log; do mv "$each" "$each.alone"; done
@@ -148,11 +154,13 @@ sleep 0.7
 slowly three &
 wait
 for each in one two three; do
-    sed 's/^config.status: config.h is unchanged$/config.status: creating config.h/' "$each.out" | cmp -s - alone.out || { wrong=1; echo "answers: beside another run: $(cat "$each.out")"; }
-    grep -v '^configure: goes on from ' "$each.err" | cmp -s - alone.err || { wrong=1; echo "answers: beside another run: $(cat "$each.err")"; }
-done
-for each in config.h config.status config.cache config.log; do
-    cmp -s "$each" "$each.alone" || { wrong=1; echo "answers: beside another run: $each differs"; }
+    like_alone "$each" || grep -q '^configure: cut short at child ' "$each.err" || { wrong=1; echo "answers: beside another run: $(cat "$each.out" "$each.err")"; }
 done
 [ ! -e config.answers ] || { wrong=1; echo 'answers: beside another run: config.answers stays'; }
+rm -f config.h config.status config.cache config.log
+slowly last
+like_alone last || { wrong=1; echo "answers: after runs at once: $(cat last.out last.err)"; }
+for each in config.h config.status config.cache config.log; do
+    cmp -s "$each" "$each.alone" || { wrong=1; echo "answers: after runs at once: $each differs"; }
+done
 exit "$wrong"

@@ -9,7 +9,10 @@ use std::alloc::{AllocError, Global};
 pub(crate) struct Told {
     source: Bytes,
     arguments: Vec<Bytes>,
-    environment: Vec<(Bytes, Bytes)>,
+    // The names and values of the environment, one after the other, and how long each is. Most runs
+    // with a cache start no child, and one text is made faster than one for each.
+    environment: Vec<u8>,
+    lengths: Vec<(usize, usize)>,
     cache: Option<Bytes>,
 }
 
@@ -22,20 +25,6 @@ fn copies_of(alloc: Global, texts: &[Bytes]) -> Result<Vec<Bytes>, AllocError> {
     Ok(copies)
 }
 
-/// Returns equal entries that have their own memory.
-fn entries_of(
-    alloc: Global,
-    entries: &[(Bytes, Bytes)],
-) -> Result<Vec<(Bytes, Bytes)>, AllocError> {
-    let mut copies = Vec::with_capacity(alloc, entries.len())?;
-    for entry in entries {
-        let name = entry.0.copy(alloc)?;
-        let value = entry.1.copy(alloc)?;
-        copies.push((name, value))?;
-    }
-    Ok(copies)
-}
-
 /// Returns an equal text that has its own memory, if there is one.
 fn copy_if(alloc: Global, text: Option<&[u8]>) -> Result<Option<Bytes>, AllocError> {
     match text {
@@ -44,23 +33,52 @@ fn copy_if(alloc: Global, text: Option<&[u8]>) -> Result<Option<Bytes>, AllocErr
     }
 }
 
+/// Returns the first bytes of a text, this many if there are, and the others.
+fn parted(text: &[u8], length: usize) -> (&[u8], &[u8]) {
+    text.split_at(length.min(text.len()))
+}
+
 impl Told {
     /// Returns equal givens that have their own memory.
     pub(crate) fn of(alloc: Global, givens: &Givens<'_>) -> Result<Told, AllocError> {
+        let mut environment = Vec::new(alloc);
+        let mut lengths = Vec::with_capacity(alloc, givens.environment.len())?;
+        for entry in givens.environment {
+            environment.extend_from_slice(entry.0.as_slice())?;
+            environment.extend_from_slice(entry.1.as_slice())?;
+            lengths.push((entry.0.len(), entry.1.len()))?;
+        }
         Ok(Told {
             source: Bytes::from_slice(alloc, givens.source)?,
             arguments: copies_of(alloc, givens.arguments)?,
-            environment: entries_of(alloc, givens.environment)?,
+            environment,
+            lengths,
             cache: copy_if(alloc, givens.cache)?,
         })
     }
 
-    /// Returns what the run is given.
-    pub(crate) fn givens(&self) -> Givens<'_> {
+    /// Returns the names and values of the environment.
+    pub(crate) fn environment(&self, alloc: Global) -> Result<Vec<(Bytes, Bytes)>, AllocError> {
+        let mut entries = Vec::with_capacity(alloc, self.lengths.len())?;
+        let mut rest = self.environment.as_slice();
+        for lengths in &self.lengths {
+            let (name, after) = parted(rest, lengths.0);
+            let (value, others) = parted(after, lengths.1);
+            entries.push((
+                Bytes::from_slice(alloc, name)?,
+                Bytes::from_slice(alloc, value)?,
+            ))?;
+            rest = others;
+        }
+        Ok(entries)
+    }
+
+    /// Returns what the run is given, with this environment.
+    pub(crate) fn givens<'a>(&'a self, environment: &'a [(Bytes, Bytes)]) -> Givens<'a> {
         Givens {
             source: self.source.as_slice(),
             arguments: self.arguments.as_slice(),
-            environment: self.environment.as_slice(),
+            environment,
             cache: match &self.cache {
                 Some(text) => Some(text.as_slice()),
                 None => None,
