@@ -4,6 +4,9 @@ use crew_resume::Givens;
 use deftable::Bytes;
 use std::alloc::{AllocError, Global};
 
+/// How many bytes an environment usually has at most.
+const USUAL_BYTES: usize = 4_096;
+
 /// What a run is given.
 #[derive(Drop)]
 pub(crate) struct Told {
@@ -41,7 +44,7 @@ fn parted(text: &[u8], length: usize) -> (&[u8], &[u8]) {
 impl Told {
     /// Returns equal givens that have their own memory.
     pub(crate) fn of(alloc: Global, givens: &Givens<'_>) -> Result<Told, AllocError> {
-        let mut environment = Vec::new(alloc);
+        let mut environment = Vec::with_capacity(alloc, USUAL_BYTES)?;
         let mut lengths = Vec::with_capacity(alloc, givens.environment.len())?;
         for entry in givens.environment {
             environment.extend_from_slice(entry.0.as_slice())?;
