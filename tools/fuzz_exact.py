@@ -15,11 +15,11 @@ wrote may be an error for `acrun lint` that the source does not have.
 tools/seeded_compiler.c answers the programs, by what they ask. From number 1000000 on a source may also begin with AC_INIT without a version, and
 have variables whose names are spelled as those of macros, conditions on several lines, actions without brackets that are calls, and the macros
 of LATER_NAMES; with --idioms also `==`, `-eq`, `-ne`, `exit` and `echo` without words. From number 2000000 on it may also have `!` before what
-`-a` and `-o` join; with --idioms also `+=`, `echo` with `exit`, and such an operator in double quotes, as far as docs/commands.md names them.
+`-a` and `-o` join; with --idioms also `echo` with `exit`, and such an operator in double quotes, as far as docs/commands.md names them.
 From number 3000000 on it may also have blanks after the arguments of macros that have an exact idiom, more texts of NEWEST_ARGUMENTS, and
 the macros of NEWEST_NAMES. From number 4000000 on it also defines macros without parameters, and calls them. From number 5000000 on it also
 has AC_PATH_PROGS, checks with `break`, and AC_CACHE_VAL between its messages, and defines plain words. From number 6000000 on it also has
-`for` over words, assignments with `&&` after them, and lines that m4 joins to a comment. From number 7000000 on it has fewer of all these, and
+`for` over words, assignments of a value or a word, and lines that m4 joins to a comment. From number 7000000 on it has fewer of all these, and
 three of the five kinds of statements of tools/exact_forms.py, with --forms those that are named; with --idioms some get --package too. From
 number 8000000 on it also defines macros that it calls nowhere, or by a name that m4 makes of parts.
 A difference is allowed if a line `~ ` of macros.txt states it for a macro of the source, or one of the sentences below of docs/differences.md.
@@ -158,14 +158,13 @@ class Setting:
     is_cross: bool = False
     seed: int = 0
     by: str = "port"
-    shell: str = "/bin/sh"
 
     def shown(self):
         if self.by == "lint":
             return "lint:"
         of_env = " ".join(f"{name}={value}" for name, value in self.environment)
         about = f"programs {self.programs}, {'cross, ' * self.is_cross}seed {self.seed}"
-        return f"{self.by}: {of_env} {f'{self.shell} ' * (self.shell != '/bin/sh')}./configure {' '.join(self.arguments)}  ({about})"
+        return f"{self.by}: {of_env} ./configure {' '.join(self.arguments)}  ({about})"
 
 
 def section(log, title):
@@ -180,7 +179,7 @@ def values_in(text):
 
 def run(room, words, folder, setting):
     path = f"{room.top}/{setting.programs}:{room.top}/given:{room.top}/farm"
-    env = {"PATH": path, "LC_ALL": "C", "CONFIG_SHELL": setting.shell, "SEEDED_COMPILER": str(setting.seed), **dict(setting.environment)}
+    env = {"PATH": path, "LC_ALL": "C", "CONFIG_SHELL": "/bin/sh", "SEEDED_COMPILER": str(setting.seed), **dict(setting.environment)}
     env |= {"FZ_DIR": f"{room.top}/given"}
     env |= {"SEEDED_CROSS": "1"} if setting.is_cross else {}
     how = {"cwd": folder, "env": env, "stdin": subprocess.DEVNULL, "capture_output": True, "text": True, "errors": "replace", "timeout": 120}
@@ -244,7 +243,7 @@ def left(room, body, setting, names, assigned, defined, creates=True):
             (top / "config.guess").write_text("#!/bin/sh\necho x86_64-pc-linux-gnu\n")
             (top / "config.sub").write_text('#!/bin/sh\necho "$1"\n')
         put_templates(folder, names, defined)
-        made = run(room, [setting.shell, "./configure", *([] if creates else ["--no-create"])], folder, setting)
+        made = run(room, ["/bin/sh", "./configure", *([] if creates else ["--no-create"])], folder, setting)
         log = (folder / "config.log").read_text(errors="replace") if (folder / "config.log").exists() else ""
         found = {"status": made.returncode, "standard output": printed_lines(made.stdout)}
         # A call that `dnl` joins to `export` gives it the number of a line.
@@ -449,7 +448,6 @@ OF_EXIT = ("commands", "An `exit` with a digit other than 0 becomes AC_MSG_ERROR
 OF_UNSET = ("commands", "An `unset` of one variable becomes an assignment of nothing, which `${name-word}` can tell apart")
 OF_EQUALS = ("commands", "A shell without `==` takes a test with it for false, and `-eq` takes 01 for 1")
 OF_ECHO_EXIT = ("commands", "`echo MESSAGE; exit STATUS` becomes AC_MSG_ERROR, which prints the message as an error")
-OF_APPENDED = ("commands", "Some shells, such as dash, have no `+=`, and take it for a command")
 OF_STATEMENTS = re.compile(r"standard error: (\+ configure: error: .*|- (test|\[): .*(unexpected operator|Illegal number: .*))$")
 
 # What docs/differences.md states of variables that only the fourth argument of AC_RUN_IFELSE makes output variables.
@@ -838,7 +836,7 @@ NEWEST_NAMES = ("AC_TRY_LINK_FUNC(main)",)
 DEFINING = 4_000_000
 # From this number on also AC_PATH_PROGS without a path, and macros that are plain words.
 WRITING = 5_000_000
-# From this number on also `for` over words, assignments with `&&` after them or with a word if they are empty, and lines that m4 joins to a comment.
+# From this number on also `for` over words, assignments with a word if they are empty, and lines that m4 joins to a comment.
 LOOPING = 6_000_000
 # From this number on a source has fewer of all these, and the kinds of exact_forms.
 FORMING = 7_000_000
@@ -849,10 +847,7 @@ LOOP_BODIES = (
     'AC_DEFINE_UNQUOTED([{1}], ["${0}"], [a text])', "AC_CACHE_CHECK([for {1}], [fz_cv_{1}], [fz_cv_{1}=${0}])", "{0}=$v1", "AC_CHECK_FUNCS([getcwd])",
     'if test "${0}" = a; then\n  break\nfi', "v2=${{{0}}}x # a note", "dnl a note", "# a note: it's (here",
 )
-AND_VALUES = ("1", '"1"', '"$v2 b"', "$v1", "${v1-x}", '""', "", "a/b-c", "`echo c`", "$enable_foo")
 DEFAULTS = ("v1=${v1:-a}", 'v1="${v1:-b/c}"', 'level=${level:-"two words"}', "v2=${v2:-}", "v2=${v2:-$v1}", "v1=${v1-x}", "CFLAGS=${CFLAGS:--g}", "fz_d=${fz_d:-1.0}; v1=$fz_d", 'v1="${v1:-"q"}"')
-AND_COMMANDS = ("AC_MSG_NOTICE([v1 is $v1])", "v2=x", "AC_DEFINE([{0}], [1], [a text])", "AC_DEFINE({0})", 'test -n "$v1"', "v2=b v1=a", "AC_CHECK_FUNCS([getcwd])",
-                "v2=x || v1=z", "v2=x && v1=z")
 JOINED_LINES = (
     '[#] dnl a note\nif test -n "$v1"; then v2=joined; fi', '[#] a note dnl\ntest -n "$v1" && v2=joined', "[#] a note dnl\nv1=x && v2=joined",
     "[#] dnl\nfor fz_it in a b; do v2=$fz_it; done", "[#] dnl\ncase $v1 in a) v2=1;; *) v2=2;; esac", '# a note\ndnl # another\nif test -n "$v1"; then v2=after; fi',
@@ -913,10 +908,9 @@ NAMING = (
     "AC_DEFUN([{C}], [$2])\n{C}([\ndnl ], [{N}([b])])", "AC_DEFUN([{C}], [{F}$1])\n{C}([{B}])", "AC_DEFUN([{C}], [\ndnl $1 {N}([no])\n])\n{C}([b\nv1=2])",
     "AS_IF([:], [{F}[]{B}([yes])])", "AC_DEFUN([{C}], [AC_REQUIRE([{N}])v2=3])\n{C}", "v1={N}more",
 )
-# Statements that port rewrites with --idioms if a document says so. A shell with `+=` runs a source that has one.
+# Statements that port rewrites with --idioms if a document says so.
 NEWER_SHELL = (
     (OF_ECHO_EXIT, ("if test \"$v2\" = yes; then\n  echo v2 is set; exit 3\nfi", "if test -n \"$level\"; then\n  v1=4\n  echo \"no $level here\"; exit 1\nfi")),
-    (OF_APPENDED, ("v1+=b", "v1=a\nv1+=$level", "v2+=\" c $v1\"", "LIBS+=\" -lz\"", "if test -n \"$v1\"; then\n  v1+=c\nfi", "CFLAGS+=' -DA'")),
     (OF_EQUALS, ("test \"$v1\" == never && v2=equal", "if test \"$v1\" != \"b == c\"; then\n  v2=other\nfi",
                  "level=3\ntest \"$level\" -eq 3 || v1=none\nv2=\"$v1\"", "if test \"$v2\" = \"a -eq 3\" || test \"$v1\" == never; then\n  v1=words\nfi")),
 )
@@ -1187,15 +1181,13 @@ class Maker(exact_forms.Forms):
         return f"for {name} in {words}{self.one(['; do', chr(10) + 'do', ' ; do'])}\n{text}done{self.one(['', '', ' # a note', f'; v1=${name}'])}"
 
     def with_loops(self, blocks):
-        """Adds `for` over words, assignments with `&&` after them, and lines that m4 joins to a comment."""
+        """Adds `for` over words, assignments of a value or a word, and lines that m4 joins to a comment."""
         for _ in range(self.at.randint(1, 3)):
-            kind = self.at.randrange(6)
-            if kind == 5:
+            kind = self.at.randrange(5)
+            if kind == 3:
                 text = self.one(DEFAULTS)
             elif kind < 3:
                 text = self.loop()
-            elif kind == 3:
-                text = f"{self.one(['v1', 'level'])}={self.one(AND_VALUES)}{self.one([' && ', '&&', ' &&' + chr(10) + '  '])}{self.one(AND_COMMANDS).format(self.fresh('D'))}"
             else:
                 text = self.one(JOINED_LINES)
             if kind != 4 and self.has(0.3):
@@ -1412,17 +1404,12 @@ def written_errors(program, text, ported):
     return [(Setting(by="lint"), {f"error in {lines[it['line'] - 1]}: {it['message']}": ("", "")}) for it in new]
 
 
-def shell_of(text):
-    """Returns the shell that runs the scripts of a source."""
-    return "/bin/bash" if re.search(r"(?m)^ *\w+\+=", text) else "/bin/sh"
-
-
 def judge(program, room, number, names=None, runs=2, switches=(), forms=()):
     """Returns what is wrong with a source: how it was run, and what differs."""
     maker = Maker(number, names, switches, forms)
     first, blocks, last = maker.source()
     text, switches = joined(first, blocks, last), maker.switches
-    settings = [dataclasses.replace(it, shell=shell_of(text)) for it in maker.settings(runs)]
+    settings = maker.settings(runs)
     ported, is_read = port(program, text, *switches)
     if ported == text and not is_read:
         return "same", text, ported
@@ -1497,7 +1484,7 @@ def minimized(program, room, number, names, switches, forms=()):
     maker = Maker(number, names, switches, forms)
     first, blocks, last = maker.source()
     switches = maker.switches
-    settings = [dataclasses.replace(it, shell=shell_of(joined(first, blocks, last))) for it in maker.settings(2)]
+    settings = maker.settings(2)
 
     def tried(blocks, settings):
         text = joined(first, blocks, last)

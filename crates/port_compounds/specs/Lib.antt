@@ -2,5 +2,4 @@ pub mod Ifs
 pub mod Cases
 pub mod Guards
 pub mod Loops
-pub mod Assigned
 pub mod Defaults

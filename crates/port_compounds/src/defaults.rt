@@ -7,9 +7,11 @@ ghost use Rattle.port_parts.specs.Places.{BeginsStatement, EndsStatement};
 ghost use Rattle.port_parts.specs.Words.{is_value, IsConstant, IsVariable};
 ghost use Rattle.port_compounds.specs.Defaults as specs;
 
-use crate::assigned::name_length;
 use crate::guards::is_own;
-use port_parts::{DefaultOf, GuardCut, are_values, is_constant, is_plain_line, is_variable};
+use lint_text::part;
+use port_parts::{
+    DefaultOf, GuardCut, are_values, is_constant, is_plain_line, is_variable, name_length,
+};
 use std::alloc::{AllocError, Global};
 
 /// Appends the value of a variable, or a word if that is empty.
@@ -88,15 +90,6 @@ fn is_found(alloc: Global, text: &[u8], name: &[u8], word: &[u8]) -> Result<bool
         return Ok(false);
     }
     is_default(alloc, text, name, word)
-}
-
-/// Returns the part of a text between two offsets, or nothing if they are not in order.
-fn part(text: &[u8], start: usize, end: usize) -> &[u8] {
-    if start <= end && end <= text.len() {
-        &text[start..end]
-    } else {
-        b""
-    }
 }
 
 /// Returns the name and the word of a statement, without a look at what is around them.

@@ -1,6 +1,5 @@
 //! Reads the parts of statements of a shell, whose words are at known offsets: `if`, `case`, and a
-//! statement after `&&` or `||`. Writes the turns of a `for`, and an assignment before `&&` on a line of
-//! its own.
+//! statement after `&&` or `||`. Writes the turns of a `for`.
 //!
 //! The parts are slices of the text, in the order in which a macro takes them. If the offsets are
 //! not those of such a statement, or if a part can't be an argument of a macro as it is, there are
@@ -13,11 +12,10 @@
 //! ```
 //!
 //! Read the definitions of `port_parts` first, and then `specs/Ifs`, `specs/Cases` and `specs/Guards`,
-//! which say what the parts are. `specs/Loops` and `specs/Assigned` say what is written. A call fails only if memory runs out. "own" marks a rule that
+//! which say what the parts are. `specs/Loops` says what is written. A call fails only if memory runs out. "own" marks a rule that
 //! no manual gives.
 #![tactic(auto)]
 
-mod assigned;
 mod branches;
 mod cases;
 mod defaults;
@@ -25,7 +23,6 @@ mod guards;
 mod loops;
 mod status;
 
-pub use assigned::assigned_lines;
 pub use branches::if_parts;
 pub use cases::case_parts;
 pub use defaults::{assignment_of, default_of, empty_test};

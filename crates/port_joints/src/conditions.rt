@@ -200,3 +200,18 @@ pub fn joined_texts(alloc: Global, parts: &[&[u8]]) -> Result<Option<Vec<Bytes>>
         Ok(None)
     }
 }
+
+/// Returns the texts as slices.
+///
+/// # Errors
+///
+/// Fails only if memory runs out.
+pub fn slices<'a>(alloc: Global, texts: &'a [Bytes]) -> Result<Vec<&'a [u8]>, AllocError>
+    ensures { IfOk result (λ v. map (λ p. p.now) v.items ≡ texts.now) }
+{
+    let mut out = Vec::new(alloc);
+    for text in texts {
+        out.push(text.as_slice())?;
+    }
+    Ok(out)
+}

@@ -18,6 +18,6 @@ mod files;
 mod joints;
 mod spelled;
 
-pub use conditions::{joined_condition, joined_texts};
+pub use conditions::{joined_condition, joined_texts, slices};
 pub use files::{FileCut, file_test, has_part, is_test_of_files, program_of, with_answer};
 pub use spelled::respelled;

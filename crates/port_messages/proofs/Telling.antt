@@ -7,10 +7,9 @@ use Rattle.std.specs.Borrow.{Bor}
 use Rattle.port_echo.specs.Echo.{IsEcho, IsMessage, Prints}
 use Rattle.port_echo.specs.Commands.{IsCommandLine}
 use Rattle.port_breaks.specs.Breaks.{IsBroken}
-use Rattle.lint_errors.specs.Errors.{IsAccepted}
-use Rattle.port_put.specs.Calls.{IsPut, source_with}
+use Rattle.port_put.specs.Calls.{IsPut}
 use Rattle.port_statements.specs.Statements.{MayBegin}
-use Rattle.port_messages.specs.Told.{IsToldTo, IsTold, IsBrokenAndTold, IsEchoThen, IsExit, Fails, Speaks, Unsets, Appends, IsSilenced, IsSetTo, noted, noted_so, longer}
+use Rattle.port_messages.specs.Told.{IsToldTo, IsTold, IsBrokenAndTold, IsEchoThen, IsExit, Fails, Speaks, Unsets, IsSilenced, IsSetTo, noted, noted_so}
 use Rattle.port_messages.specs.Told as specs
 
 -- What follows from what an `Ok` says holds of the `Ok`.
@@ -38,7 +37,6 @@ told_bound text at out (specs.IsToldTo.copied next before from to) = to
 told_bound text at out (specs.IsToldTo.told echo end message call before begins is puts) = is.line.order.2
 told_bound text at out (specs.IsToldTo.spoken place end command name args said call before begins is speaks puts) = is.order.2
 told_bound text at out (specs.IsToldTo.cleared place end command name before begins is unsets) = is.order.2
-told_bound text at out (specs.IsToldTo.appended place end command name word before begins is appends accepted) = is.order.2
 told_bound text at out (specs.IsToldTo.silenced place end command said put before begins is silenced) = is.order.2
 
 pub told_step : (text : List ℕ) (read : ℕ) (out : List ℕ) (start at end : ℕ) (message call put : List ℕ) (new_at : ℕ) (new : List ℕ)
@@ -70,15 +68,6 @@ cleared_step text read out start at end command name put new_at new before begin
     (subst (IsToldTo text end) (sym (new_is ∙ ap (λ p. (out ++ slice_range text read start) ++ p) put_is))
     (specs.IsToldTo.cleared at end command name (specs.IsToldTo.copied start before from within) begins is unsets))
 
-pub appended_step : (text : List ℕ) (read : ℕ) (out : List ℕ) (start at end : ℕ) (command name word put : List ℕ) (new_at : ℕ) (new : List ℕ)
-    → IsToldTo text read out → MayBegin text at → IsCommandLine text start at end command → Appends command name word → IsAccepted (source_with (longer name word)) → read ≤ start → start ≤ length text
-    → put ≡ noted_so (slice_range text start at) (codes "+=: some shells take it for a command") (longer name word)
-    → (new_at ≡ end) × (new ≡ (out ++ slice_range text read start) ++ put) → IsToldTo text new_at new
-appended_step text read out start at end command name word put new_at new before begins is appends accepted from within put_is (at_is, new_is) =
-    subst (λ a. IsToldTo text a new) (sym at_is)
-    (subst (IsToldTo text end) (sym (new_is ∙ ap (λ p. (out ++ slice_range text read start) ++ p) put_is))
-    (specs.IsToldTo.appended at end command name word (specs.IsToldTo.copied start before from within) begins is appends accepted))
-
 pub silenced_step : (text : List ℕ) (read : ℕ) (out : List ℕ) (start at end : ℕ) (command said put line : List ℕ) (new_at : ℕ) (new : List ℕ)
     → IsToldTo text read out → MayBegin text at → IsCommandLine text start at end command → IsSilenced command said put → read ≤ start → start ≤ length text
     → line ≡ noted_so (slice_range text start at) said put
@@ -100,10 +89,6 @@ set_by text name rest word whole parts = inl (whole ∙ ap (λ r. name ++ r) par
 
 pub quoted_set_by : (text inner name rest word : List ℕ) → text ≡ codes "[" ++ inner → inner ≡ name ++ rest → rest ≡ codes "]=" ++ word → IsSetTo text name word
 quoted_set_by text inner name rest word whole named parts = inr (whole ∙ ap (λ r. codes "[" ++ r) (named ∙ ap (λ r. name ++ r) parts))
-
--- The parts of a command that `+=` is between.
-pub joined_by : (command name rest word : List ℕ) → command ≡ name ++ rest → rest ≡ codes "+=" ++ word → command ≡ name ++ (codes "+=" ++ word)
-joined_by command name rest word split is = split ∙ ap (λ r. name ++ r) is
 
 -- ---- where a command begins
 

@@ -1,8 +1,8 @@
 -- What the lines with an `echo`, an `exit`, an `unset` or an `export` become. The offsets are those of the text that is read. All of this is own.
 use Rattle.std.specs.Prelude.{◌≡◌, ◌⊎◌, ℕ, ◌+◌, ◌<◌, ◌≤◌, ◌==◌, ◌||◌, nat_lt, ◌&&◌, Bool, true, false, List, [], ◌∷◌, ◌++◌, length, flat_map, slice_index, slice_range, codes, if◌then◌else◌}
 use Rattle.std.specs.List.{list_all}
-use Rattle.std.specs.Char.{is_ascii_alphanumeric}
 use Rattle.port_parts.specs.Places.{AreSpaces, IsWord}
+use Rattle.port_parts.specs.Words.{is_of_name, IsVariable}
 use Rattle.port_echo.specs.Echo.{IsEcho, IsMessage, Prints}
 use Rattle.port_echo.specs.Commands.{IsCommandLine, IsBlankEcho, IsOneWord}
 use Rattle.lint_errors.specs.Errors.{IsAccepted}
@@ -51,10 +51,6 @@ pub data Speaks (command : List ℕ) : List ℕ → List (List ℕ) → List ℕ
   fails : (message status : List ℕ) → Fails command message status
       → Speaks command (codes "AC_MSG_ERROR") (message ∷ status ∷ []) (codes "echo and exit: the message is an error")
 
--- A byte of a variable's name.
-abbrev pub is_of_name : ℕ → Bool
-is_of_name b = is_ascii_alphanumeric b || b == 95
-
 -- The command unsets this variable alone.
 pub record Unsets (command name : List ℕ) : Type 0 where
   pub is : command ≡ codes "unset " ++ name
@@ -77,18 +73,6 @@ set_byte b = if b == 32 then 61 ∷ 32 ∷ [] else b ∷ []
 unfoldable pub each_cleared : List ℕ → List ℕ
 each_cleared names = flat_map set_byte names ++ 61 ∷ []
 
--- A digit. (own)
-abbrev pub is_digit : ℕ → Bool
-is_digit b = nat_lt 47 b && nat_lt b 58
-
--- The command appends this word to the value of a variable. (own: no POSIX shell need have `+=`)
-pub record Appends (command name word : List ℕ) : Type 0 where
-  pub is : command ≡ name ++ (codes "+=" ++ word)
-  pub some : 0 < length name
-  pub plain : list_all is_of_name name ≡ true
-  pub no_digit : is_digit (slice_index name 0) ≡ false
-  pub one : IsOneWord word
-
 -- The text is this name, `=` and this word. The name may be in brackets, so that m4 doesn't take it for a macro.
 abbrev pub IsSetTo : List ℕ → List ℕ → List ℕ → Type 0
 IsSetTo text name word = (text ≡ name ++ (codes "=" ++ word)) ⊎ (text ≡ codes "[" ++ (name ++ (codes "]=" ++ word)))
@@ -98,9 +82,7 @@ pub record IsSet (text : List ℕ) : Type 0 where
   pub name : List ℕ
   pub word : List ℕ
   pub is : IsSetTo text name word
-  pub some : 0 < length name
-  pub plain : list_all is_of_name name ≡ true
-  pub no_digit : is_digit (slice_index name 0) ≡ false
+  pub variable : IsVariable name
   pub one : IsOneWord word
 
 -- A text that takes the place of a command, and in what it differs. `export` changes what programs see, and acrun gives none of them a
@@ -113,10 +95,6 @@ pub data IsSilenced (command : List ℕ) : List ℕ → List ℕ → Type 0 wher
   unsets : (names : List ℕ) → command ≡ codes "unset " ++ names → AreNames names → IsAccepted (source_with (each_cleared names))
       → IsSilenced command (codes "unset: the variables are empty") (each_cleared names)
 
--- The assignment of the variable's value, with the word after it.
-unfoldable pub longer : List ℕ → List ℕ → List ℕ
-longer name word = (name ++ 61 ∷ 34 ∷ 36 ∷ []) ++ (name ++ 34 ∷ word)
-
 -- A comment with these words, and below it a text, each after the indent.
 unfoldable pub noted_so : List ℕ → List ℕ → List ℕ → List ℕ
 noted_so indent said put = ((indent ++ codes "dnl acrun: in place of ") ++ said) ++ 10 ∷ (indent ++ put)
@@ -124,8 +102,7 @@ noted_so indent said put = ((indent ++ codes "dnl acrun: in place of ") ++ said)
 -- So much of a text has been read, and this was written: everything is copied, but a line that prints a message by `echo` may become a
 -- comment and the call of AC_MSG_RESULT with the message, after the line's indent. A line with another command may become a comment and the
 -- call that takes its place; one that unsets a variable, a comment and an assignment of nothing; one that unsets several or exports some, a
--- comment and assignments or `:`; and one that appends a word to a variable, a comment and an assignment. Each of these commands begins outside
--- quotes, substitutions, comments and here-documents.
+-- comment and assignments or `:`. Each of these commands begins outside quotes, substitutions, comments and here-documents.
 pub data IsToldTo (text : List ℕ) : ℕ → List ℕ → Type 0 where
   begun : IsToldTo text 0 []
   copied : {at : ℕ} {out : List ℕ} (next : ℕ) → IsToldTo text at out → at ≤ next → next ≤ length text → IsToldTo text next (out ++ slice_range text at next)
@@ -138,8 +115,6 @@ pub data IsToldTo (text : List ℕ) : ℕ → List ℕ → Type 0 where
       → IsToldTo text end (out ++ noted_so (slice_range text start at) (codes "unset: the variable is empty") (name ++ 61 ∷ []))
   silenced : {start : ℕ} {out : List ℕ} (at end : ℕ) (command said put : List ℕ) → IsToldTo text start out → MayBegin text at → IsCommandLine text start at end command
       → IsSilenced command said put → IsToldTo text end (out ++ noted_so (slice_range text start at) said put)
-  appended : {start : ℕ} {out : List ℕ} (at end : ℕ) (command name word : List ℕ) → IsToldTo text start out → MayBegin text at → IsCommandLine text start at end command
-      → Appends command name word → IsAccepted (source_with (longer name word)) → IsToldTo text end (out ++ noted_so (slice_range text start at) (codes "+=: some shells take it for a command") (longer name word))
 
 -- The whole text becomes this one.
 abbrev pub IsTold : List ℕ → List ℕ → Type 0

@@ -70,9 +70,8 @@ fn told_broken(alloc: Global, text: &[u8], places: &[usize]) -> Result<Vec<u8>, 
 
 /// Returns the text with each `echo` as a message, below a comment, if what it prints is known. Other
 /// than `echo`, a message is dropped by `-q`. So an `exit` with a status becomes an error, with the
-/// message of an `echo` before it on its line, an `unset` of a variable an assignment of nothing, and
-/// `+=` an assignment of the variable's value and the word. Only a command on a line of its own is
-/// rewritten, but the lines are first broken around an `echo` and an `exit`, if that leads to it.
+/// message of an `echo` before it on its line, and an `unset` of a variable an assignment of nothing. Only a command
+/// on a line of its own is rewritten, but the lines are first broken around an `echo` and an `exit`, if that leads to it.
 ///
 /// # Errors
 ///
@@ -80,8 +79,8 @@ fn told_broken(alloc: Global, text: &[u8], places: &[usize]) -> Result<Vec<u8>, 
 pub fn told(alloc: Global, text: &[u8]) -> Result<Vec<u8>, AllocError>
     // Lines may be broken around commands of which it is known what takes their place. Then a line
     // with an `echo` may become a comment and the call of AC_MSG_RESULT with what it prints, one with
-    // an `exit` a comment and the call of AC_MSG_ERROR, and one with an `unset` or with `+=` a comment
-    // and an assignment. Each of these commands begins outside quotes, substitutions, comments and
+    // an `exit` a comment and the call of AC_MSG_ERROR, and one with an `unset` a comment and an
+    // assignment. Each of these commands begins outside quotes, substitutions, comments and
     // here-documents. All else is copied.
     ensures told { IfOk result (λ v. specs.IsBrokenAndTold text.now v.items) }
 {

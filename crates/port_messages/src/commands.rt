@@ -6,10 +6,10 @@ ghost use Rattle.port_statements.specs.Statements.{MayBegin};
 ghost use Rattle.port_messages.specs.Told as specs;
 
 use crate::noting::rest_after;
-use crate::setting::{name_length, name_of, pass_export, pass_named, pass_unset, pass_unset_each};
+use crate::setting::{name_of, pass_export, pass_unset, pass_unset_each};
 use crate::speaking::{last_semicolon, pass_blank, pass_joined, pass_status, status_of};
 use port_echo::{is_blank_echo, line_command};
-use port_put::Pass;
+use port_edits::Pass;
 use std::alloc::{AllocError, Global};
 
 /// Writes what takes the place of a command of two parts, if it is one that has something.
@@ -31,16 +31,7 @@ fn pass_other(
         let semicolon = last_semicolon(command);
         return pass_joined(alloc, text, start, at, end, command, semicolon, pass);
     }
-    pass_named(
-        alloc,
-        text,
-        start,
-        at,
-        end,
-        command,
-        name_length(command),
-        pass,
-    )
+    Ok(())
 }
 
 /// Writes what takes the place of a command that prints nothing, if it is one that has something.

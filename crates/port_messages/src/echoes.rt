@@ -1,4 +1,4 @@
-//! Lines with an `echo`, an `exit`, an `unset` or `+=`, which become messages or assignments.
+//! Lines with an `echo`, an `exit`, or an `unset`, which become messages or assignments.
 
 ghost use Rattle.std.specs.Prelude.{◌≡◌, ◌≤◌, ◌∷◌, ◌++◌, [], length, slice_range, codes, All, IfOk, IfSome, OnOk};
 ghost use Rattle.port_echo.specs.Echo.{IsEcho};
@@ -9,7 +9,8 @@ ghost use Rattle.port_messages.specs.Told as specs;
 use crate::commands::pass_command;
 use lint_text::{line_end, line_start};
 use port_echo::echo_message;
-use port_put::{Pass, accepted_call, write_change};
+use port_edits::{Pass, write_change};
+use port_put::accepted_call;
 use port_statements::StatementCut;
 use std::alloc::{AllocError, Global};
 

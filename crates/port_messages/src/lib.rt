@@ -1,5 +1,5 @@
 //! Writes a message in the place of a line with an `echo`, and what means much the same in the place of
-//! an `exit`, an `unset`, an `export` or an assignment by `+=`.
+//! an `exit`, an `unset` or an `export`.
 //!
 //! A line is rewritten only if it has the command alone, and if acrun accepts what is put. A comment
 //! above it says in what that differs. Where an `echo` or an `exit` shares its line with other commands,
@@ -10,7 +10,6 @@
 //! exit 3                // becomes AC_MSG_ERROR([exit 3], [3]) below a comment
 //! a=1; exit 3           // becomes a=1, and on lines below it the comment and the call
 //! unset a               // becomes a= below a comment
-//! a+=" b"               // becomes a="$a"" b" below a comment
 //! ```
 //!
 //! Read `specs/Told`, which says what a line becomes, and the definitions of `port_breaks`, and then

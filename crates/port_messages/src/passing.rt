@@ -5,7 +5,7 @@ ghost use Rattle.port_messages.specs.Told as specs;
 
 use crate::echoes::pass_echoes;
 use ac_calls::calls_of;
-use port_put::Pass;
+use port_edits::Pass;
 use port_statements::cuts_in;
 use std::alloc::{AllocError, Global};
 

@@ -1,33 +1,30 @@
-//! Lines with a command that becomes an assignment or nothing: an `unset`, an `export` and `+=`.
+//! Lines with a command that becomes an assignment or nothing: an `unset` and an `export`.
 
-ghost use Rattle.std.specs.Prelude.{◌≡◌, ◌<◌, ◌∷◌, ◌++◌, [], true, false, length, slice_index, slice_range, codes, IfOk, IfSome, OnOk, IsTrue};
+ghost use Rattle.std.specs.Prelude.{◌≡◌, ◌<◌, ◌∷◌, ◌++◌, [], true, length, slice_range, codes, IfOk, IfSome, OnOk, IsTrue};
 ghost use Rattle.std.specs.List.{list_all};
 ghost use Rattle.lint_errors.specs.Errors.{IsAccepted};
 ghost use Rattle.port_echo.specs.Commands.{IsCommandLine};
+ghost use Rattle.port_parts.specs.Words.{is_of_name};
 ghost use Rattle.port_put.specs.Calls.{source_with};
 ghost use Rattle.port_statements.specs.Statements.{MayBegin};
 ghost use Rattle.port_messages.specs.Told as specs;
 
 use crate::noting::{noted_so, rest_after};
 use port_echo::is_one_word;
-use port_put::{Pass, is_accepted, write_change};
+use port_edits::{Pass, write_change};
+use port_parts::{is_variable, name_length};
+use port_put::is_accepted;
 use std::alloc::{AllocError, Global};
 
-fn is_of_name(byte: u8) -> bool
-    ensures { result ≡ specs.is_of_name byte }
-{
-    byte.is_ascii_alphanumeric() || byte == b'_'
-}
-
 fn are_of_name(text: &[u8]) -> bool
-    ensures { result ≡ list_all specs.is_of_name text.now }
+    ensures { result ≡ list_all is_of_name text.now }
 {
-    text.iter().all(|byte| is_of_name(*byte))
+    text.iter().all(|byte| port_parts::is_of_name(*byte))
 }
 
 /// Returns whether a text is a name of letters, digits and `_`.
 fn is_name(text: &[u8]) -> bool
-    ensures { IsTrue result → (0 < length text.now) × (list_all specs.is_of_name text.now ≡ true) }
+    ensures { IsTrue result → (0 < length text.now) × (list_all is_of_name text.now ≡ true) }
 {
     0 < text.len() && are_of_name(text)
 }
@@ -109,7 +106,7 @@ const EXPORTED: &[u8] = b"export: no program that acrun starts sees the variable
 fn is_of_names(byte: u8) -> bool
     ensures { result ≡ specs.is_of_names byte }
 {
-    is_of_name(byte) || byte == b' '
+    port_parts::is_of_name(byte) || byte == b' '
 }
 
 /// Returns whether a text has bytes of names and spaces alone.
@@ -361,207 +358,4 @@ pub(crate) fn pass_export(
         return put_silenced(alloc, text, start, at, end, command, EXPORTED, rest, pass);
     }
     Ok(())
-}
-
-// ---- `+=`
-
-/// Returns how many bytes of a variable's name are at the front of a text.
-pub(crate) fn name_length(command: &[u8]) -> usize {
-    command.iter().take_while(|byte| is_of_name(**byte)).count()
-}
-
-/// Returns whether a text begins with a digit.
-fn begins_with_digit(name: &[u8]) -> bool
-    requires { 0 < length name.now }
-    ensures { result ≡ specs.is_digit (slice_index name.now 0) }
-{
-    47 < name[0] && name[0] < 58
-}
-
-/// Returns whether a text is the name of a variable.
-fn is_variable(name: &[u8]) -> bool
-    ensures { IsTrue result
-        → ((0 < length name.now) × (list_all specs.is_of_name name.now ≡ true))
-        × (specs.is_digit (slice_index name.now 0) ≡ false) }
-{
-    is_name(name) && !begins_with_digit(name)
-}
-
-/// Returns whether a command appends a word to the value of a variable.
-fn appends(command: &[u8], name: &[u8], word: &[u8]) -> bool
-    requires { command.now ≡ name.now ++ (codes "+=" ++ word.now) }
-    ensures { IsTrue result → specs.Appends command.now name.now word.now }
-{
-    let _ = command;
-    is_variable(name) && is_one_word(word)
-}
-
-/// Returns an assignment of a variable's value, with a word after it.
-#[tactic(auto, unfolding(crate::specs::Told::longer))]
-fn longer(alloc: Global, name: &[u8], word: &[u8]) -> Result<Vec<u8>, AllocError>
-    ensures { IfOk result (λ v. v.items ≡ specs.longer name.now word.now) }
-{
-    let mut out = Vec::from_slice(alloc, name)?;
-    out.extend_from_slice(b"=\"$")?;
-    out.extend_from_slice(name)?;
-    out.push(b'"')?;
-    out.extend_from_slice(word)?;
-    Ok(out)
-}
-
-/// Returns the comment and the assignment in place of a line that appends a word to a variable.
-fn longer_below(
-    alloc: Global,
-    indent: &[u8],
-    name: &[u8],
-    word: &[u8],
-) -> Result<Vec<u8>, AllocError>
-    ensures { IfOk result (λ v.
-        v.items
-        ≡ specs.noted_so indent.now (codes "+=: some shells take it for a command")
-        (specs.longer name.now word.now)) }
-{
-    let put = longer(alloc, name, word)?;
-    noted_so(
-        alloc,
-        indent,
-        b"+=: some shells take it for a command",
-        put.as_slice(),
-    )
-}
-
-/// Writes an assignment in place of a line that appends a word to a variable, unless the line was in
-/// what was rewritten.
-fn put_appended(
-    alloc: Global,
-    text: &[u8],
-    start: usize,
-    at: usize,
-    end: usize,
-    command: &[u8],
-    name: &[u8],
-    word: &[u8],
-    pass: &mut Pass,
-) -> Result<(), AllocError>
-    requires begins { MayBegin text.now at }
-    requires line { IsCommandLine text.now start at end command.now }
-    requires appends { specs.Appends command.now name.now word.now }
-    requires accepted { IsAccepted (source_with (specs.longer name.now word.now)) }
-    requires begun { specs.IsToldTo text.now pass.old.at pass.old.out.items }
-    ensures { OnOk result (specs.IsToldTo text.now pass.new.at pass.new.out.items) }
-{
-    let _ = command;
-    if start < pass.at || at < start || text.len() < at {
-        return Ok(());
-    }
-    let put = longer_below(alloc, &text[start..at], name, word)?;
-    write_change(text, start, end, put.as_slice(), pass)
-}
-
-/// Returns whether acrun accepts an assignment of a variable's value, with a word after it.
-fn is_longer_accepted(alloc: Global, name: &[u8], word: &[u8]) -> Result<bool, AllocError>
-    ensures { IfOk result (λ b.
-        IsTrue b → IsAccepted (source_with (specs.longer name.now word.now))) }
-{
-    let put = longer(alloc, name, word)?;
-    is_accepted(alloc, put.as_slice())
-}
-
-/// Writes an assignment in place of a line that appends a word to a variable, unless acrun doesn't
-/// accept it.
-fn pass_accepted(
-    alloc: Global,
-    text: &[u8],
-    start: usize,
-    at: usize,
-    end: usize,
-    command: &[u8],
-    name: &[u8],
-    word: &[u8],
-    pass: &mut Pass,
-) -> Result<(), AllocError>
-    requires begins { MayBegin text.now at }
-    requires line { IsCommandLine text.now start at end command.now }
-    requires appends { specs.Appends command.now name.now word.now }
-    requires begun { specs.IsToldTo text.now pass.old.at pass.old.out.items }
-    ensures { OnOk result (specs.IsToldTo text.now pass.new.at pass.new.out.items) }
-{
-    if !is_longer_accepted(alloc, name, word)? {
-        return Ok(());
-    }
-    put_appended(alloc, text, start, at, end, command, name, word, pass)
-}
-
-/// Writes an assignment in place of a line with `+=`, if it appends a word to a variable.
-fn pass_appended(
-    alloc: Global,
-    text: &[u8],
-    start: usize,
-    at: usize,
-    end: usize,
-    command: &[u8],
-    name: &[u8],
-    word: &[u8],
-    pass: &mut Pass,
-) -> Result<(), AllocError>
-    requires begins { MayBegin text.now at }
-    requires line { IsCommandLine text.now start at end command.now }
-    requires is { command.now ≡ name.now ++ (codes "+=" ++ word.now) }
-    requires begun { specs.IsToldTo text.now pass.old.at pass.old.out.items }
-    ensures { OnOk result (specs.IsToldTo text.now pass.new.at pass.new.out.items) }
-{
-    if appends(command, name, word) {
-        pass_accepted(alloc, text, start, at, end, command, name, word, pass)
-    } else {
-        Ok(())
-    }
-}
-
-/// Writes an assignment in place of a line with a name and a rest, if `+=` and a word are that.
-#[tactic(auto, using(crate::proofs::Telling::joined_by))]
-fn pass_rest(
-    alloc: Global,
-    text: &[u8],
-    start: usize,
-    at: usize,
-    end: usize,
-    command: &[u8],
-    name: &[u8],
-    rest: &[u8],
-    pass: &mut Pass,
-) -> Result<(), AllocError>
-    requires begins { MayBegin text.now at }
-    requires line { IsCommandLine text.now start at end command.now }
-    requires split { command.now ≡ name.now ++ rest.now }
-    requires begun { specs.IsToldTo text.now pass.old.at pass.old.out.items }
-    ensures { OnOk result (specs.IsToldTo text.now pass.new.at pass.new.out.items) }
-{
-    match rest_after(rest, b"+=") {
-        Some(word) => pass_appended(alloc, text, start, at, end, command, name, word, pass),
-        None => Ok(()),
-    }
-}
-
-/// Writes an assignment in place of a line that begins with a name of some length, if `+=` and a
-/// word come after it.
-pub(crate) fn pass_named(
-    alloc: Global,
-    text: &[u8],
-    start: usize,
-    at: usize,
-    end: usize,
-    command: &[u8],
-    length: usize,
-    pass: &mut Pass,
-) -> Result<(), AllocError>
-    requires begins { MayBegin text.now at }
-    requires line { IsCommandLine text.now start at end command.now }
-    requires begun { specs.IsToldTo text.now pass.old.at pass.old.out.items }
-    ensures { OnOk result (specs.IsToldTo text.now pass.new.at pass.new.out.items) }
-{
-    if command.len() < length {
-        return Ok(());
-    }
-    let (name, rest) = command.split_at(length);
-    pass_rest(alloc, text, start, at, end, command, name, rest, pass)
 }

@@ -12,8 +12,9 @@ ghost use Rattle.port_messages.specs.Told as specs;
 use crate::noting::{noted_so, rest_after};
 use lint_text::part;
 use port_echo::message_of;
+use port_edits::{Pass, write_change};
 use port_parts::{are_spaces, is_word};
-use port_put::{Pass, accepted_call, write_change};
+use port_put::accepted_call;
 use std::alloc::{AllocError, Global};
 use text_cut::is_space;
 

@@ -29,4 +29,6 @@ pub use places::{
     after_spaces, are_blank, are_spaces, before_spaces, begins_statement, ends_statement,
     is_blank_at, is_statement, is_word,
 };
-pub use words::{are_values, is_constant, is_of_name, is_one_value, is_value, is_variable};
+pub use words::{
+    are_values, is_constant, is_of_name, is_one_value, is_value, is_variable, name_length,
+};

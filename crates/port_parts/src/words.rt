@@ -18,6 +18,11 @@ fn are_of_name(text: &[u8]) -> bool
     text.iter().all(|byte| is_of_name(*byte))
 }
 
+/// Returns how many bytes of a variable's name are at the front of a text.
+pub fn name_length(text: &[u8]) -> usize {
+    text.iter().take_while(|byte| is_of_name(**byte)).count()
+}
+
 /// Returns whether a text begins with a digit.
 fn begins_with_digit(name: &[u8]) -> bool
     requires { 0 < length name.now }

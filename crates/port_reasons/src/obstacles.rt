@@ -206,7 +206,6 @@ pub(crate) fn obstacle_at(
         StatementCut::If(cut) => obstacle_of_if(alloc, text, calls, cut),
         StatementCut::Guard(cut) => obstacle_of_guard(alloc, text, calls, *cut),
         StatementCut::Case(_)
-        | StatementCut::Assigned(_)
         | StatementCut::Default(_)
         | StatementCut::For(_)
         | StatementCut::Line(_) => Ok(None),

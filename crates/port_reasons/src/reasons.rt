@@ -7,7 +7,7 @@ use deftable::Bytes;
 use lint_errors::{errors_of, is_accepted, read};
 use lint_text::{after_blanks, before, first_name, from, is_word_byte, part};
 use port_compounds::{case_parts, guard_parts, if_parts};
-use port_joints::joined_texts;
+use port_joints::{joined_texts, slices};
 use port_parts::{CaseCut, GuardCut, IfBranch, IfCut};
 use port_put::{call_text, source_with};
 use port_statements::{Kept, Obstacle, StatementCut, drawing_in, draws, statements_in};
@@ -146,29 +146,20 @@ fn softened_parts(alloc: Global, parts: &[&[u8]]) -> Result<Vec<Bytes>, AllocErr
     Ok(out)
 }
 
-/// Returns these texts as slices.
-fn slices_of(alloc: Global, texts: &[Bytes]) -> Result<Vec<&[u8]>, AllocError> {
-    let mut slices = Vec::new(alloc);
-    for text in texts {
-        slices.push(text.as_slice())?;
-    }
-    Ok(slices)
-}
-
 /// Returns what is wrong with the call of AS_IF with these parts, in whose conditions `-a` and `-o`
 /// are written otherwise.
 fn refusal_joined(alloc: Global, parts: &[&[u8]]) -> Result<Option<Reason>, AllocError> {
     let Some(texts) = joined_texts(alloc, parts)? else {
         return Ok(None);
     };
-    let slices = slices_of(alloc, texts.as_slice())?;
+    let slices = slices(alloc, texts.as_slice())?;
     refusal(alloc, b"AS_IF", slices.as_slice())
 }
 
 /// Returns the same with other operators in the conditions.
 fn refusal_softened(alloc: Global, parts: &[&[u8]]) -> Result<Option<Reason>, AllocError> {
     let texts = softened_parts(alloc, parts)?;
-    let slices = slices_of(alloc, texts.as_slice())?;
+    let slices = slices(alloc, texts.as_slice())?;
     refusal_joined(alloc, slices.as_slice())
 }
 
@@ -273,10 +264,7 @@ fn refusal_of(
         StatementCut::If(cut) => refusal_of_if(alloc, text, cut, has_bodies),
         StatementCut::Case(cut) => refusal_of_case(alloc, text, cut, has_bodies),
         StatementCut::Guard(cut) => refusal_of_guard(alloc, text, *cut),
-        StatementCut::Assigned(_)
-        | StatementCut::Default(_)
-        | StatementCut::For(_)
-        | StatementCut::Line(_) => Ok(None),
+        StatementCut::Default(_) | StatementCut::For(_) | StatementCut::Line(_) => Ok(None),
     }
 }
 
@@ -309,10 +297,7 @@ fn reason_of(
     text: &[u8],
     cut: &StatementCut,
 ) -> Result<Option<Objection>, AllocError> {
-    if matches!(
-        cut,
-        StatementCut::Assigned(_) | StatementCut::Default(_) | StatementCut::For(_)
-    ) {
+    if matches!(cut, StatementCut::Default(_) | StatementCut::For(_)) {
         return Ok(None);
     }
     match refusal_of(alloc, text, cut, true)? {

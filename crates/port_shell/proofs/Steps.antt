@@ -18,7 +18,6 @@ choice_bound text start end parts (specs.IsChoice.guard is unread) = guard_bound
 put_bound : (text : List ℕ) (start end : ℕ) (put : List ℕ) → MayPut text start end put → end ≤ length text
 put_bound text start end put (specs.MayPut.chosen parts texts is become puts) = choice_bound text start end parts is
 put_bound text start end put (specs.MayPut.cased parts is puts) = is.statement.word.0
-put_bound text start end put (specs.MayPut.spread is) = guard_bound text end is.is.ends
 put_bound text start end put (specs.MayPut.defaulted name word is puts) = guard_bound text end is.ends
 put_bound text start end put (specs.MayPut.repeated is accepted) = is.are.is.statement.word.0
 

@@ -4,7 +4,6 @@ use Rattle.std.specs.List.{list_all}
 use Rattle.ac_calls.specs.Calls.{MacroCall, calls_in}
 use Rattle.ac_calls.specs.declared.call.Extent.{Extent}
 use Rattle.lint_errors.specs.Errors.{IsAccepted}
-use Rattle.port_compounds.specs.Assigned.{IsOnTwoLines}
 use Rattle.port_compounds.specs.Cases.{IsCase}
 use Rattle.port_compounds.specs.Defaults.{IsDefaulting, assignment, empty_test}
 use Rattle.port_compounds.specs.Guards.{IsGuarded, ReadsStatus}
@@ -148,12 +147,11 @@ pub data IsChoice (text : List ℕ) (start end : ℕ) (parts : List (List ℕ)) 
 
 -- This may be put in the place of a statement between these offsets. Of an `if` and of a statement that a condition guards it is the call of
 -- AS_IF with the same conditions and bodies in the same order, but in a condition `-a` and `-o` of `test` may become `&&` and `||`. Of a `case` it
--- is the call of AS_CASE with the same word, patterns and bodies. Of an assignment with `&&` and a command after it, it is the same on two lines.
+-- is the call of AS_CASE with the same word, patterns and bodies.
 -- Of `NAME=${NAME:-WORD}` it is the call of AS_IF that assigns the word if the variable is empty. Of a `for` it is its turns, if acrun accepts them.
 pub data MayPut (text : List ℕ) (start end : ℕ) (put : List ℕ) : Type 0 where
   chosen : (parts texts : List (List ℕ)) → IsChoice text start end parts → AllBecome parts texts → IsPut (codes "AS_IF") texts put → MayPut text start end put
   cased : (parts : List (List ℕ)) → IsCase text start end parts → IsPut (codes "AS_CASE") parts put → MayPut text start end put
-  spread : IsOnTwoLines text start end put → MayPut text start end put
   defaulted : (name word : List ℕ) → IsDefaulting text start end name word → IsPut (codes "AS_IF") (empty_test name ∷ assignment name word ∷ []) put
       → MayPut text start end put
   repeated : IsWrittenOut text start end put → IsAccepted (source_with put) → MayPut text start end put

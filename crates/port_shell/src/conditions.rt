@@ -16,10 +16,10 @@ use crate::passing::finish;
 use ac_calls::{CallAt, Extent, calls_of};
 use lint_text::{line_start, part, without_end_blanks};
 use port_compounds::guard_parts;
+use port_edits::{Pass, write_change};
 use port_idioms::Idioms;
 use port_joints::{joined_condition, respelled};
 use port_parts::{GuardCut, IfCut, are_blank, are_spaces, is_list_end, is_word};
-use port_put::{Pass, write_change};
 use port_statements::{StatementCut, Statements, may_begin, statements_in};
 use std::alloc::{AllocError, Global};
 
@@ -309,7 +309,6 @@ fn push_of_cut(
             Ok(())
         }
         StatementCut::Case(_)
-        | StatementCut::Assigned(_)
         | StatementCut::Default(_)
         | StatementCut::For(_)
         | StatementCut::Line(_) => Ok(()),

@@ -13,10 +13,11 @@ ghost use Rattle.port_shell.specs.Formed as specs;
 use crate::conditions::{ConditionPlace, is_in_bare};
 use ac_calls::CallAt;
 use lint_text::{line_start, part, without_end_blanks};
+use port_edits::{Pass, write_change};
 use port_idioms::Idioms;
 use port_joints::{FileCut, file_test, has_part, is_test_of_files, program_of, with_answer};
 use port_parts::{are_spaces, begins_statement, is_word};
-use port_put::{Pass, accepted_call, write_change};
+use port_put::accepted_call;
 use std::alloc::{AllocError, Global};
 
 /// The variables that answers are put into.

@@ -9,8 +9,8 @@ use crate::noting::note_for;
 use crate::puts::{Replacement, change_of};
 use ac_calls::calls_of;
 use port_compounds::reads_status;
+use port_edits::{Pass, write_change};
 use port_idioms::Idioms;
-use port_put::{Pass, write_change};
 use port_statements::{StatementCut, cuts_in, drawing_in};
 use std::alloc::{AllocError, Global};
 

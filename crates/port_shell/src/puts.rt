@@ -12,25 +12,13 @@ ghost use Rattle.port_shell.specs.Formed as specs;
 
 use deftable::Bytes;
 use port_compounds::{
-    assigned_lines, assignment_of, case_parts, default_of, empty_test, guard_parts, if_parts,
-    loop_turns,
+    assignment_of, case_parts, default_of, empty_test, guard_parts, if_parts, loop_turns,
 };
-use port_joints::joined_texts;
+use port_joints::{joined_texts, slices};
 use port_parts::{CaseCut, DefaultOf, ForCut, GuardCut, IfCut};
 use port_put::{accepted_call, is_accepted};
 use port_statements::StatementCut;
 use std::alloc::{AllocError, Global};
-
-/// Returns the texts as slices.
-fn slices<'a>(alloc: Global, texts: &'a [Bytes]) -> Result<Vec<&'a [u8]>, AllocError>
-    ensures { IfOk result (λ v. map (λ p. p.now) v.items ≡ texts.now) }
-{
-    let mut out = Vec::new(alloc);
-    for text in texts {
-        out.push(text.as_slice())?;
-    }
-    Ok(out)
-}
 
 /// Returns the call of AS_IF with these arguments, unless acrun doesn't accept it.
 fn if_call(alloc: Global, texts: &[Bytes]) -> Result<Option<Vec<u8>>, AllocError>
@@ -138,16 +126,6 @@ fn call_for_case(alloc: Global, text: &[u8], cut: &CaseCut) -> Result<Option<Vec
 {
     match case_parts(alloc, text, cut)? {
         Some(parts) => call_of_case(alloc, text, cut, parts.as_slice()),
-        None => Ok(None),
-    }
-}
-
-/// Returns an assignment and the command after `&&` on two lines, unless they are something else.
-fn lines_for(alloc: Global, text: &[u8], cut: GuardCut) -> Result<Option<Vec<u8>>, AllocError>
-    ensures { IfOk result (λ o. IfSome o (λ v. specs.MayPut text.now cut.start cut.end v.items)) }
-{
-    match assigned_lines(alloc, text, cut)? {
-        Some(put) => Ok(Some(put)),
         None => Ok(None),
     }
 }
@@ -274,10 +252,6 @@ pub(crate) fn change_of(
         }
         StatementCut::Guard(cut) => {
             let put = call_for_guard(alloc, text, *cut, reads)?;
-            Ok(change(text, cut.start, cut.end, put))
-        }
-        StatementCut::Assigned(cut) => {
-            let put = lines_for(alloc, text, *cut)?;
             Ok(change(text, cut.start, cut.end, put))
         }
         StatementCut::Default(cut) => {

@@ -4,14 +4,13 @@ use Rattle.ac_calls.specs.Calls.{calls_in, macro_call_of}
 use Rattle.ac_calls.specs.declared.call.CallAt.{CallAt}
 use Rattle.port_places.specs.Outside.{IsOutside}
 use Rattle.port_statements.specs.declared.cut.StatementCut.{StatementCut}
-use Rattle.port_statements.specs.declared.cut.StatementCut.TheVariants.{If, Case, Guard, Assigned, Default, For, Line}
+use Rattle.port_statements.specs.declared.cut.StatementCut.TheVariants.{If, Case, Guard, Default, For, Line}
 
 -- The offset of the first byte of a statement.
 abbrev pub start_of : StatementCut → ℕ
 start_of (If cut) = cut.start
 start_of (Case cut) = cut.start
 start_of (Guard cut) = cut.start
-start_of (Assigned cut) = cut.start
 start_of (Default cut) = cut.start
 start_of (For cut) = cut.start
 start_of (Line at) = at

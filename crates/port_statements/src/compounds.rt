@@ -4,7 +4,7 @@ use crate::compound::{Beginning, Compound, ConstructKind, OpenPart};
 use crate::cut::{Kept, Obstacle, StatementCut};
 use crate::words::{ShellWord, Sign};
 use lint_text::from;
-use port_parts::{CaseBranch, GuardCut};
+use port_parts::{CaseBranch, GuardCut, name_length};
 use std::alloc::{AllocError, Global};
 
 /// The compound statements that are open, and those that were found.
@@ -18,38 +18,22 @@ pub(crate) struct Compounds {
     is_function: bool,
     /// Whether the sign before was a `;`, and its offset.
     semicolon: Option<usize>,
-    /// The statement that begins with a test or an assignment, up to the last word that was read.
+    /// The statement that begins with a test or such an assignment, up to the last word that was read.
     guard: Option<GuardCut>,
-    /// Whether it begins with an assignment, and with one that has a value of its own in it.
-    is_assigned: bool,
+    /// Whether it begins with an assignment that has a value of its own in it.
     is_default: bool,
     found: Vec<StatementCut>,
     /// The statements that aren't rewritten, whatever their parts are.
     kept: Vec<Kept>,
 }
 
-/// Returns what is after the name that a word begins with, or nothing if it begins with none.
-fn after_name(word: &[u8]) -> &[u8] {
-    let length = word
-        .iter()
-        .take_while(|byte| byte.is_ascii_alphanumeric() || **byte == b'_')
-        .count();
-    if length > 0 { from(word, length) } else { b"" }
-}
-
-/// Returns whether a word is a name and `+=` with something after it.
-fn is_appending(word: &[u8]) -> bool {
-    after_name(word).starts_with(b"+=")
-}
-
-/// Returns whether a word is a name and `=` with something after it.
-fn is_assigning(word: &[u8]) -> bool {
-    after_name(word).starts_with(b"=")
-}
-
-/// Returns whether a word may have a value that is taken if a variable is empty.
+/// Returns whether a word may be an assignment of a value that is another one if a variable is empty.
 fn is_defaulting(word: &[u8]) -> bool {
-    word.contains(&b'{') && word.contains(&b':')
+    let length = name_length(word);
+    length > 0
+        && from(word, length).starts_with(b"=")
+        && word.contains(&b'{')
+        && word.contains(&b':')
 }
 
 impl Compounds {
@@ -62,7 +46,6 @@ impl Compounds {
             is_function: false,
             semicolon: None,
             guard: None,
-            is_assigned: false,
             is_default: false,
             found: Vec::new(alloc),
             kept: Vec::new(alloc),
@@ -101,19 +84,15 @@ impl Compounds {
         }
     }
 
-    /// Ends a statement that begins with a test, if one was begun. If something is joined to the
+    /// Ends a statement that begins with a test or an assignment, if one was begun. If something is joined to the
     /// test, the statement may be rewritten.
     fn end_guard(&mut self) -> Result<(), AllocError> {
         if let Some(guard) = self.guard {
             if guard.at_joint == 0 && self.is_default {
                 self.found.push(StatementCut::Default(guard))?;
             }
-            if guard.at_joint > 0 && guard.at_joint < guard.end {
-                self.found.push(if self.is_assigned {
-                    StatementCut::Assigned(guard)
-                } else {
-                    StatementCut::Guard(guard)
-                })?;
+            if !self.is_default && guard.at_joint > 0 && guard.at_joint < guard.end {
+                self.found.push(StatementCut::Guard(guard))?;
             }
         }
         self.guard = None;
@@ -127,14 +106,13 @@ impl Compounds {
                 end: word.end,
                 ..guard
             });
-        } else if (text == b"test".as_slice() || is_assigning(text))
+        } else if (text == b"test".as_slice() || is_defaulting(text))
             && self.is_list()
             && self.front == Beginning::Statement
             && !self.is_function
             && !is_quoted
         {
-            self.is_assigned = text != b"test".as_slice();
-            self.is_default = self.is_assigned && is_defaulting(text);
+            self.is_default = text != b"test".as_slice();
             self.guard = Some(GuardCut {
                 start: word.start,
                 at_joint: 0,
@@ -143,8 +121,8 @@ impl Compounds {
         }
     }
 
-    /// Notes an `echo`, an `exit`, an `unset` or an assignment by `+=` that is a statement of a list
-    /// that calls may be put in.
+    /// Notes an `echo`, an `exit`, an `unset` or an `export` that is a statement of a list that calls
+    /// may be put in.
     fn read_line(
         &mut self,
         text: &[u8],
@@ -152,8 +130,7 @@ impl Compounds {
         is_quoted: bool,
     ) -> Result<(), AllocError> {
         let is_word = matches!(text, b"echo" | b"exit" | b"unset" | b"export") && word.is_plain;
-        let is_line = (is_word || is_appending(text)) && !is_quoted;
-        if is_line && self.begins_call() && !self.is_function {
+        if is_word && !is_quoted && self.begins_call() && !self.is_function {
             self.found.push(StatementCut::Line(word.start))?;
         }
         Ok(())

@@ -11,12 +11,10 @@ pub enum StatementCut {
     If(IfCut),
     Case(CaseCut),
     Guard(GuardCut),
-    /// An assignment with `&&` and a command after it.
-    Assigned(GuardCut),
     /// An assignment to a variable of its own value, or of a word if that is empty.
     Default(GuardCut),
     For(ForCut),
-    /// The offset of an `echo`, an `exit`, an `unset` or an assignment by `+=`.
+    /// The offset of an `echo`, an `exit`, an `unset` or an `export`.
     Line(usize),
 }
 
@@ -29,7 +27,6 @@ impl StatementCut {
             StatementCut::If(cut) => cut.start,
             StatementCut::Case(cut) => cut.start,
             StatementCut::Guard(cut) => cut.start,
-            StatementCut::Assigned(cut) => cut.start,
             StatementCut::Default(cut) => cut.start,
             StatementCut::For(cut) => cut.start,
             StatementCut::Line(at) => *at,
@@ -42,7 +39,6 @@ impl StatementCut {
             StatementCut::If(cut) => cut.end,
             StatementCut::Case(cut) => cut.end,
             StatementCut::Guard(cut) => cut.end,
-            StatementCut::Assigned(cut) => cut.end,
             StatementCut::Default(cut) => cut.end,
             StatementCut::For(cut) => cut.end,
             StatementCut::Line(at) => *at,

@@ -47,29 +47,11 @@ AS_IF([a], [^J  echo b; exit 1^J]) => AS_IF([a], [^J  dnl acrun: in place of ech
 echo -n a; exit 1 => the same
 echo a >&2; exit 1 => the same
 echo a & exit 1 => the same
-// `+=`
-CFLAGS+=" -Wall" => dnl acrun: in place of +=: some shells take it for a command^JCFLAGS="$CFLAGS"" -Wall"
-  a_1+=b$c =>   dnl acrun: in place of +=: some shells take it for a command^J  a_1="$a_1"b$c
-a+='b  c' => dnl acrun: in place of +=: some shells take it for a command^Ja="$a"'b  c'
-AS_IF([a], [^Jb+=c^J]) => AS_IF([a], [^Jdnl acrun: in place of +=: some shells take it for a command^Jb="$b"c^J])
-a+="${b} c;d" => dnl acrun: in place of +=: some shells take it for a command^Ja="$a""${b} c;d"
-a+="${b=c}" => the same
-a+="$(b)" => the same
-a+=$1 => the same
-1a+=b => the same
-a+=b c=d => the same
-a+=b; c=d => the same
-a+=(b c) => the same
-a+=`b` => the same
-a+="b\c" => the same
-a+=~/b => the same
-a+= => the same
-a+=b # c => the same
-a+b=c => the same
+// `+=` stays
+CFLAGS+=" -Wall" => the same
+a=1; b+=c => the same
+for a in b; do^Ja+=c^Jdone => the same
 echo a+=b c+=d => dnl acrun: in place of echo: -q drops the line^JAC_MSG_RESULT([a+=b c+=d])
-while b; do^Ja+=c^Jdone => the same
-for a in b; do^Ja+=c^Jdone => for a in b; do^Jdnl acrun: in place of +=: some shells take it for a command^Ja="$a"c^Jdone
-a && b+=c => the same
 // lines that are broken
 if a; then echo b; c=1; fi => if a; then^J  dnl acrun: in place of echo: -q drops the line^J  AC_MSG_RESULT([b])^J  c=1; fi
 if a; then echo b; fi => if a; then^J  dnl acrun: in place of echo: -q drops the line^J  AC_MSG_RESULT([b])^J  fi

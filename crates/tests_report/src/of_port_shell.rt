@@ -257,20 +257,11 @@ for i in a; do x_cv_y=$i; done => the same
 for i in a; do AC_ARG_VAR([X], [x]); done => the same
 for i in a; do AC_CHECK_HEADERS([a.h]); done => the same
 for i in 1 2 3 4 5 6 7 8 9 a b c d e f g h; do x=1; done => the same
-// an assignment that something is joined to
-a=1 && x=2 => a=1^Jx=2
-  a="$b c" && AC_MSG_NOTICE([d]) # e =>   a="$b c"^J  AC_MSG_NOTICE([d]) # e
-AS_IF([:], [a=1 && AC_DEFINE([X])]) => AS_IF([:], [a=1^JAC_DEFINE([X])])
-a= &&^J  x=2 => a=^Jx=2
-a=`b` && x=2 => the same
-a=$(b) && x=2 => the same
-a='b' && x=2 => the same
-a=b c=d && x=2 => the same
-a=1 && x=2 || y=3 => the same
+// an assignment that something is joined to stays
+a=1 && x=2 => the same
+AS_IF([:], [a=1 && AC_DEFINE([X])]) => the same
+a=${a:-b} && x=2 => the same
 a=1 || x=2 => the same
-a=1 && AC_CHECK_FUNC([b]) => the same
-a=1 && x=2 & => the same
-b && a=1 && x=2 => the same
 // a value or a word
 a=${a:-b} => AS_IF([test -z "$a"], [a=b])
   A_1="${A_1:-b.c}"; x=1 =>   AS_IF([test -z "$A_1"], [A_1=b.c]); x=1
@@ -287,7 +278,6 @@ a=${a:-b} c=d => the same
 a=${a:-b} | c => the same
 // a comment that goes on after a line of m4
 [#] dnl^Jif :; then x=1; fi => the same
-[#] a dnl b^Jdnl c^Ja=1 && x=2 => the same
 [#] dnl^Jfor i in a; do x=1; done => the same
 # a^Jdnl # b^Jif :; then x=1; fi => # a^Jdnl # b^JAS_IF([:], [x=1])
 x=1 dnl a^Jif :; then x=1; fi => x=1 dnl a^JAS_IF([:], [x=1])
