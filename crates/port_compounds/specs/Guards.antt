@@ -1,8 +1,16 @@
 -- A statement of a shell that a condition guards, between two offsets of a text, and its parts. (POSIX shell, 2.9.3 "AND Lists" and
 -- "OR Lists")
-use Rattle.std.specs.Prelude.{◌≡◌, ◌⊎◌, ℕ, ◌+◌, ◌-◌, ◌<◌, ◌≤◌, ◌==◌, ◌||◌, Bool, true, false, List, [], ◌∷◌, length, slice_range, slice_index, codes}
+use Rattle.std.specs.Prelude.{◌≡◌, ◌⊎◌, ℕ, ◌+◌, ◌-◌, ◌<◌, ◌≤◌, ◌==◌, ◌||◌, Bool, true, false, List, [], ◌∷◌, length, slice_range, slice_index, codes, Some}
 use Rattle.std.specs.List.{list_any}
 use Rattle.std.specs.Char.{is_ascii_alphabetic}
+use Rattle.ac_macros.specs.Table.{row_named}
+use Rattle.ac_macros.specs.declared.macros.ActMacro.{ActMacro}
+use Rattle.ac_macros.specs.declared.macros.ActMacro.TheVariants.{Define, DefineUnquoted, MsgError, Message}
+use Rattle.ac_macros.specs.declared.macros.Macro.TheVariants.{Plain}
+use Rattle.ac_macros.specs.declared.macros.Named.{Named}
+use Rattle.ac_macros.specs.declared.macros.Named.TheVariants.{Statement}
+use Rattle.ac_macros.specs.declared.macros.PlainMacro.TheVariants.{Acts}
+use Rattle.ac_macros.specs.declared.table.Row.{Row}
 use Rattle.m4quote.specs.ItemValue.{Span, ItemValue, call}
 use Rattle.m4quote.specs.Spelling.{IsSpelling}
 use Rattle.port_parts.specs.Parts.{IsNotEscaped, IsPlainLine}
@@ -44,21 +52,31 @@ ReadsStatus text = (at : ℕ) × (at < length text) × IsStatusAt text at
 abbrev pub is_separator : ℕ → Bool
 is_separator b = b == 59 || b == 38 || b == 124
 
--- The name is that of a macro which defines something.
-abbrev pub IsDefinition : List ℕ → Type 0
-IsDefinition name = (name ≡ codes "AC_DEFINE") ⊎ (name ≡ codes "AC_DEFINE_UNQUOTED")
+-- The macro defines something, or prints a message.
+abbrev pub is_brief : ActMacro → Bool
+is_brief Define = true
+is_brief DefineUnquoted = true
+is_brief MsgError = true
+is_brief (Message m) = true
+is_brief m = false
 
--- The name is that of a macro which prints a message.
-abbrev pub IsMessage : List ℕ → Type 0
-IsMessage name =
-    (name ≡ codes "AC_MSG_CHECKING") ⊎ (name ≡ codes "AC_MSG_RESULT") ⊎ (name ≡ codes "AC_MSG_NOTICE") ⊎ (name ≡ codes "AC_MSG_WARN") ⊎ (name ≡ codes "AC_MSG_ERROR")
+-- A call of the macro is one command of a shell.
+abbrev pub is_one : Named → Bool
+is_one (Statement (Plain (Acts m))) = is_brief m
+is_one m = false
+
+-- The name is that of such a macro.
+pub record NamesOne (name : List ℕ) : Type 0 where
+  pub row : Row
+  pub is : row_named name ≡ Some row
+  pub one : is_one row.named ≡ true
 
 -- The item is a call of such a macro, at the start of its text.
 pub record IsCommandItem (item : ItemValue) : Type 0 where
   pub name : List ℕ
   pub args : List Span
   pub is : item ≡ call name args 0
-  pub macro : IsDefinition name ⊎ IsMessage name
+  pub macro : NamesOne name
 
 -- The items are one such call. To a shell its text is one command. (own)
 pub record AreOneCommand (items : List ItemValue) : Type 0 where

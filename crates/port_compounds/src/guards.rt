@@ -1,11 +1,13 @@
 //! The parts of a statement that a condition guards.
 
-ghost use Rattle.std.specs.Prelude.{◌≡◌, ◌⊎◌, [], map, length, codes, IfOk, IfSome, IsTrue};
+ghost use Rattle.std.specs.Prelude.{◌≡◌, [], map, length, codes, IfOk, IfSome, IsTrue};
 ghost use Rattle.std.specs.List.{list_any};
 ghost use Rattle.m4quote.specs.ItemValue.{view, views};
 ghost use Rattle.port_parts.specs.Places.{BeginsStatement, EndsStatement};
 ghost use Rattle.port_compounds.specs.Guards as specs;
 
+use ac_macros::table::row_named;
+use ac_macros::{ActMacro, Macro, Named, PlainMacro};
 use m4quote::{Item, QuoteFault, read_items};
 use port_parts::{
     GuardCut, after_blanks, are_blank, are_spaces, before_spaces, begins_statement, ends_statement,
@@ -27,29 +29,35 @@ fn has_separator(text: &[u8]) -> bool
     text.iter().any(|byte| is_separator(*byte))
 }
 
-/// Returns whether the macro defines something.
-fn is_definition(name: &[u8]) -> bool
-    ensures { IsTrue result → specs.IsDefinition name.now }
+/// Returns whether a macro defines something or prints a message.
+fn is_brief(m: ActMacro) -> bool
+    ensures { result ≡ specs.is_brief m }
 {
-    name == b"AC_DEFINE".as_slice() || name == b"AC_DEFINE_UNQUOTED".as_slice()
+    match m {
+        ActMacro::Define | ActMacro::DefineUnquoted | ActMacro::MsgError | ActMacro::Message(_) =>
+            true,
+        ActMacro::Prereq | ActMacro::Ignored | ActMacro::Lang => false,
+    }
 }
 
-/// Returns whether the macro prints a message.
-fn is_message(name: &[u8]) -> bool
-    ensures { IsTrue result → specs.IsMessage name.now }
+/// Returns whether a call of a macro is one command of a shell.
+fn is_one(m: Named) -> bool
+    ensures { result ≡ specs.is_one m }
 {
-    name == b"AC_MSG_CHECKING".as_slice()
-        || name == b"AC_MSG_RESULT".as_slice()
-        || name == b"AC_MSG_NOTICE".as_slice()
-        || name == b"AC_MSG_WARN".as_slice()
-        || name == b"AC_MSG_ERROR".as_slice()
+    match m {
+        Named::Statement(Macro::Plain(PlainMacro::Acts(m))) => is_brief(m),
+        _ => false,
+    }
 }
 
-/// Returns whether the macro is one whose call is one command of a shell.
-fn is_one(name: &[u8]) -> bool
-    ensures { IsTrue result → specs.IsDefinition name.now ⊎ specs.IsMessage name.now }
+/// Returns whether the name is that of such a macro.
+fn names_one(name: &[u8]) -> bool
+    ensures { IsTrue result → specs.NamesOne name.now }
 {
-    is_definition(name) || is_message(name)
+    match row_named(name) {
+        Some(row) => is_one(row.named),
+        None => false,
+    }
 }
 
 /// Returns whether the item is a call of such a macro, at the start of its text.
@@ -58,7 +66,7 @@ fn is_command(item: &Item<'_>) -> bool
 {
     match item {
         Item::Bare { .. } => false,
-        Item::Call { name, at, .. } => *at == 0 && is_one(name),
+        Item::Call { name, at, .. } => *at == 0 && names_one(name),
     }
 }
 

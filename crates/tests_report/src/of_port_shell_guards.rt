@@ -26,6 +26,9 @@ test a && AC_DEFINE_UNQUOTED([X], [$a],^J  [an X]) => AS_IF([test a], [AC_DEFINE
 test a || AC_MSG_ERROR([no a & b]) => AS_IF([test a], [], [AC_MSG_ERROR([no a & b])])
 test a || AC_MSG_WARN([b]) => AS_IF([test a], [], [AC_MSG_WARN([b])])
 test a && AC_MSG_NOTICE([b]) => AS_IF([test a], [AC_MSG_NOTICE([b])])
+test a && AC_MSG_CHECKING([b]) => AS_IF([test a], [AC_MSG_CHECKING([b])])
+test a && AC_MSG_RESULT([b]) => AS_IF([test a], [AC_MSG_RESULT([b])])
+test a && AC_MSG_FAILURE([b]) => the same
 // within other statements
 if :; then^J  test a && x=1^Jfi => AS_IF([:], [^J  AS_IF([test a], [x=1])^J])
 if :; then test a && x=1; else test b || y=1; fi => AS_IF([:], [AS_IF([test a], [x=1])], [AS_IF([test b], [], [y=1])])
