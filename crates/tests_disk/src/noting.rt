@@ -1,5 +1,7 @@
 //! A crew in memory that notes what a run is given.
 
+ghost use Rattle.std.specs.Prelude.{◌≡◌, None};
+
 use crew::MemoryCrew;
 use crew_jobs::Job;
 use crew_refusals::Causes;
@@ -45,23 +47,28 @@ impl Crew for Noting {
     }
 }
 
+/// Puts what a run is given.
+fn put_givens(page: &mut Page, givens: &Givens<'_>) {
+    page.put_text(givens.source);
+    for argument in givens.arguments {
+        page.put(argument.as_slice());
+        page.put(b" ");
+    }
+    for entry in givens.environment {
+        page.put(entry.0.as_slice());
+        page.put(b"=");
+        page.put(entry.1.as_slice());
+        page.put(b" ");
+    }
+    match givens.cache {
+        Some(text) => page.put_text(text),
+        None => page.put(b"no cache "),
+    }
+}
+
 impl Resumes for Noting {
     fn resume(&mut self, givens: &Givens<'_>) {
-        self.noted.put_text(givens.source);
-        for argument in givens.arguments {
-            self.noted.put(argument.as_slice());
-            self.noted.put(b" ");
-        }
-        for entry in givens.environment {
-            self.noted.put(entry.0.as_slice());
-            self.noted.put(b"=");
-            self.noted.put(entry.1.as_slice());
-            self.noted.put(b" ");
-        }
-        match givens.cache {
-            Some(text) => self.noted.put_text(text),
-            None => self.noted.put(b"no cache "),
-        }
+        put_givens(&mut self.noted, givens);
     }
 }
 
