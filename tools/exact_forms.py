@@ -161,7 +161,7 @@ OWN_MACROS = (
     "[if test \"$v1\" = stop; then echo \"it stops\"; exit 1; fi]", "[\necho it is\n]", "[v1=a; echo done]", "[AC_DEFINE([{0}])]", "[\n  AC_MSG_RESULT([so])\n  v2=$1\n]",
     "[AC_REQUIRE([AC_PROG_CC])v2=cc]", "[case $v1 in stop) exit 1;; esac]", "[]", "v1=bare", "[AC_SUBST([{0}], [a])]",
 )
-OWN_WORDS = ("1.2", "[3.4]", "word", "[two words]", "[$v1]", "AC_DEFINE", "[x-y]")
+OWN_WORDS = ("1.2", "3.4", "5", "[two words]", "[$v1]", "AC_DEFINE", "1-2")
 
 
 # Texts that `port` leaves, so that acrun reads no source with them.
@@ -297,8 +297,8 @@ class Forms:
         for _ in range(self.at.randint(0, 1)):
             name = self.fresh("fz_own")
             place = self.at.randint(0, len(blocks))
-            blocks.insert(place, f"m4_define([{name}], {self.pick(OWN_WORDS)})")
+            blocks.insert(place, f"define({name}, {self.pick(OWN_WORDS)})")
             for _ in range(self.at.choice((0, 1, 2))):
-                blocks.insert(self.at.randint(place + 1, len(blocks)), self.one([f"v1={name}", f'v2="a {name}"', f"AC_SUBST([{self.fresh('D')}], [{name}])", f"AC_MSG_NOTICE([it is {name}])"]))
+                blocks.insert(self.at.randint(place + 1, len(blocks)), self.one([f"v1={name}", f'v2="a {name}"', f"AC_SUBST([{self.fresh('D')}], [{name}])", f"v2={name}-{name}"]))
         for _ in range(self.at.randint(1, 3)):
             self.put(blocks, self.pick(ONE_LINE))

@@ -853,10 +853,10 @@ JOINED_LINES = (
     "[#] dnl\nfor fz_it in a b; do v2=$fz_it; done", "[#] dnl\ncase $v1 in a) v2=1;; *) v2=2;; esac", '# a note\ndnl # another\nif test -n "$v1"; then v2=after; fi',
     '[#] dnl a note\ndnl one more\nif test -n "$v1"; then v2=joined; fi', "dnl # a note\nv1=y && v2=after",
 )
-WORD_USES = ("v1={0}", "v2=\"a-{0}.b\"", "v1='{0}' v2=1{0}", "AC_SUBST([{1}], [{0}])", "AC_SUBST([{1}], [\"$v1 {0}\"])", "AC_DEFINE([{1}], [{0}], [a text])",
-            "AC_DEFINE_UNQUOTED([{1}], [\"$v1-{0}\"], [a text])", "AC_MSG_NOTICE([it is {0}])", "if test \"$v1\" = {0}; then\n  v2={0}\nfi", "v1={0}x",
-            "AC_MSG_NOTICE([[{0}]])", "v1={0} # a note", "# {0}", "AS_IF([test \"$v1\" = {0}], [v2={0}])", "AC_MSG_CHECKING(for {0})\nAC_MSG_RESULT([{0}, yes])")
-PLAIN_WORDS = ("1.2", "2.0-rc1", "word", "a.b-c", "7")
+WORD_USES = ("v1={0}", "v2=\"a-{0}.b\"", "v1='{0}' v2=1{0}", "v2={0}\nAC_SUBST([{1}], [$v2])", "v2=\"$v1 {0}\"", "AC_SUBST([{1}], [{0}])",
+            "v1=\"$v1-{0}\"", "level={0}", "if test \"$v1\" = {0}; then\n  v2={0}\nfi", "v1={0}x",
+            "AC_MSG_NOTICE([[{0}]])", "v1={0} # a note", "# {0}", "AS_IF([test \"$v1\" = {0}], [v2={0}])", "v1={0}-{0} v2=2{0}")
+PLAIN_WORDS = ("1.2", "2.0-1", "word", "1.0.3", "7")
 TOOLS = ("strip", "nm", "ranlib", "sed", "gawk", "mawk", "no-such_tool", "x.y+z", "grep")
 BODIES_OF_MACROS = (
     "v1=plain", "\nv1=\"$v1 b\"\n", "AC_DEFINE([{D}], [1], [a text])", "\nif test \"$v1\" = yes; then\n  AC_DEFINE([{D}], 1, [a text])\nfi\n",
@@ -1154,14 +1154,15 @@ class Maker(exact_forms.Forms):
         """Adds macros that are plain words, and uses of their names after them."""
         for _ in range(self.at.randint(0, 2)):
             name, word = self.fresh(self.one(["fz_word", "FzWord", "FZ_VERSION"])), self.one(PLAIN_WORDS)
-            macro, title, what = self.one(["define", "m4_define"]), self.one([name, f"[{name}]"]), self.one([word, f"[{word}]"])
-            defined = f"{macro}({title},{self.one([' ', '', chr(10)])}{what}){self.one(['', '', 'dnl', ' # a note'])}"
+            # As many choices as there were once, so that the sources of a number stay.
+            macro, title, what = self.one(["define"] * 2), self.one([name] * 2), self.one([word] * 2)
+            defined = f"{macro}({title},{self.one([' '] * 3)}{what}){self.one(['', '', 'dnl', ' # a note'])}"
             place = self.at.randint(0, len(blocks))
             if self.has(0.3):
                 first.insert(0, defined)
                 place = -1
                 if self.has(0.5):
-                    first[:] = [f"AC_INIT([fuzz], [{name}])" if it.startswith("AC_INIT") else it for it in first]
+                    blocks.insert(0, f"v1={name}")
             else:
                 blocks.insert(place, defined)
             for _ in range(self.at.choice((0, 1, 1, 2, 3))):

@@ -1,12 +1,11 @@
 -- What a definition is made of.
 use Rattle.std.proofs.Common.{◌≡◌, ◌∙◌, ℕ, List, length, Some}
-use Rattle.std.specs.Prelude.{◌++◌, ◌&&◌, nat_lt, Bool, true, slice_range, slice_get, codes}
+use Rattle.std.specs.Prelude.{◌&&◌, nat_lt, true, slice_range, slice_get, codes}
 use Rattle.std.specs.List.{list_all}
-use Rattle.text_cut.specs.Cuts.{is_blank}
 use Rattle.ac_calls.specs.Calls.{MacroCall}
 use Rattle.ac_calls.specs.declared.call.Extent.{Extent}
 use Rattle.port_idioms.specs.Filled.{text_of}
-use Rattle.port_definitions.specs.Defined.{Defines, DefinesWord, HasParameter, IsDefine, arg_text, definition_of, is_of_name, is_plain_byte}
+use Rattle.port_definitions.specs.Defined.{Defines, DefinesWord, HasParameter, arg_text, definition_of, is_of_name, is_plain_byte}
 
 -- A call that defines a macro.
 pub defines : (text : List ℕ) (d : MacroCall) (title what : Extent) (name body : List ℕ) → slice_range text d.start d.name_end ≡ codes "AC_DEFUN" → slice_get d.args 0 ≡ Some title
@@ -15,8 +14,6 @@ defines text d title what name body macro first second two name_is body_is plain
     record { macro = macro; title = title; first = first; what = what; second = second; two = two; name_is = name_is; body_is = body_is; plain = plain }
 
 -- A text that is spelled so defines a word.
-pub defines_word : (text : List ℕ) (start end : ℕ) (front : List ℕ) (is_quoted : Bool) (name blanks : List ℕ) (is_given : Bool) (word spelled : List ℕ) → IsDefine front
-    → spelled ≡ front ++ definition_of is_quoted name blanks is_given word → (nat_lt 0 (length name) && list_all is_of_name name) ≡ true → list_all is_plain_byte word ≡ true
-    → list_all is_blank blanks ≡ true → slice_range text start end ≡ spelled → DefinesWord text start end name word
-defines_word text start end front is_quoted name blanks is_given word spelled macro is_spelled named plain blank is =
-    record { front = front; is_quoted = is_quoted; blanks = blanks; is_given = is_given; macro = macro; is = is ∙ is_spelled; named = named; plain = plain; blank = blank }
+pub defines_word : (text : List ℕ) (start end : ℕ) (name word spelled : List ℕ) → spelled ≡ definition_of name word → (nat_lt 0 (length name) && list_all is_of_name name) ≡ true
+    → list_all is_plain_byte word ≡ true → slice_range text start end ≡ spelled → DefinesWord text start end name word
+defines_word text start end name word spelled is_spelled named plain is = record { is = is ∙ is_spelled; named = named; plain = plain }

@@ -78,34 +78,19 @@ IsUnused text start name = (at : ℕ) → start ≤ at → at < length text → 
 
 -- ---- plain words
 
--- A letter, a digit, or one of `_ . -`. (own)
+-- A digit, `.` or `-`. (own)
 abbrev pub is_plain_byte : ℕ → Bool
-is_plain_byte b = is_of_name b || b == 46 || b == 45
+is_plain_byte b = is_ascii_digit b || b == 46 || b == 45
 
--- A text, perhaps with a pair of brackets around it.
-abbrev pub written : Bool → List ℕ → List ℕ
-written true text = 91 ∷ (text ++ 93 ∷ [])
-written false text = text
-
--- The macros of M4 that define another one. (manual, "Redefined M4 Macros")
-abbrev pub IsDefine : List ℕ → Type 0
-IsDefine front = (front ≡ codes "define(") ⊎ (front ≡ codes "m4_define(")
-
--- The definition of a name as a word, after its parenthesis: both with or without brackets, and a comma and blanks between them.
-unfoldable pub definition_of : Bool → List ℕ → List ℕ → Bool → List ℕ → List ℕ
-definition_of is_quoted name blanks is_given word = ((written is_quoted name ++ 44 ∷ []) ++ blanks) ++ (written is_given word ++ 41 ∷ [])
+-- The definition of a name as a word. (manual, "Redefined M4 Macros")
+unfoldable pub definition_of : List ℕ → List ℕ → List ℕ
+definition_of name word = codes "define(" ++ name ++ codes ", " ++ word ++ 41 ∷ []
 
 -- Between these offsets a macro of this name is defined as this plain word.
 pub record DefinesWord (text : List ℕ) (start end : ℕ) (name word : List ℕ) : Type 0 where
-  pub front : List ℕ
-  pub is_quoted : Bool
-  pub blanks : List ℕ
-  pub is_given : Bool
-  pub macro : IsDefine front
-  pub is : slice_range text start end ≡ front ++ definition_of is_quoted name blanks is_given word
+  pub is : slice_range text start end ≡ definition_of name word
   pub named : (nat_lt 0 (length name) && list_all is_of_name name) ≡ true
   pub plain : list_all is_plain_byte word ≡ true
-  pub blank : list_all is_blank blanks ≡ true
 
 -- m4 takes the name at this offset for a macro without arguments.
 pub record IsPlainUse (text : List ℕ) (at : ℕ) (name : List ℕ) : Type 0 where

@@ -182,11 +182,10 @@ fn unused_definitions(rt: HostRuntime) -> Result<(), Fail> {
 /// A text that defines plain words, and what becomes of it.
 const WORDS: &[u8] = br##"
 define(my_word, 1.2)^Ja=my_word => ^Ja=1.2
-m4_define([my_word], [1.2])dnl^Ja="x-my_word.b" b=1my_word => dnl^Ja="x-1.2.b" b=11.2
-m4_define([my_word], [1.2])^Ja=x1my_word b=2my_word c=_3my_word => ^Ja=x1my_word b=21.2 c=_3my_word
-  define([MyWord],^J  a.b)^JAC_SUBST([X], [MyWord]) =>   ^JAC_SUBST([X], [a.b])
-define(my_word, 1-b)^Jif test "$a" = my_word; then^J  a=my_word^Jfi => ^Jif test "$a" = 1-b; then^J  a=1-b^Jfi
-define(my_word, 1)^JAC_INIT([a], [my_word])^JAC_DEFINE([X], "my_word")^JAC_MSG_NOTICE([it is my_word]) => ^JAC_INIT([a], [1])^JAC_DEFINE([X], "1")^JAC_MSG_NOTICE([it is 1])
+define(my_word, 1.2)dnl^Ja="x-my_word.b" b=1my_word => dnl^Ja="x-1.2.b" b=11.2
+define(my_word, 1.2)^Ja=x1my_word b=2my_word c=_3my_word => ^Ja=x1my_word b=21.2 c=_3my_word
+  define(MyWord, 1.2-3)^Ja=MyWord =>   ^Ja=1.2-3
+define(my_word, 1-2)^Jif test "$a" = my_word; then^J  a=my_word^Jfi => ^Jif test "$a" = 1-2; then^J  a=1-2^Jfi
 define(my_word, 1)^Jdefine(my_other, 2)^Ja=my_other b=my_word => ^J^Ja=2 b=1
 define(my_word, 1)^Ja=my_words b=xmy_word => ^Ja=my_words b=xmy_word
 // Autoconf may have the name in its own texts
@@ -197,8 +196,8 @@ define(FreeBSD, 1)^Ja=FreeBSD => the same
 // m4 does not expand it there, or more than once
 define(my_word, 1)^J# my_word => the same
 define(my_word, 1)^Ja=[my_word] => the same
-define(my_word, 1)^JAC_SUBST([X], [[my_word]]) => the same
-define(my_word, 1)^JAC_MSG_NOTICE([it # my_word]) => the same
+define(my_word, 1)^JAC_SUBST([X], [my_word]) => the same
+define(my_word, 1)^JAC_INIT([a], [my_word]) => the same
 define(my_word, 1)^JAC_CHECK_LIB([my_word], [f]) => the same
 define(my_word, 1)^JAS_IF([:], [a=my_word]) => the same
 define(my_word, 1)^Ja=my_word(b) => the same
@@ -206,8 +205,12 @@ define(my_word, 1)^JF(my_word) => the same
 a=my_word^Jdefine(my_word, 1) => the same
 // it is no plain word, or defined otherwise
 define(my_word, 1 2)^Ja=my_word => the same
-define(my_word, A_B)^Ja=my_word => the same
+define(my_word, a.b)^Ja=my_word => the same
 define(my_word, dnl)^Ja=my_word => the same
+define(my_word, [1])^Ja=my_word => the same
+define([my_word], 1)^Ja=my_word => the same
+define(my_word,1)^Ja=my_word => the same
+m4_define([my_word], [1.2])^Ja=my_word => the same
 define(my_word, )^Ja=my_word => the same
 define( my_word, 1)^Ja=my_word => the same
 define(my_word , 1)^Ja=my_word => the same
