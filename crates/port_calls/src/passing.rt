@@ -10,11 +10,10 @@ use ac_calls::{CallAt, Extent, calls_of};
 use lint_text::{from, part};
 use port_changes::{Change, change_of};
 use port_exchanges::{names_default, pass_cached, pass_chain, pass_first_found, pass_path};
-use port_idioms::{Idioms, text_of};
+use port_idioms::{Idioms, is_call_of, text_of};
 use port_passes::{
-    Pass, first_argument, is_around, is_output, lacks_version, names_variable, pass_arguments,
-    pass_defined, pass_line, pass_name, pass_output, pass_plain, pass_spots, pass_words,
-    write_change,
+    Pass, first_argument, is_around, lacks_version, names_variable, pass_arguments, pass_defined,
+    pass_line, pass_name, pass_output, pass_plain, pass_spots, pass_words, write_change,
 };
 use port_setup::{pass_compiler, pass_search, pass_title};
 use port_spots::{CallWalk, Known, Spot, blank_len};
@@ -43,21 +42,11 @@ fn names_files(text: &[u8], call: &CallAt) -> bool
     }
 }
 
-/// Returns whether the call is one of AC_MSG_RESULT.
-fn is_result(text: &[u8], call: &CallAt) -> bool
-    ensures { IsTrue result
-        → slice_range text.now (macro_call_of call.now).start (macro_call_of call.now).name_end
-        ≡ codes "AC_MSG_RESULT" }
-{
-    let has_name = call.start <= call.name_end && call.name_end <= text.len();
-    has_name && &text[call.start..call.name_end] == b"AC_MSG_RESULT".as_slice()
-}
-
 /// Returns whether the call is AC_MSG_RESULT without an argument.
 fn lacks_result(text: &[u8], call: &CallAt) -> bool
     ensures { IsTrue result → specs.LacksResult text.now (macro_call_of call.now) }
 {
-    is_result(text, call) && call.args.len() <= 0
+    is_call_of(text, call, b"AC_MSG_RESULT") && call.args.len() <= 0
 }
 
 /// Returns whether the call is AC_OUTPUT of at least one file.
@@ -67,7 +56,7 @@ fn is_output_of_files(text: &[u8], call: &CallAt) -> bool
         ≡ codes "AC_OUTPUT")
         × specs.NamesFiles text.now (macro_call_of call.now) }
 {
-    is_output(text, call) && names_files(text, call)
+    is_call_of(text, call, b"AC_OUTPUT") && names_files(text, call)
 }
 
 /// Returns whether the call has to go: the table of macros doesn't have its name, or it is

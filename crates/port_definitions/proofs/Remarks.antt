@@ -1,12 +1,11 @@
 -- What a comment and an unused definition are made of.
-use Rattle.std.proofs.Common.{◌≡◌, ◌≤◌, ◌<◌, ◌+◌, ℕ, zero, suc, List, length, Some, drop, false, ap, arith}
-use Rattle.std.proofs.lemmas.List.{drop_more}
+use Rattle.std.proofs.Common.{◌≡◌, ◌≤◌, ◌<◌, ◌+◌, ℕ, zero, suc, List, length, Some, arith}
 use Rattle.std.specs.Prelude.{◌⊎◌, ◌&&◌, nat_lt, true, slice_range, slice_get, codes}
 use Rattle.std.specs.List.{list_all}
 use Rattle.text_cut.specs.Cuts.{is_space, trimmed}
 use Rattle.ac_calls.specs.Calls.{MacroCall}
 use Rattle.ac_calls.specs.declared.call.Extent.{Extent}
-use Rattle.ac_statement.specs.Inside.{is_run, closes_at_end}
+use Rattle.ac_statement.specs.Inside.{is_run}
 use Rattle.port_idioms.specs.Filled.{text_of}
 use Rattle.port_definitions.specs.Defined.{arg_text, is_of_name}
 use Rattle.port_definitions.specs.Unused.{BeginsLine, DefinesUnused, IsRemark, IsUncalled, is_remark, is_remark_byte}
@@ -23,10 +22,6 @@ pub unused : (text : List ℕ) (d : MacroCall) (title what : Extent) (name : Lis
     → is_run (trimmed (arg_text text what)) ≡ true → IsUncalled text d.start d.end name → DefinesUnused text d name
 unused text d title what name macro first second two name_is named quoted uncalled =
     record { macro = macro; title = title; first = first; what = what; second = second; two = two; name_is = name_is; named = named; quoted = quoted; uncalled = uncalled }
-
--- No text closes brackets if none is open.
-pub closes_stop : (i : ℕ) (text : List ℕ) → i < length text → closes_at_end 0 (drop i text) ≡ false
-closes_stop i text lt = ap (closes_at_end 0) (drop_more text i 0 lt)
 
 -- What holds of all numbers before this one, and of it, holds of those before the next.
 pub before_next : (P : ℕ → Type 0) (at k : ℕ) → (k < at → P k) → P at → k < at + 1 → P k

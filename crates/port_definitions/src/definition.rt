@@ -3,12 +3,12 @@
 ghost use Rattle.std.specs.Prelude.{◌≡◌, ◌⊎◌, ℕ, ◌≤◌, ◌<◌, ◌+◌, ◌-◌, false, true, Some, length, slice_range, slice_index, slice_get, codes, IfSome, IsTrue};
 ghost use Rattle.std.specs.Char.{is_ascii_digit};
 ghost use Rattle.ac_calls.specs.Calls.{macro_call_of};
-ghost use Rattle.lint_macros.specs.Values as words;
 ghost use Rattle.port_idioms.specs.Filled.{text_of};
 ghost use Rattle.port_definitions.specs.Defined as specs;
 
 use ac_calls::{CallAt, Extent};
 use lint_text::part;
+use port_idioms::{is_call_of, unquoted};
 use text_cut::{is_blank, trim};
 
 /// Returns where an argument of the call is.
@@ -16,18 +16,6 @@ pub fn argument(call: &CallAt, index: usize) -> Option<Extent>
     ensures { result ≡ slice_get (macro_call_of call.now).args index }
 {
     call.args.get(index).copied()
-}
-
-/// Returns the text without the pair of brackets around it, if it has one.
-fn unquoted(text: &[u8]) -> &[u8]
-    ensures { result.now ≡ words.unquoted text.now }
-{
-    let len = text.len();
-    if len >= 2 && text[0] == b'[' && text[len - 1] == b']' {
-        &text[1..len - 1]
-    } else {
-        text
-    }
 }
 
 /// Returns an argument without the blanks around it and a pair of brackets.
@@ -43,8 +31,7 @@ pub(crate) fn is_definition(text: &[u8], call: &CallAt) -> bool
         → slice_range text.now (macro_call_of call.now).start (macro_call_of call.now).name_end
         ≡ codes "AC_DEFUN" }
 {
-    let has_name = call.start <= call.name_end && call.name_end <= text.len();
-    has_name && &text[call.start..call.name_end] == b"AC_DEFUN".as_slice()
+    is_call_of(text, call, b"AC_DEFUN")
 }
 
 /// Returns whether a `$` before the byte makes a parameter.

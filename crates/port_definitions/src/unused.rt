@@ -1,6 +1,6 @@
 //! Definitions of macros that nothing calls.
 
-ghost use Rattle.std.specs.Prelude.{◌≡◌, ◌⊎◌, ◌≤◌, ◌<◌, ◌+◌, ◌^◌, ◌&&◌, nat_lt, false, true, Some, length, slice_range, slice_get, nat_eq, codes, IsTrue};
+ghost use Rattle.std.specs.Prelude.{◌≡◌, ◌⊎◌, ◌≤◌, ◌<◌, ◌&&◌, nat_lt, false, true, Some, length, slice_range, slice_get, nat_eq, codes, IsTrue};
 ghost use Rattle.std.specs.List.{list_all, starts_with};
 ghost use Rattle.text_cut.specs.Cuts as cuts;
 ghost use Rattle.ac_calls.specs.Calls.{macro_call_of};
@@ -14,46 +14,10 @@ use crate::lines::{last_line, space_len};
 use crate::words::is_name;
 use ac_calls::{CallAt, Extent};
 use lint_text::{before, from, part};
+use port_idioms::is_run;
 use text_cut::{is_space, trim};
 
 // ---- the body
-
-/// Returns how many brackets are open after this byte.
-fn depth_after(depth: usize, byte: u8) -> usize
-    requires { depth + 1 < 2 ^ 64 }
-    ensures { result ≡ inside.depth_after depth byte }
-{
-    match byte {
-        b'[' => depth + 1,
-        b']' => depth.saturating_sub(1),
-        _ => depth,
-    }
-}
-
-/// Returns whether the one bracket that is open before the text is closed by its last byte, and not
-/// earlier.
-fn closes_at_end(text: &[u8]) -> bool
-    ensures { result ≡ inside.closes_at_end 1 text.now }
-{
-    let mut depth = 1;
-    for byte in text {
-        if depth == 0 {
-            return false;
-        }
-        depth = depth_after(depth, *byte);
-    }
-    depth == 0
-}
-
-/// Returns whether a text is one quoted text.
-fn is_run(text: &[u8]) -> bool
-    ensures { result ≡ inside.is_run text.now }
-{
-    match text {
-        [] => false,
-        [first, rest @ ..] => *first == b'[' && closes_at_end(rest),
-    }
-}
 
 /// Returns whether an argument is one quoted text, perhaps with blanks around it.
 fn is_quoted(text: &[u8], arg: Extent) -> bool

@@ -13,7 +13,7 @@ use crate::types::is_c_name;
 use ac_calls::{CallAt, Extent};
 use lint_text::part;
 use port_definitions::argument;
-use port_idioms::{Idioms, text_of};
+use port_idioms::{Idioms, is_call_of, text_of};
 use port_passes::{Pass, can_be_made};
 use port_spots::{Known, Spot, are_blank};
 use std::alloc::{AllocError, Global};
@@ -23,24 +23,13 @@ fn only_argument(text: &[u8], call: &CallAt, name: &[u8]) -> Option<Extent>
     requires { Contains (calls_in text.now) (macro_call_of call.now) }
     ensures { IfSome result (λ a. specs.IsOfOne text.now (macro_call_of call.now) name.now a) }
 {
-    if !is_of(text, call, name) || call.args.len() != 1 {
+    if !is_call_of(text, call, name) || call.args.len() != 1 {
         return None;
     }
     match argument(call, 0) {
         Some(only) => Some(only),
         None => None,
     }
-}
-
-/// Returns whether the call is one of a macro of this name.
-fn is_of(text: &[u8], call: &CallAt, name: &[u8]) -> bool
-    ensures { IsTrue result
-        → slice_range text.now (macro_call_of call.now).start (macro_call_of call.now).name_end
-        ≡ name.now }
-{
-    call.start <= call.name_end
-        && call.name_end <= text.len()
-        && &text[call.start..call.name_end] == name
 }
 
 /// Where the arguments of AC_CACHE_VAL are.
@@ -55,7 +44,7 @@ fn value_of(text: &[u8], call: &CallAt) -> Option<Value>
     ensures { IfSome result (λ v.
         specs.IsValue text.now (macro_call_of call.now) v.variable v.commands) }
 {
-    if !is_of(text, call, b"AC_CACHE_VAL") || call.args.len() != 2 {
+    if !is_call_of(text, call, b"AC_CACHE_VAL") || call.args.len() != 2 {
         return None;
     }
     let Some(variable) = argument(call, 0) else {

@@ -13,7 +13,7 @@ use crate::reading::{takes_words, text_in};
 use crate::types::is_c_name;
 use ac_calls::{CallAt, Extent};
 use port_definitions::argument;
-use port_idioms::Idioms;
+use port_idioms::{Idioms, is_call_of};
 use port_passes::{Pass, can_be_made};
 use port_spots::{Known, Spot, line_indent};
 use std::alloc::{AllocError, Global};
@@ -166,10 +166,7 @@ fn is_path_progs(text: &[u8], call: &CallAt) -> bool
         ≡ codes "AC_PATH_PROGS" }
     ensures three { IsTrue result → length (macro_call_of call.now).args ≤ 3 }
 {
-    call.start <= call.name_end
-        && call.name_end <= text.len()
-        && &text[call.start..call.name_end] == b"AC_PATH_PROGS".as_slice()
-        && call.args.len() <= 3
+    is_call_of(text, call, b"AC_PATH_PROGS") && call.args.len() <= 3
 }
 
 /// Returns whether the byte may be in the name of a program.

@@ -10,7 +10,7 @@ ghost use Rattle.port_passes.specs.Rewritten as specs;
 use ac_calls::{CallAt, Extent};
 use lint_text::part;
 use port_definitions::{argument, is_letter};
-use port_idioms::{ending, text_of};
+use port_idioms::{ending, is_call_of, text_of};
 use port_spots::are_name_bytes;
 
 /// Returns whether the byte may be in the name of a type.
@@ -90,8 +90,7 @@ fn is_check(text: &[u8], call: &CallAt) -> bool
         → slice_range text.now (macro_call_of call.now).start (macro_call_of call.now).name_end
         ≡ codes "AC_CHECK_TYPE" }
 {
-    let has_name = call.start <= call.name_end && call.name_end <= text.len();
-    has_name && &text[call.start..call.name_end] == b"AC_CHECK_TYPE".as_slice()
+    is_call_of(text, call, b"AC_CHECK_TYPE")
 }
 
 /// Returns whether an argument is a type, with nothing after it but spaces.

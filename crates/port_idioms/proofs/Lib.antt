@@ -1,1 +1,2 @@
 pub mod Rowed
+mod Runs

@@ -8,6 +8,7 @@ ghost use Rattle.lint_macros.specs.Values.{unquoted};
 ghost use Rattle.text_cut.specs.Cuts.{trimmed};
 ghost use Rattle.port_idioms.specs.Filled as specs;
 
+use crate::asked::is_run;
 use lint_macros::{Form, HoleSource};
 use lint_text::is_word_byte;
 use m4quote::{cpp_name, sh_name};
@@ -44,25 +45,8 @@ fn has_macro(text: &[u8], are_text: bool) -> bool {
     }
 }
 
-/// Returns whether the brackets of a text are closed within it, and no parenthesis, comma or
-/// comment is outside of them.
-fn is_one_text(inner: &[u8]) -> bool {
-    let mut depth: usize = 0;
-    for byte in inner {
-        if *byte == b'[' {
-            depth = depth.saturating_add(1);
-        } else if *byte == b']' {
-            if depth == 0 {
-                return false;
-            }
-            depth -= 1;
-        }
-    }
-    depth == 0
-}
-
 /// Returns the text without the pair of brackets around it, if it has one.
-fn unquoted(text: &[u8]) -> &[u8]
+pub fn unquoted(text: &[u8]) -> &[u8]
     ensures { result.now ≡ unquoted text.now }
 {
     let len = text.len();
@@ -82,7 +66,7 @@ fn is_verbatim(byte: u8) -> bool {
 /// brackets around it, whatever the macros are, or if its words are text.
 fn is_certain(written: &[u8], inner: &[u8], are_text: bool) -> bool {
     if inner.len() < written.len() {
-        is_one_text(inner)
+        is_run(written)
     } else {
         written.iter().all(|byte| is_verbatim(*byte)) && !has_macro(written, are_text)
     }

@@ -13,16 +13,18 @@
 //! other_of(alloc, &index, b"AC_FUNC_MALLOC", 0)?            // an idiom; it says " HAVE_MALLOC is 1 without a check"
 //! ```
 //!
-//! Read `specs/Rows`, `rows` and `exact`, and then `filling`. `tools/macro_table.py` writes
-//! `table`. A call fails only if memory runs out. "own" marks a rule that no manual gives.
+//! Read `specs/Rows`, `rows` and `exact`, and then `filling`. `asked` has what many crates ask of a call
+//! or an argument. `tools/macro_table.py` writes `table`. A call fails only if memory runs out. "own" marks a rule that no manual gives.
 #![tactic(auto)]
 
+mod asked;
 mod exact;
 mod filling;
 mod idioms;
 mod rows;
 mod table;
 
+pub use asked::{is_call_of, is_run};
 pub use exact::{Exact, Other, exact_of, other_of};
-pub use filling::{ending, filled, text_of};
+pub use filling::{ending, filled, text_of, unquoted};
 pub use idioms::Idioms;

@@ -36,6 +36,6 @@ pub use joints::{first_argument, pass_words};
 pub use lines::pass_line;
 pub use making::{can_be_made, is_init, lacks_version, put_made};
 pub use names::{defined_in, names_variable, pass_name};
-pub use output::{is_around, is_output, pass_output};
+pub use output::{is_around, pass_output};
 pub use plain::pass_plain;
 pub use writing::{Pass, write_change};

@@ -10,7 +10,7 @@ ghost use Rattle.port_passes.specs.Rewritten as rewritten;
 use crate::writing::{Pass, write_change};
 use ac_calls::CallAt;
 use lint_text::from;
-use port_idioms::Idioms;
+use port_idioms::{Idioms, is_call_of};
 use port_spots::{Known, Spot, begins_statement, can_be_noted, ends_statement};
 use std::alloc::AllocError;
 
@@ -20,8 +20,7 @@ pub fn is_init(text: &[u8], call: &CallAt) -> bool
         → slice_range text.now (macro_call_of call.now).start (macro_call_of call.now).name_end
         ≡ codes "AC_INIT" }
 {
-    let has_name = call.start <= call.name_end && call.name_end <= text.len();
-    has_name && &text[call.start..call.name_end] == b"AC_INIT".as_slice()
+    is_call_of(text, call, b"AC_INIT")
 }
 
 /// Returns whether the call is AC_INIT with at most one argument.

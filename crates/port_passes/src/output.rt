@@ -9,20 +9,10 @@ ghost use Rattle.port_passes.specs.Rewritten as specs;
 use crate::writing::{Pass, write_change};
 use ac_calls::CallAt;
 use lint_text::{before, from};
-use port_idioms::Idioms;
+use port_idioms::{Idioms, is_call_of};
 use port_spots::{Spot, are_blank, blank_len, without_end_blanks};
 use std::alloc::{AllocError, Global};
 use text_cut::is_blank_or_return;
-
-/// Returns whether the call is one of AC_OUTPUT.
-pub fn is_output(text: &[u8], call: &CallAt) -> bool
-    ensures { IsTrue result
-        → slice_range text.now (macro_call_of call.now).start (macro_call_of call.now).name_end
-        ≡ codes "AC_OUTPUT" }
-{
-    let has_name = call.start <= call.name_end && call.name_end <= text.len();
-    has_name && &text[call.start..call.name_end] == b"AC_OUTPUT".as_slice()
-}
 
 /// Returns whether the call and, around it, nothing but blanks are between two offsets of the text.
 pub fn is_around(text: &[u8], call: &CallAt, start: usize, end: usize) -> bool
@@ -274,7 +264,7 @@ pub fn pass_output(
     requires begun { specs.IsPass idioms text.now pass.old.at pass.old.out.items }
     ensures { OnOk result (specs.IsPass idioms text.now pass.new.at pass.new.out.items) }
 {
-    if !is_output(text, call) {
+    if !is_call_of(text, call, b"AC_OUTPUT") {
         return Ok(());
     }
     match idioms {

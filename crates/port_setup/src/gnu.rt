@@ -14,7 +14,7 @@ use crate::compiler::{flags_below, headers_below, standard_below};
 use ac_calls::CallAt;
 use lint_text::{from, is_word_byte, part};
 use port_definitions::space_len;
-use port_idioms::{Idioms, Other, other_of};
+use port_idioms::{Idioms, Other, is_call_of, other_of};
 use port_passes::{Pass, write_change};
 use port_spots::{Known, Needed, Spot, difference, line_indent, put_idiom};
 use std::alloc::{AllocError, Global};
@@ -73,8 +73,7 @@ fn is_compiler(text: &[u8], call: &CallAt) -> bool
         → slice_range text.now (macro_call_of call.now).start (macro_call_of call.now).name_end
         ≡ codes "AC_PROG_CC" }
 {
-    let has_name = call.start <= call.name_end && call.name_end <= text.len();
-    has_name && &text[call.start..call.name_end] == b"AC_PROG_CC".as_slice()
+    is_call_of(text, call, b"AC_PROG_CC")
 }
 
 /// Returns what is put after a call of AC_PROG_CC, without the idiom.

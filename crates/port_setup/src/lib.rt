@@ -2,7 +2,7 @@
 //! idioms are wanted.
 //!
 //! After AC_PROG_CC, GCC and CFLAGS are set, and the default headers are looked for. AC_INIT gets the name
-//! and the version of AM_INIT_AUTOMAKE. AC_EGREP_CPP of a word in a condition becomes AC_PREPROC_IFELSE.
+//! and the version of AM_INIT_AUTOMAKE. AC_EGREP_CPP of a word that a symbol decides about becomes AC_PREPROC_IFELSE.
 //!
 //! ```text
 //! AC_INIT(main.c)                 // becomes AC_INIT([a], [1.0]) and AC_CONFIG_SRCDIR([main.c]), below a comment,

@@ -15,7 +15,7 @@ ghost use Rattle.port_passes.specs.Rewritten as rewritten;
 use ac_calls::{CallAt, Extent};
 use lint_text::{is_word_byte, part};
 use port_definitions::argument;
-use port_idioms::{Idioms, Other, other_of, text_of};
+use port_idioms::{Idioms, Other, is_call_of, other_of, text_of};
 use port_passes::{Pass, can_be_made, is_init, lacks_version, put_made};
 use port_spots::{Known, Spot, TitleSpot, count_of, difference, line_indent, put_idiom, texts};
 use std::alloc::{AllocError, Global};
@@ -62,8 +62,7 @@ fn is_automake(text: &[u8], call: &CallAt) -> bool
         → slice_range text.now (macro_call_of call.now).start (macro_call_of call.now).name_end
         ≡ codes "AM_INIT_AUTOMAKE" }
 {
-    let has_name = call.start <= call.name_end && call.name_end <= text.len();
-    has_name && &text[call.start..call.name_end] == b"AM_INIT_AUTOMAKE".as_slice()
+    is_call_of(text, call, b"AM_INIT_AUTOMAKE")
 }
 
 /// The arguments of a call of AM_INIT_AUTOMAKE that are the name and the version of the package.

@@ -16,7 +16,7 @@ ghost use Rattle.port_passes.specs.Rewritten as rewritten;
 use ac_calls::{CallAt, Extent};
 use lint_text::{first_name, from, part};
 use port_definitions::argument;
-use port_idioms::{Idioms, Other, other_of, text_of};
+use port_idioms::{Idioms, Other, is_call_of, other_of, text_of};
 use port_passes::{Pass, can_be_made, put_made};
 use port_spots::{
     Known, Spot, are_blank, are_name_bytes, count_of, difference, joins_next_line, line_indent,
@@ -106,7 +106,10 @@ fn made_of(alloc: Global, program: &[u8], word: &[u8]) -> Result<Option<Vec<u8>>
         IfSome o (λ v. specs.IsTest program.now word.now v.items)) }
 {
     let symbol = first_name(from(program, FRONT.len()));
-    let used = FRONT.len().saturating_add(symbol.len()).saturating_add(word.len());
+    let used = FRONT
+        .len()
+        .saturating_add(symbol.len())
+        .saturating_add(word.len());
     let rest = from(program, used.saturating_add(b"\n\n#endif".len()));
     with_parts(alloc, program, symbol, word, rest)
 }
@@ -250,16 +253,6 @@ fn sought_text(
     }
 }
 
-/// Returns whether the call is one of AC_EGREP_CPP.
-fn is_egrep(text: &[u8], call: &CallAt) -> bool
-    ensures { IsTrue result
-        → slice_range text.now (macro_call_of call.now).start (macro_call_of call.now).name_end
-        ≡ codes "AC_EGREP_CPP" }
-{
-    let has_name = call.start <= call.name_end && call.name_end <= text.len();
-    has_name && &text[call.start..call.name_end] == b"AC_EGREP_CPP".as_slice()
-}
-
 /// Writes the idiom of a search in the place of a call of AC_EGREP_CPP, if it is such a search.
 fn put_sought(
     alloc: Global,
@@ -298,7 +291,7 @@ pub fn pass_search(
     requires begun { rewritten.IsPass idioms text.now pass.old.at pass.old.out.items }
     ensures { OnOk result (rewritten.IsPass idioms text.now pass.new.at pass.new.out.items) }
 {
-    if !is_egrep(text, call)
+    if !is_call_of(text, call, b"AC_EGREP_CPP")
         || !can_be_made(known, text, spot, call)
         || joins_next_line(text, call)
     {

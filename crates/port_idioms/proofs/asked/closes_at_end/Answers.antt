@@ -1,7 +1,7 @@
 use Rattle.std.proofs.Common.{drop, ap, sym, ◌∙◌}
 use Rattle.ac_statement.specs.Inside.{closes_at_end}
-use Rattle.port_definitions.proofs.Remarks.{closes_stop}
-use Rattle.port_definitions.proofs.unused.closes_at_end.Goals as goal
+use Rattle.port_idioms.proofs.Runs.{closes_stop}
+use Rattle.port_idioms.proofs.asked.closes_at_end.Goals as goal
 
 pub returns-then-depth-eq0 : goal.returns-then-depth-eq0
 returns-then-depth-eq0 c =
