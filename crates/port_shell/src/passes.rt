@@ -41,10 +41,10 @@ fn passed_once(alloc: Global, idioms: Idioms, text: &[u8]) -> Result<Option<Vec<
 pub fn formed(alloc: Global, idioms: Idioms, text: &[u8]) -> Result<Vec<u8>, AllocError>
     // An `if` or a guarded statement may become the call of AS_IF with its parts, and a `case` that
     // of AS_CASE. If all idioms are wanted, a comment may be right before it. In a condition `-a`,
-    // `-o`, `==`, `-eq` and `-ne` may be written otherwise. A `for` may become its turns,
-    // `NAME=WORD && COMMAND` two lines, and `NAME=${NAME:-WORD}` the call of AS_IF that sets it. Each
-    // of these statements begins outside quotes, substitutions, comments and here-documents, also
-    // each whose condition is written otherwise. All else is copied.
+    // `-o`, `==`, `-eq` and `-ne` may be written otherwise. A `for` may become its turns, and
+    // `NAME=${NAME:-WORD}` the call of AS_IF that sets it. Each of these statements begins outside
+    // quotes, substitutions, comments and here-documents, also each whose condition is written
+    // otherwise. All else is copied.
     ensures formed { IfOk result (λ v. specs.IsFormed idioms text.now v.items) }
 {
     let mut out = Vec::from_slice(alloc, text)?;
