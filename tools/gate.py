@@ -3,7 +3,8 @@
 at each allocation (`refuse_each.py`), and runs of the built programs: over children that are acrun too (`examples/standin`), that
 are killed and go on (`examples/answers`), on a terminal (`try_terminal.py`), with errors (`examples/errors` and the examples of docs/errors.md), of the commands whose words no clause
 has (`examples/help`, `examples/lint` and `examples/port`), and of acrun with other programs in the place of acrun-tools
-(`examples/tools`).
+(`examples/tools`). The scripts `share/configure` and `share/acrun-compare` have runs of their own (`examples/wrapper` and
+`examples/compare`).
 
   gate.py            the gate
   gate.py --proofs   proves all crates and their tests, without the must-fail edits, in a room. What it proves is kept on this
@@ -73,17 +74,20 @@ def gather():
 
 
 def tried(*command):
-    """Tries the programs by a command, and returns how many checks passed and failed."""
-    done = subprocess.run([*command, PROGRAMS / "acrun"], stdin=subprocess.DEVNULL)
+    """Runs a command that tries something, and returns how many checks passed and failed."""
+    done = subprocess.run(command, stdin=subprocess.DEVNULL)
     return int(done.returncode == 0), int(done.returncode != 0)
 
 
 def examples():
-    """Tries acrun as the compiler of its own runs, after kills, on a terminal, with errors, in commands that explain something, and with other tools."""
+    """Tries acrun as the compiler of its own runs, after kills, on a terminal, with errors, in commands that explain something, and with other tools.
+    Then it tries the scripts that need no acrun."""
     gather()
     for name in ("terminal", "errors"):
-        yield tried(sys.executable, f"tools/try_{name}.py")
+        yield tried(sys.executable, f"tools/try_{name}.py", PROGRAMS / "acrun")
     for name in ("standin", "answers", "help", "errors", "lint", "port", "tools"):
+        yield tried("sh", f"examples/{name}/run.sh", PROGRAMS / "acrun")
+    for name in ("wrapper", "compare"):
         yield tried("sh", f"examples/{name}/run.sh")
 
 
