@@ -95,7 +95,7 @@ impl RowCall for Words {
 const WORDS: &[u8] = br##"
 // a macro that another file may define, and one of the source itself
 AC_INIT([a], [1])^JAC_A^JMY_B(c)^JAC_OUTPUT => [acrun does not know the macro AC_A][if m4/ or aclocal.m4 defines it, write here what it does][`MY_B` is not a macro that acrun knows, and acrun runs no commands][if m4/ or aclocal.m4 defines it, write here what it does]
-AC_INIT([a], [1])^JAC_DEFUN([AC_A], [b=1])^Jdefine( MY_B, c)^JAC_A^JMY_B(c)^JAC_OUTPUT => [acrun does not know the macro AC_DEFUN][write out what it expands to][`define` is not a macro that acrun knows, and acrun runs no commands][if m4/ or aclocal.m4 defines it, write here what it does][acrun does not know the macro AC_A][this file defines it: write here what it does][`MY_B` is not a macro that acrun knows, and acrun runs no commands][this file defines it: write here what it does]
+AC_INIT([a], [1])^JAC_DEFUN([AC_A], [b=1])^Jdefine( MY_B, c)^JAC_A^JMY_B(c)^JAC_OUTPUT => [acrun does not know the macro AC_DEFUN][write out what it expands to][`define` is not a macro that acrun knows, and acrun runs no commands][write the text itself in place of the name, and leave this out][acrun does not know the macro AC_A][this file defines it: write here what it does][`MY_B` is not a macro that acrun knows, and acrun runs no commands][this file defines it: write here what it does]
 // a definition whose name isn't read is none of a statement without one
 AC_INIT([a], [1])^Jls -l^JAC_A([define(`b', c)])^JAC_OUTPUT => [`ls` is not a statement that acrun supports][write assignments NAME=VALUE and calls; acrun runs no commands][acrun does not know the macro AC_A][if m4/ or aclocal.m4 defines it, write here what it does]
 // no parenthesis is too many after the last argument of a call
