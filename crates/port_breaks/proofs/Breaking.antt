@@ -1,35 +1,37 @@
--- What one step of breaking lines makes.
-use Rattle.std.proofs.Common.{◌≡◌, ℕ, ◌≤◌, List, [], ◌∷◌, ◌++◌, length, Result, Ok, Err, is_ok, OnOk, if◌then◌else◌, slice_range, true, sym, subst, arith}
-use Rattle.std.specs.List.{list_all}
-use Rattle.port_parts.specs.Places.{is_space_or_return}
-use Rattle.std.proofs.Common.{Option, Some, None}
-use Rattle.std.specs.Prelude.{◌≢◌, codes, IfSome, MatchOption}
+-- What changes of a text make of it, and what is known of commands.
+use Rattle.std.proofs.Common.{◌≡◌, ℕ, Bool, true, false, cond, List, [], ◌∷◌, ◌++◌, map, sym, ap, ◌∙◌, arith, Option, Some, None}
+use Rattle.std.specs.Prelude.{◌≢◌, codes, All, IfSome, MatchOption}
+use Rattle.std.proofs.lemmas.List.Elements.{All-nil, All-cons, All-head, All-tail, All-map}
 use Rattle.std.specs.Borrow.{Bor}
 use Rattle.port_echo.specs.Echo.{IsMessage, Prints}
-use Rattle.port_breaks.specs.Breaks.{IsBrokenTo, IsTold, MayBreak}
+use Rattle.port_edits.specs.declared.edit.Edit.{Edit}
+use Rattle.port_edits.specs.Edits.{Change, change_of, fits, kept, with_changes}
+use Rattle.port_edits.proofs.Steps.{kept_apart}
+use Rattle.port_breaks.specs.Breaks.{IsBreak, IsBroken, IsMade, IsTold}
 use Rattle.port_breaks.specs.Breaks as specs
 
-pub broken_bound : (text : List ℕ) (at : ℕ) (out : List ℕ) → IsBrokenTo text at out → at ≤ length text
-broken_bound text at out specs.IsBrokenTo.begun = omega arith
-broken_bound text at out (specs.IsBrokenTo.copied next before from to) = to
-broken_bound text at out (specs.IsBrokenTo.broken end indent before may within spaces) = within
+-- What holds of each change holds of those that are made.
+kept_by : (P : Change → Type 0) (change : Change) (made left : List Change) (b : Bool) → P change → All P made → All P left → All P (cond b (change ∷ made) left)
+kept_by P change made left true holds each other = All-cons P change made holds each
+kept_by P change made left false holds each other = other
 
-pub broken_step : (text : List ℕ) (read : ℕ) (out : List ℕ) (start end : ℕ) (indent : List ℕ) (new_at : ℕ) (new : List ℕ)
-    → IsBrokenTo text read out → MayBreak text start end → read ≤ start → start ≤ end → end ≤ length text → list_all is_space_or_return indent ≡ true
-    → (new_at ≡ end) × (new ≡ ((out ++ slice_range text read start) ++ 10 ∷ 32 ∷ 32 ∷ []) ++ indent) → IsBrokenTo text new_at new
-broken_step text read out start end indent new_at new before may from order within spaces (at_is, new_is) =
-    subst (λ a. IsBrokenTo text a new) (sym at_is)
-    (subst (IsBrokenTo text end) (sym new_is) (specs.IsBrokenTo.broken end indent (specs.IsBrokenTo.copied start before from (omega (arith, order, within))) may within spaces))
+kept_each : (P : Change → Type 0) (text : List ℕ) (at : ℕ) (changes : List Change) → All P changes → All P (kept text at changes)
+unfolding kept
+kept_each P text at [] all = All-nil P
+kept_each P text at (change ∷ changes) all =
+    let rest = All-tail P change changes all in
+    kept_by P change (kept text change.end changes) (kept text at changes) (fits text at change) (All-head P change changes all) (kept_each P text change.end changes rest) (kept_each P text at changes rest)
 
-pub broken_end : {T E : Type 0} (r : Result T E) (text : List ℕ) (at : ℕ) (out new : List ℕ) → IsBrokenTo text at out
-    → new ≡ (if is_ok r then out ++ slice_range text at (length text) else out) → OnOk r (IsBrokenTo text (length text) new)
-broken_end (Ok v) text at out new before is = subst (IsBrokenTo text (length text)) (sym is) (specs.IsBrokenTo.copied (length text) before (broken_bound text at out before) (omega arith))
-broken_end (Err e) text at out new before is = tt
-
--- What holds of an answer holds of what it gives.
-pub on_ok : {T E : Type 0} {P Q : Type 0} → (P → Q) → (r : Result T E) → OnOk r P → OnOk r Q
-on_ok f (Ok v) p = f p
-on_ok f (Err e) p = tt
+-- A text with the edits that can be made.
+pub made_from : (P : Change → Type 0) (text : List ℕ) (given edits : List Edit) (out : List ℕ) → given ≡ edits → All (λ e. P (change_of e)) edits
+    → out ≡ with_changes text 0 (kept text 0 (map change_of given)) → IsMade P text out
+made_from P text given edits out same each is =
+    record {
+      changes = kept text 0 (map change_of edits);
+      apart = kept_apart text 0 (map change_of edits) (omega arith);
+      each = kept_each P text 0 (map change_of edits) (All-map P change_of edits each);
+      is = is ∙ ap (λ g. with_changes text 0 (kept text 0 (map change_of g))) same;
+    }
 
 -- An `echo` of what prints a message.
 pub prints_told : (command given message : List ℕ) → command ≡ codes "echo " ++ given → Prints given message × IsMessage message → IsTold command

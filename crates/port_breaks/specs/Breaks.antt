@@ -1,7 +1,8 @@
 -- Commands in a line, which get lines of their own. The offsets are those of the text that is read. All of this is own.
-use Rattle.std.specs.Prelude.{◌≡◌, ◌⊎◌, ℕ, ◌+◌, ◌-◌, ◌≤◌, nat_lt, ◌&&◌, Bool, true, List, [], ◌∷◌, ◌++◌, length, slice_index, slice_range, codes}
+use Rattle.std.specs.Prelude.{◌≡◌, ◌⊎◌, ℕ, ◌+◌, ◌-◌, ◌≤◌, nat_lt, ◌&&◌, Bool, true, List, [], ◌∷◌, ◌++◌, length, slice_index, slice_range, codes, All}
 use Rattle.std.specs.List.{list_all}
 use Rattle.port_parts.specs.Places.{AreSpaces, BeginsStatement, IsWord, is_space_or_return}
+use Rattle.port_edits.specs.Edits.{Change, AreApart, with_changes}
 use Rattle.port_echo.specs.Commands.{IsBlankEcho}
 use Rattle.port_echo.specs.Echo.{IsMessage, Prints}
 
@@ -35,13 +36,20 @@ pub data MayBreak (text : List ℕ) (start end : ℕ) : Type 0 where
   after : (from : ℕ) → IsTold (slice_range text from start) → AreSpaces text start end → EndsPart text end → MayBreak text start end
   joined : (from at : ℕ) → IsTold (slice_range text from start) → AreSpaces text start at → EndsCommand text at → AreSpaces text (at + 1) end → MayBreak text start end
 
--- So much of a text has been read, and this was written: everything is copied, but where a line may be broken, a newline and spaces are put.
-pub data IsBrokenTo (text : List ℕ) : ℕ → List ℕ → Type 0 where
-  begun : IsBrokenTo text 0 []
-  copied : {at : ℕ} {out : List ℕ} (next : ℕ) → IsBrokenTo text at out → at ≤ next → next ≤ length text → IsBrokenTo text next (out ++ slice_range text at next)
-  broken : {start : ℕ} {out : List ℕ} (end : ℕ) (indent : List ℕ) → IsBrokenTo text start out → MayBreak text start end → end ≤ length text
-      → list_all is_space_or_return indent ≡ true → IsBrokenTo text end ((out ++ 10 ∷ 32 ∷ 32 ∷ []) ++ indent)
+-- The change of what is between two such offsets into a newline and spaces.
+pub record IsBreak (text : List ℕ) (change : Change) : Type 0 where
+  pub indent : List ℕ
+  pub may : MayBreak text change.start change.end
+  pub blank : list_all is_space_or_return indent ≡ true
+  pub is : change.put ≡ (10 ∷ 32 ∷ 32 ∷ []) ++ indent
 
--- The whole text becomes this one.
+-- The text becomes this one: it is the same but for changes of a kind, which are apart and in order.
+pub record IsMade (P : Change → Type 0) (text out : List ℕ) : Type 0 where
+  pub changes : List Change
+  pub apart : AreApart text 0 changes
+  pub each : All P changes
+  pub is : out ≡ with_changes text 0 changes
+
+-- The text becomes this one, with lines broken where they may be.
 abbrev pub IsBroken : List ℕ → List ℕ → Type 0
-IsBroken text out = IsBrokenTo text (length text) out
+IsBroken text out = IsMade (IsBreak text) text out

@@ -1,22 +1,16 @@
 //! Lines that are broken around commands of which it is known what takes their place.
 
-ghost use Rattle.std.specs.Prelude.{◌≡◌, ◌≤◌, ◌+◌, ◌∷◌, ◌++◌, [], true, length, slice_index, slice_range, codes, IfOk, IfSome, IsTrue, OnOk};
+ghost use Rattle.std.specs.Prelude.{◌≡◌, ◌≤◌, ◌+◌, ◌∷◌, ◌++◌, [], true, length, slice_index, slice_range, codes, All, IfOk, IfSome, IsTrue};
 ghost use Rattle.std.specs.List.{list_all};
 ghost use Rattle.port_parts.specs.Places.{AreSpaces, is_space_or_return};
+ghost use Rattle.port_edits.specs.Edits.{change_of};
 ghost use Rattle.port_breaks.specs.Breaks as specs;
 
 use crate::told::{after_spaces, before_spaces, command_end, is_told};
 use port_echo::is_blank_echo;
+use port_edits::{Edit, edited};
 use port_parts::{are_spaces, begins_statement, is_word};
 use std::alloc::{AllocError, Global};
-
-/// A text that is written while another is read.
-#[derive(Drop)]
-struct Breaking {
-    out: Vec<u8>,
-    /// How much was read.
-    at: usize,
-}
 
 /// Returns whether between two offsets there are spaces alone.
 fn are_spaces_between(text: &[u8], start: usize, end: usize) -> bool
@@ -43,8 +37,7 @@ fn begins(text: &[u8], from: usize, at: usize) -> bool
 /// Returns whether a line may be broken between two offsets, before a command that ends at a third
 /// one.
 fn may_break_before(text: &[u8], start: usize, end: usize, to: usize) -> bool
-    ensures may { IsTrue result → specs.MayBreak text.now start end }
-    ensures within { IsTrue result → (start ≤ end) × (end ≤ length text.now) }
+    ensures { IsTrue result → specs.MayBreak text.now start end }
 {
     are_spaces_between(text, start, end)
         && begins(text, start, end)
@@ -75,8 +68,7 @@ fn ends_part(text: &[u8], at: usize) -> bool
 /// Returns whether a line may be broken between two offsets, after a command that begins at a third
 /// one and before the end of a part.
 fn may_break_after(text: &[u8], from: usize, start: usize, end: usize) -> bool
-    ensures may { IsTrue result → specs.MayBreak text.now start end }
-    ensures within { IsTrue result → (start ≤ end) × (end ≤ length text.now) }
+    ensures { IsTrue result → specs.MayBreak text.now start end }
 {
     are_spaces_between(text, start, end)
         && ends_part(text, end)
@@ -106,8 +98,7 @@ fn is_joint(text: &[u8], start: usize, at: usize, end: usize) -> bool
 /// Returns whether a line may be broken between two offsets, with a `;` at a fourth one, after a
 /// command that begins at a third one.
 fn may_break_at(text: &[u8], from: usize, start: usize, at: usize, end: usize) -> bool
-    ensures may { IsTrue result → specs.MayBreak text.now start end }
-    ensures within { IsTrue result → (start ≤ end) × (end ≤ length text.now) }
+    ensures { IsTrue result → specs.MayBreak text.now start end }
 {
     is_joint(text, start, at, end) && is_told_between(text, from, start)
 }
@@ -141,47 +132,28 @@ fn indent_at(text: &[u8], at: usize) -> &[u8]
     }
 }
 
-/// Copies what is before an offset, and puts a newline and an indent in place of what is between that
-/// and another one.
-fn put_break(
-    text: &[u8],
-    start: usize,
-    end: usize,
-    indent: &[u8],
-    breaking: &mut Breaking,
-) -> Result<(), AllocError>
-    requires { (breaking.old.at ≤ start) × (start ≤ length text.now) }
-    ensures { OnOk result (
-        (breaking.new.at ≡ end)
-        × (breaking.new.out.items
-        ≡ ((breaking.old.out.items ++ slice_range text.now breaking.old.at start)
-        ++ 10 ∷ 32 ∷ 32 ∷ [])
-        ++ indent.now)) }
+/// Returns a newline and an indent.
+fn broken_with(alloc: Global, indent: &[u8]) -> Result<Vec<u8>, AllocError>
+    ensures { IfOk result (λ v. v.items ≡ (10 ∷ 32 ∷ 32 ∷ []) ++ indent.now) }
 {
-    breaking.out.extend_from_slice(&text[breaking.at..start])?;
-    breaking.out.extend_from_slice(b"\n  ")?;
-    breaking.out.extend_from_slice(indent)?;
-    breaking.at = end;
-    Ok(())
+    let mut out = Vec::from_slice(alloc, b"\n  ")?;
+    out.extend_from_slice(indent)?;
+    Ok(out)
 }
 
-/// Breaks the line between two offsets, unless it was broken there.
-fn write_break(
+/// Returns the change of what is between two offsets into a newline and an indent.
+fn break_of(
+    alloc: Global,
     text: &[u8],
     start: usize,
     end: usize,
-    breaking: &mut Breaking,
-) -> Result<(), AllocError>
-    requires may { specs.MayBreak text.now start end }
-    requires within { (start ≤ end) × (end ≤ length text.now) }
-    requires begun { specs.IsBrokenTo text.now breaking.old.at breaking.old.out.items }
-    ensures { OnOk result (specs.IsBrokenTo text.now breaking.new.at breaking.new.out.items) }
+) -> Result<Option<Edit>, AllocError>
+    requires { specs.MayBreak text.now start end }
+    ensures { IfOk result (λ o. IfSome o (λ e. specs.IsBreak text.now (change_of e))) }
 {
-    if start < breaking.at {
-        return Ok(());
-    }
     let indent = indent_at(text, start);
-    put_break(text, start, end, indent, breaking)
+    let put = broken_with(alloc, indent)?;
+    Ok(Some(Edit { start, end, put }))
 }
 
 /// Returns whether a line begins at an offset.
@@ -189,45 +161,44 @@ fn is_line_start(text: &[u8], at: usize) -> bool {
     at == 0 || text.get(at.saturating_sub(1)) == Some(&b'\n')
 }
 
-/// Breaks the line before a command between two offsets, if it has something before it on its line,
-/// and if the line wasn't broken right before it.
+/// Returns the break of a line before a command between two offsets, if it has something before it
+/// on its line, and if the text wasn't read up to it.
 fn break_before(
+    alloc: Global,
     text: &[u8],
     at: usize,
     to: usize,
-    breaking: &mut Breaking,
-) -> Result<(), AllocError>
-    requires begun { specs.IsBrokenTo text.now breaking.old.at breaking.old.out.items }
-    ensures { OnOk result (specs.IsBrokenTo text.now breaking.new.at breaking.new.out.items) }
+    read: usize,
+) -> Result<Option<Edit>, AllocError>
+    ensures { IfOk result (λ o. IfSome o (λ e. specs.IsBreak text.now (change_of e))) }
 {
     let start = before_spaces(text, 0, at);
-    if breaking.at != at && !is_line_start(text, start) && may_break_before(text, start, at, to) {
-        write_break(text, start, at, breaking)
+    if read != at && !is_line_start(text, start) && may_break_before(text, start, at, to) {
+        break_of(alloc, text, start, at)
     } else {
-        Ok(())
+        Ok(None)
     }
 }
 
-/// Breaks the line after a command between two offsets, if something that it may be broken before is
-/// after it on its line.
+/// Returns the break of a line after a command between two offsets, if something that it may be
+/// broken before is after it on its line.
 fn break_after(
+    alloc: Global,
     text: &[u8],
     from: usize,
     start: usize,
-    breaking: &mut Breaking,
-) -> Result<(), AllocError>
-    requires begun { specs.IsBrokenTo text.now breaking.old.at breaking.old.out.items }
-    ensures { OnOk result (specs.IsBrokenTo text.now breaking.new.at breaking.new.out.items) }
+) -> Result<Option<Edit>, AllocError>
+    ensures { IfOk result (λ o. IfSome o (λ e. specs.IsBreak text.now (change_of e))) }
 {
     let at = after_spaces(text, start);
     if may_break_after(text, from, start, at) {
-        return write_break(text, start, at, breaking);
+        return break_of(alloc, text, start, at);
     }
     let end = after_spaces(text, at.saturating_add(1));
     if may_break_at(text, from, start, at, end) {
-        write_break(text, start, end, breaking)
+        break_of(alloc, text, start, end)
     } else {
-        Ok(())
+        Ok(None)
     }
 }
 
@@ -290,63 +261,76 @@ pub fn command_at(text: &[u8], at: usize) -> &[u8] {
     text.get(at..end).unwrap_or(b"")
 }
 
-/// Breaks the line of the command at an offset before it, and after the command at another offset,
-/// which is the same or an `exit` after it.
-fn break_around(
+/// Returns how much of a text was read after changes of it.
+fn end_of(edits: &[Edit]) -> usize {
+    match edits.last() {
+        Some(edit) => edit.end,
+        None => 0,
+    }
+}
+
+/// Appends a change, if there is one that begins where the last one ends or after that.
+fn push_edit(text: &[u8], edit: Option<Edit>, edits: &mut Vec<Edit>) -> Result<(), AllocError>
+    requires edit { IfSome edit (λ e. specs.IsBreak text.now (change_of e)) }
+    requires edits { All (λ e. specs.IsBreak text.now (change_of e)) edits.old.items }
+    ensures { All (λ e. specs.IsBreak text.now (change_of e)) edits.new.items }
+{
+    let _ = text;
+    match edit {
+        Some(edit) if end_of(edits.as_slice()) <= edit.start => edits.push(edit)?,
+        _ => {}
+    }
+    Ok(())
+}
+
+/// Appends the breaks of the line of the command at an offset, before it and after the command at
+/// another offset, which is the same or an `exit` after it.
+fn push_around(
+    alloc: Global,
     text: &[u8],
     at: usize,
     to: usize,
     from: usize,
-    breaking: &mut Breaking,
+    edits: &mut Vec<Edit>,
 ) -> Result<(), AllocError>
-    requires begun { specs.IsBrokenTo text.now breaking.old.at breaking.old.out.items }
-    ensures { OnOk result (specs.IsBrokenTo text.now breaking.new.at breaking.new.out.items) }
+    requires { All (λ e. specs.IsBreak text.now (change_of e)) edits.old.items }
+    ensures { All (λ e. specs.IsBreak text.now (change_of e)) edits.new.items }
 {
     let end = command_end(text, from);
-    if !is_begun(text, at, breaking.at) || !is_end(text, after_spaces(text, end)) {
+    let read = end_of(edits.as_slice());
+    if !is_begun(text, at, read) || !is_end(text, after_spaces(text, end)) {
         return Ok(());
     }
-    break_before(text, at, to, breaking)?;
-    break_after(text, from, end, breaking)
+    push_edit(text, break_before(alloc, text, at, to, read)?, edits)?;
+    push_edit(text, break_after(alloc, text, from, end)?, edits)
 }
 
-/// Breaks the line of the command at an offset, if it is known what takes its place.
-fn break_at(text: &[u8], at: usize, breaking: &mut Breaking) -> Result<(), AllocError>
-    requires begun { specs.IsBrokenTo text.now breaking.old.at breaking.old.out.items }
-    ensures { OnOk result (specs.IsBrokenTo text.now breaking.new.at breaking.new.out.items) }
+/// Appends the breaks of the line of the command at an offset, if it is known what takes its place.
+fn push_at(alloc: Global, text: &[u8], at: usize, edits: &mut Vec<Edit>) -> Result<(), AllocError>
+    requires { All (λ e. specs.IsBreak text.now (change_of e)) edits.old.items }
+    ensures { All (λ e. specs.IsBreak text.now (change_of e)) edits.new.items }
 {
     let to = command_end(text, at);
     if !is_told_between(text, at, to) {
         return Ok(());
     }
     let from = exit_after(text, at, to);
-    let end = command_end(text, from);
-    if is_told_between(text, from, end) {
-        break_around(text, at, to, from, breaking)
+    if is_told_between(text, from, command_end(text, from)) {
+        push_around(alloc, text, at, to, from, edits)
     } else {
-        break_around(text, at, to, at, breaking)
+        push_around(alloc, text, at, to, at, edits)
     }
 }
 
-/// Breaks the lines of the commands at these offsets.
-fn break_each(text: &[u8], places: &[usize], breaking: &mut Breaking) -> Result<(), AllocError>
-    requires begun { specs.IsBrokenTo text.now breaking.old.at breaking.old.out.items }
-    ensures { OnOk result (specs.IsBrokenTo text.now breaking.new.at breaking.new.out.items) }
+/// Returns the breaks of the lines of the commands at these offsets.
+fn breaks_at(alloc: Global, text: &[u8], places: &[usize]) -> Result<Vec<Edit>, AllocError>
+    ensures { IfOk result (λ v. All (λ e. specs.IsBreak text.now (change_of e)) v.items) }
 {
-    for i in 0..places.len() {
-        break_at(text, places[i], breaking)?;
+    let mut edits = Vec::new(alloc);
+    for at in places {
+        push_at(alloc, text, *at, &mut edits)?;
     }
-    Ok(())
-}
-
-/// Copies the rest of a text.
-fn copy_rest(text: &[u8], breaking: &mut Breaking) -> Result<(), AllocError>
-    requires begun { specs.IsBrokenTo text.now breaking.old.at breaking.old.out.items }
-    ensures { OnOk result (specs.IsBrokenTo text.now (length text.now) breaking.new.out.items) }
-{
-    breaking
-        .out
-        .extend_from_slice(&text[breaking.at..text.len()])
+    Ok(edits)
 }
 
 /// Returns the text with each of the commands at these offsets on a line of its own, if it is known
@@ -359,12 +343,7 @@ pub fn broken(alloc: Global, text: &[u8], places: &[usize]) -> Result<Vec<u8>, A
     // Where a line may be broken, a newline and spaces are put. All else is copied.
     ensures broken { IfOk result (λ v. specs.IsBroken text.now v.items) }
 {
-    let mut breaking = Breaking {
-        out: Vec::new(alloc),
-        at: 0,
-    };
-    break_each(text, places, &mut breaking)?;
-    copy_rest(text, &mut breaking)?;
-    let Breaking { out, .. } = breaking;
+    let edits = breaks_at(alloc, text, places)?;
+    let out = edited(alloc, text, edits.as_slice())?;
     Ok(out)
 }

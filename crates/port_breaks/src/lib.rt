@@ -24,3 +24,4 @@ mod tests;
 mod told;
 
 pub use breaks::{broken, command_at};
+pub use told::{after_spaces, before_spaces, is_digit, rest_after};

@@ -7,7 +7,7 @@ ghost use Rattle.port_breaks.specs.Breaks as specs;
 use port_echo::{is_blank_echo, message_of};
 
 /// Returns the text after a word, if a command begins with the word.
-fn rest_after<'a>(command: &'a [u8], word: &[u8]) -> Option<&'a [u8]>
+pub fn rest_after<'a>(command: &'a [u8], word: &[u8]) -> Option<&'a [u8]>
     ensures { IfSome result (λ rest. command.now ≡ word.now ++ rest.now) }
 {
     command.strip_prefix(word)
@@ -32,7 +32,7 @@ fn is_status(byte: u8) -> bool
 }
 
 /// Returns whether a text is one digit that isn't 0.
-fn is_digit(text: &[u8]) -> bool
+pub fn is_digit(text: &[u8]) -> bool
     ensures { IsTrue result
         → (length text.now ≡ 1) × (list_all specs.is_status text.now ≡ true) }
 {
@@ -98,7 +98,7 @@ fn end_of_quoted(text: &[u8], from: usize, quote: u8) -> usize {
 }
 
 /// Returns the offset of the spaces before an offset, but none before `start`.
-pub(crate) fn before_spaces(text: &[u8], start: usize, at: usize) -> usize {
+pub fn before_spaces(text: &[u8], start: usize, at: usize) -> usize {
     for i in (start..at.min(text.len())).rev() {
         if text[i] != b' ' && text[i] != b'\t' {
             return i.saturating_add(1);
@@ -108,7 +108,7 @@ pub(crate) fn before_spaces(text: &[u8], start: usize, at: usize) -> usize {
 }
 
 /// Returns the offset after the spaces that are at an offset.
-pub(crate) fn after_spaces(text: &[u8], at: usize) -> usize {
+pub fn after_spaces(text: &[u8], at: usize) -> usize {
     for i in at..text.len() {
         if text[i] != b' ' && text[i] != b'\t' {
             return i;

@@ -3,20 +3,15 @@ use Rattle.std.specs.Prelude.{◌≡◌, ◌⊎◌, ℕ, ◌+◌, ◌<◌, ◌�
 use Rattle.std.specs.List.{list_all}
 use Rattle.port_parts.specs.Places.{AreSpaces, IsWord}
 use Rattle.port_parts.specs.Words.{is_of_name, IsVariable}
-use Rattle.port_echo.specs.Echo.{IsEcho, IsMessage, Prints}
+use Rattle.port_echo.specs.Echo.{IsMessage, Prints}
 use Rattle.port_echo.specs.Commands.{IsCommandLine, IsBlankEcho, IsOneWord}
 use Rattle.lint_errors.specs.Errors.{IsAccepted}
-use Rattle.port_breaks.specs.Breaks.{IsBroken}
+use Rattle.port_breaks.specs.Breaks.{IsBroken, IsMade, is_status}
+use Rattle.port_edits.specs.Edits.{Change}
 use Rattle.port_put.specs.Calls.{IsPut, source_with}
 use Rattle.port_statements.specs.Statements.{MayBegin}
 
--- A comment, and below it a call, each after the indent. The comment says in what the call differs from `echo`.
-unfoldable pub noted : List ℕ → List ℕ → List ℕ
-noted indent call = (indent ++ codes "dnl acrun: in place of echo: -q drops the line") ++ 10 ∷ (indent ++ call)
-
--- A digit that isn't 0.
-abbrev pub is_status : ℕ → Bool
-is_status b = nat_lt 48 b && nat_lt b 58
+-- ---- a command that becomes a call
 
 -- From this offset on, the command is `exit` with a digit that isn't 0.
 pub record IsExit (command : List ℕ) (from : ℕ) (status : List ℕ) : Type 0 where
@@ -42,14 +37,18 @@ pub record Fails (command message status : List ℕ) : Type 0 where
   pub can_be_shown : IsMessage message
   pub exits : IsExit command from status
 
--- A call that takes the place of a command: the name of the macro, its arguments, and in what it differs. `echo` without words prints an
--- empty line, and `exit` with a digit that isn't 0 ends the run with that status. A message before `exit` is that of the error.
+-- A call that takes the place of a command: the name of the macro, its arguments, and in what it differs. `echo` prints what it is given, or
+-- without words an empty line, and `exit` with a digit that isn't 0 ends the run with that status. A message before `exit` is that of the error.
 pub data Speaks (command : List ℕ) : List ℕ → List (List ℕ) → List ℕ → Type 0 where
   blank : IsBlankEcho command → Speaks command (codes "AC_MSG_RESULT") ([] ∷ []) (codes "echo: -q drops the line")
+  prints : (given message : List ℕ) → command ≡ codes "echo " ++ given → Prints given message → IsMessage message
+      → Speaks command (codes "AC_MSG_RESULT") (message ∷ []) (codes "echo: -q drops the line")
   ends : (status : List ℕ) → command ≡ codes "exit " ++ status → length status ≡ 1 → list_all is_status status ≡ true
       → Speaks command (codes "AC_MSG_ERROR") (command ∷ status ∷ []) (codes "exit: an error is printed")
   fails : (message status : List ℕ) → Fails command message status
       → Speaks command (codes "AC_MSG_ERROR") (message ∷ status ∷ []) (codes "echo and exit: the message is an error")
+
+-- ---- a command that becomes an assignment or nothing
 
 -- The command unsets this variable alone.
 pub record Unsets (command name : List ℕ) : Type 0 where
@@ -85,40 +84,39 @@ pub record IsSet (text : List ℕ) : Type 0 where
   pub variable : IsVariable name
   pub one : IsOneWord word
 
--- A text that takes the place of a command, and in what it differs. `export` changes what programs see, and acrun gives none of them a
--- variable of the source. (POSIX shell, "export", "unset")
-pub data IsSilenced (command : List ℕ) : List ℕ → List ℕ → Type 0 where
-  exports : (names : List ℕ) → command ≡ codes "export " ++ names → AreNames names
-      → IsSilenced command (codes "export: no program that acrun starts sees the variable") (58 ∷ [])
-  exports_set : (set : List ℕ) → command ≡ codes "export " ++ set → IsSet set
-      → IsSilenced command (codes "export: no program that acrun starts sees the variable") set
+-- ---- the lines
+
+-- A text that takes the place of a command, and in what it differs: a call, an assignment, or a command that does nothing. `export` changes
+-- what programs see, and acrun gives none of them a variable of the source. (POSIX shell, "export", "unset")
+pub data Becomes (command : List ℕ) : List ℕ → List ℕ → Type 0 where
+  spoken : (name : List ℕ) (args : List (List ℕ)) (said call : List ℕ) → Speaks command name args said → IsPut name args call → Becomes command said call
+  cleared : (name : List ℕ) → Unsets command name → Becomes command (codes "unset: the variable is empty") (name ++ 61 ∷ [])
   unsets : (names : List ℕ) → command ≡ codes "unset " ++ names → AreNames names → IsAccepted (source_with (each_cleared names))
-      → IsSilenced command (codes "unset: the variables are empty") (each_cleared names)
+      → Becomes command (codes "unset: the variables are empty") (each_cleared names)
+  exports : (names : List ℕ) → command ≡ codes "export " ++ names → AreNames names
+      → Becomes command (codes "export: no program that acrun starts sees the variable") (58 ∷ [])
+  exports_set : (set : List ℕ) → command ≡ codes "export " ++ set → IsSet set
+      → Becomes command (codes "export: no program that acrun starts sees the variable") set
 
 -- A comment with these words, and below it a text, each after the indent.
-unfoldable pub noted_so : List ℕ → List ℕ → List ℕ → List ℕ
-noted_so indent said put = ((indent ++ codes "dnl acrun: in place of ") ++ said) ++ 10 ∷ (indent ++ put)
+unfoldable pub noted : List ℕ → List ℕ → List ℕ → List ℕ
+noted indent said put = ((indent ++ codes "dnl acrun: in place of ") ++ said) ++ 10 ∷ (indent ++ put)
 
--- So much of a text has been read, and this was written: everything is copied, but a line that prints a message by `echo` may become a
--- comment and the call of AC_MSG_RESULT with the message, after the line's indent. A line with another command may become a comment and the
--- call that takes its place; one that unsets a variable, a comment and an assignment of nothing; one that unsets several or exports some, a
--- comment and assignments or `:`. Each of these commands begins outside quotes, substitutions, comments and here-documents.
-pub data IsToldTo (text : List ℕ) : ℕ → List ℕ → Type 0 where
-  begun : IsToldTo text 0 []
-  copied : {at : ℕ} {out : List ℕ} (next : ℕ) → IsToldTo text at out → at ≤ next → next ≤ length text → IsToldTo text next (out ++ slice_range text at next)
-  told : {start : ℕ} {out : List ℕ} (at end : ℕ) (message call : List ℕ) → IsToldTo text start out → MayBegin text at → IsEcho text start at end message
-      → IsPut (codes "AC_MSG_RESULT") (message ∷ []) call → IsToldTo text end (out ++ noted (slice_range text start at) call)
-  spoken : {start : ℕ} {out : List ℕ} (at end : ℕ) (command name : List ℕ) (args : List (List ℕ)) (said call : List ℕ) → IsToldTo text start out → MayBegin text at
-      → IsCommandLine text start at end command → Speaks command name args said → IsPut name args call
-      → IsToldTo text end (out ++ noted_so (slice_range text start at) said call)
-  cleared : {start : ℕ} {out : List ℕ} (at end : ℕ) (command name : List ℕ) → IsToldTo text start out → MayBegin text at → IsCommandLine text start at end command → Unsets command name
-      → IsToldTo text end (out ++ noted_so (slice_range text start at) (codes "unset: the variable is empty") (name ++ 61 ∷ []))
-  silenced : {start : ℕ} {out : List ℕ} (at end : ℕ) (command said put : List ℕ) → IsToldTo text start out → MayBegin text at → IsCommandLine text start at end command
-      → IsSilenced command said put → IsToldTo text end (out ++ noted_so (slice_range text start at) said put)
+-- The change of a line: its command, which begins outside quotes, substitutions, comments and here-documents, becomes a comment and what
+-- takes the command's place.
+pub record IsNoted (text : List ℕ) (change : Change) : Type 0 where
+  pub at : ℕ
+  pub command : List ℕ
+  pub said : List ℕ
+  pub put : List ℕ
+  pub begins : MayBegin text at
+  pub line : IsCommandLine text change.start at change.end command
+  pub becomes : Becomes command said put
+  pub is : change.put ≡ noted (slice_range text change.start at) said put
 
--- The whole text becomes this one.
+-- The whole text becomes this one: it is the same but for changes of lines, which are apart and in order.
 abbrev pub IsTold : List ℕ → List ℕ → Type 0
-IsTold text out = IsToldTo text (length text) out
+IsTold text out = IsMade (IsNoted text) text out
 
 -- The text becomes this one: lines may be broken around a command of which it is known what takes its place, and each line is then read.
 pub record IsBrokenAndTold (text out : List ℕ) : Type 0 where

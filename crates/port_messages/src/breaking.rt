@@ -1,7 +1,6 @@
 //! Lines that are broken, so that a command has a line of its own, and what the text then becomes.
 
 ghost use Rattle.std.specs.Prelude.{IfOk};
-ghost use Rattle.port_breaks.specs.Breaks.{IsBroken};
 ghost use Rattle.port_messages.specs.Told as specs;
 
 use crate::passing::{is_rewritten, told_alone};
@@ -48,24 +47,15 @@ fn places_in(alloc: Global, text: &[u8]) -> Result<Vec<usize>, AllocError> {
     Ok(places)
 }
 
-/// Returns what a text becomes of which the lines were broken.
-#[tactic(auto, using(crate::proofs::Telling::broken_and_told))]
-fn told_of(alloc: Global, text: &[u8], mid: &[u8]) -> Result<Vec<u8>, AllocError>
-    requires { IsBroken text.now mid.now }
-    ensures { IfOk result (λ v. specs.IsBrokenAndTold text.now v.items) }
-{
-    let _ = text;
-    let out = told_alone(alloc, mid)?;
-    Ok(out)
-}
-
 /// Returns the text with what takes the place of the commands in it, after its lines are broken around
 /// those at these offsets.
+#[tactic(auto, using(crate::proofs::Telling::broken_and_told))]
 fn told_broken(alloc: Global, text: &[u8], places: &[usize]) -> Result<Vec<u8>, AllocError>
     ensures { IfOk result (λ v. specs.IsBrokenAndTold text.now v.items) }
 {
     let mid = broken(alloc, text, places)?;
-    told_of(alloc, text, mid.as_slice())
+    let out = told_alone(alloc, mid.as_slice())?;
+    Ok(out)
 }
 
 /// Returns the text with each `echo` as a message, below a comment, if what it prints is known. Other

@@ -12,17 +12,14 @@
 //! unset a               // becomes a= below a comment
 //! ```
 //!
-//! Read `specs/Told`, which says what a line becomes, and the definitions of `port_breaks`, and then
-//! `breaking` (which lines are broken), `passing` (one pass over a text), `echoes` (what is printed),
-//! `commands` (which other command it is), `speaking` (those that become calls) and `setting` (those
-//! that become assignments). Every function fails only if memory runs out. "own" marks a rule that no
-//! manual gives.
+//! Read `specs/Told`, which says what a line becomes, and the definitions of `port_breaks` and
+//! `port_edits`, and then `breaking` (which lines are broken), `passing` (the changes of a text),
+//! `speaking` (commands that become calls) and `setting` (those that become assignments). Every
+//! function fails only if memory runs out. "own" marks a rule that no manual gives.
 #![tactic(auto)]
 
 mod breaking;
-mod commands;
-mod echoes;
-mod noting;
+mod lines;
 mod passing;
 mod setting;
 mod speaking;

@@ -2,16 +2,12 @@
 
 ghost use Rattle.std.specs.Prelude.{◌≡◌, ◌<◌, ◌∷◌, ◌++◌, [], true, length, slice_range, codes, IfOk, IfSome, OnOk, IsTrue};
 ghost use Rattle.std.specs.List.{list_all};
-ghost use Rattle.lint_errors.specs.Errors.{IsAccepted};
-ghost use Rattle.port_echo.specs.Commands.{IsCommandLine};
 ghost use Rattle.port_parts.specs.Words.{is_of_name};
-ghost use Rattle.port_put.specs.Calls.{source_with};
-ghost use Rattle.port_statements.specs.Statements.{MayBegin};
 ghost use Rattle.port_messages.specs.Told as specs;
 
-use crate::noting::{noted_so, rest_after};
+use crate::lines::Line;
+use port_breaks::rest_after;
 use port_echo::is_one_word;
-use port_edits::{Pass, write_change};
 use port_parts::{is_variable, name_length};
 use port_put::is_accepted;
 use std::alloc::{AllocError, Global};
@@ -39,7 +35,7 @@ fn checked_name<'a>(command: &[u8], name: &'a [u8]) -> Option<&'a [u8]>
 }
 
 /// Returns the name of the variable that a command unsets, if it is one.
-pub(crate) fn name_of(command: &[u8]) -> Option<&[u8]>
+fn name_of(command: &[u8]) -> Option<&[u8]>
     ensures { IfSome result (λ n. specs.Unsets command.now n.now) }
 {
     match rest_after(command, b"unset ") {
@@ -57,51 +53,7 @@ fn cleared(alloc: Global, name: &[u8]) -> Result<Vec<u8>, AllocError>
     Ok(out)
 }
 
-/// Returns the comment and the assignment in place of a line that unsets a variable.
-fn cleared_below(alloc: Global, indent: &[u8], name: &[u8]) -> Result<Vec<u8>, AllocError>
-    ensures { IfOk result (λ v.
-        v.items
-        ≡ specs.noted_so indent.now (codes "unset: the variable is empty") (name.now ++ 61 ∷ [])) }
-{
-    let put = cleared(alloc, name)?;
-    noted_so(
-        alloc,
-        indent,
-        b"unset: the variable is empty",
-        put.as_slice(),
-    )
-}
-
-/// Writes an assignment in place of a line that unsets a variable, unless the line was in what was
-/// rewritten.
-pub(crate) fn pass_unset(
-    alloc: Global,
-    text: &[u8],
-    start: usize,
-    at: usize,
-    end: usize,
-    command: &[u8],
-    name: &[u8],
-    pass: &mut Pass,
-) -> Result<(), AllocError>
-    requires begins { MayBegin text.now at }
-    requires line { IsCommandLine text.now start at end command.now }
-    requires unsets { specs.Unsets command.now name.now }
-    requires begun { specs.IsToldTo text.now pass.old.at pass.old.out.items }
-    ensures { OnOk result (specs.IsToldTo text.now pass.new.at pass.new.out.items) }
-{
-    let _ = command;
-    if start < pass.at || at < start || text.len() < at {
-        return Ok(());
-    }
-    let put = cleared_below(alloc, &text[start..at], name)?;
-    write_change(text, start, end, put.as_slice(), pass)
-}
-
-// ---- an `export`, and an `unset` of several names
-
-/// What `export` has no part in.
-const EXPORTED: &[u8] = b"export: no program that acrun starts sees the variable";
+// ---- several names
 
 fn is_of_names(byte: u8) -> bool
     ensures { result ≡ specs.is_of_names byte }
@@ -147,123 +99,7 @@ fn each_cleared(alloc: Global, names: &[u8]) -> Result<Vec<u8>, AllocError>
     Ok(out)
 }
 
-/// Writes a comment and what takes the place of a command, unless the line was in what was
-/// rewritten.
-fn put_silenced(
-    alloc: Global,
-    text: &[u8],
-    start: usize,
-    at: usize,
-    end: usize,
-    command: &[u8],
-    said: &[u8],
-    put: &[u8],
-    pass: &mut Pass,
-) -> Result<(), AllocError>
-    requires begins { MayBegin text.now at }
-    requires line { IsCommandLine text.now start at end command.now }
-    requires silenced { specs.IsSilenced command.now said.now put.now }
-    requires begun { specs.IsToldTo text.now pass.old.at pass.old.out.items }
-    ensures { OnOk result (specs.IsToldTo text.now pass.new.at pass.new.out.items) }
-{
-    let _ = command;
-    if start < pass.at || at < start || text.len() < at {
-        return Ok(());
-    }
-    let line = noted_so(alloc, &text[start..at], said, put)?;
-    write_change(text, start, end, line.as_slice(), pass)
-}
-
-/// Writes an assignment of nothing to each of some names in place of their `unset`.
-fn put_cleared(
-    alloc: Global,
-    text: &[u8],
-    start: usize,
-    at: usize,
-    end: usize,
-    command: &[u8],
-    names: &[u8],
-    pass: &mut Pass,
-) -> Result<(), AllocError>
-    requires begins { MayBegin text.now at }
-    requires line { IsCommandLine text.now start at end command.now }
-    requires is { command.now ≡ codes "unset " ++ names.now }
-    requires names { specs.AreNames names.now }
-    requires accepted { IsAccepted (source_with (specs.each_cleared names.now)) }
-    requires begun { specs.IsToldTo text.now pass.old.at pass.old.out.items }
-    ensures { OnOk result (specs.IsToldTo text.now pass.new.at pass.new.out.items) }
-{
-    let put = each_cleared(alloc, names)?;
-    let said = b"unset: the variables are empty";
-    put_silenced(
-        alloc,
-        text,
-        start,
-        at,
-        end,
-        command,
-        said,
-        put.as_slice(),
-        pass,
-    )
-}
-
-/// Returns whether acrun accepts an assignment of nothing to each of some names.
-fn is_cleared_accepted(alloc: Global, names: &[u8]) -> Result<bool, AllocError>
-    ensures { IfOk result (λ b.
-        IsTrue b → IsAccepted (source_with (specs.each_cleared names.now))) }
-{
-    let cleared = each_cleared(alloc, names)?;
-    is_accepted(alloc, cleared.as_slice())
-}
-
-/// Writes an assignment of nothing to each of some names in place of their `unset`, unless acrun
-/// doesn't accept it.
-fn pass_cleared(
-    alloc: Global,
-    text: &[u8],
-    start: usize,
-    at: usize,
-    end: usize,
-    command: &[u8],
-    names: &[u8],
-    pass: &mut Pass,
-) -> Result<(), AllocError>
-    requires begins { MayBegin text.now at }
-    requires line { IsCommandLine text.now start at end command.now }
-    requires is { command.now ≡ codes "unset " ++ names.now }
-    requires names { specs.AreNames names.now }
-    requires begun { specs.IsToldTo text.now pass.old.at pass.old.out.items }
-    ensures { OnOk result (specs.IsToldTo text.now pass.new.at pass.new.out.items) }
-{
-    if !is_cleared_accepted(alloc, names)? {
-        return Ok(());
-    }
-    put_cleared(alloc, text, start, at, end, command, names, pass)
-}
-
-/// Writes what takes the place of an `unset` of this, if it is names.
-pub(crate) fn pass_unset_each(
-    alloc: Global,
-    text: &[u8],
-    start: usize,
-    at: usize,
-    end: usize,
-    command: &[u8],
-    rest: &[u8],
-    pass: &mut Pass,
-) -> Result<(), AllocError>
-    requires begins { MayBegin text.now at }
-    requires line { IsCommandLine text.now start at end command.now }
-    requires is { command.now ≡ codes "unset " ++ rest.now }
-    requires begun { specs.IsToldTo text.now pass.old.at pass.old.out.items }
-    ensures { OnOk result (specs.IsToldTo text.now pass.new.at pass.new.out.items) }
-{
-    if !are_names(rest) {
-        return Ok(());
-    }
-    pass_cleared(alloc, text, start, at, end, command, rest, pass)
-}
+// ---- an assignment
 
 /// Returns whether a text assigns a word to the variable of a name.
 fn is_set_to(text: &[u8], name: &[u8], word: &[u8]) -> bool
@@ -334,28 +170,73 @@ fn is_set(text: &[u8]) -> bool
     }
 }
 
-/// Writes what takes the place of an `export` of this, if it is names or an assignment.
-pub(crate) fn pass_export(
-    alloc: Global,
-    text: &[u8],
-    start: usize,
-    at: usize,
-    end: usize,
-    command: &[u8],
-    rest: &[u8],
-    pass: &mut Pass,
-) -> Result<(), AllocError>
-    requires begins { MayBegin text.now at }
-    requires line { IsCommandLine text.now start at end command.now }
-    requires is { command.now ≡ codes "export " ++ rest.now }
-    requires begun { specs.IsToldTo text.now pass.old.at pass.old.out.items }
-    ensures { OnOk result (specs.IsToldTo text.now pass.new.at pass.new.out.items) }
+// ---- the whole
+
+/// Returns the assignment of nothing in the place of an `unset` of one variable.
+fn unset_one(alloc: Global, command: &[u8]) -> Result<Option<Line>, AllocError>
+    ensures { IfOk result (λ o.
+        IfSome o (λ l. specs.Becomes command.now l.said.now l.put.items)) }
 {
-    if are_names(rest) {
-        return put_silenced(alloc, text, start, at, end, command, EXPORTED, b":", pass);
+    let Some(name) = name_of(command) else {
+        return Ok(None);
+    };
+    let put = cleared(alloc, name)?;
+    let said = b"unset: the variable is empty";
+    Ok(Some(Line { said, put }))
+}
+
+/// Returns assignments of nothing in the place of an `unset` of several variables, unless acrun
+/// doesn't accept them.
+fn unset_each(alloc: Global, command: &[u8]) -> Result<Option<Line>, AllocError>
+    ensures { IfOk result (λ o.
+        IfSome o (λ l. specs.Becomes command.now l.said.now l.put.items)) }
+{
+    let Some(names) = rest_after(command, b"unset ") else {
+        return Ok(None);
+    };
+    if !are_names(names) {
+        return Ok(None);
     }
-    if is_set(rest) {
-        return put_silenced(alloc, text, start, at, end, command, EXPORTED, rest, pass);
+    let put = each_cleared(alloc, names)?;
+    let said = b"unset: the variables are empty";
+    if is_accepted(alloc, put.as_slice())? {
+        Ok(Some(Line { said, put }))
+    } else {
+        Ok(None)
     }
-    Ok(())
+}
+
+/// Returns what takes the place of an `export`: nothing for names, and an assignment for that.
+fn exported(alloc: Global, command: &[u8]) -> Result<Option<Line>, AllocError>
+    ensures { IfOk result (λ o.
+        IfSome o (λ l. specs.Becomes command.now l.said.now l.put.items)) }
+{
+    let Some(given) = rest_after(command, b"export ") else {
+        return Ok(None);
+    };
+    let said = b"export: no program that acrun starts sees the variable";
+    if are_names(given) {
+        let put = Vec::from_slice(alloc, b":")?;
+        return Ok(Some(Line { said, put }));
+    }
+    if is_set(given) {
+        let put = Vec::from_slice(alloc, given)?;
+        return Ok(Some(Line { said, put }));
+    }
+    Ok(None)
+}
+
+/// Returns the assignment that takes the place of a command, or the command that does nothing, if
+/// there is one.
+pub(crate) fn silenced(alloc: Global, command: &[u8]) -> Result<Option<Line>, AllocError>
+    ensures { IfOk result (λ o.
+        IfSome o (λ l. specs.Becomes command.now l.said.now l.put.items)) }
+{
+    if let Some(line) = unset_one(alloc, command)? {
+        return Ok(Some(line));
+    }
+    match unset_each(alloc, command)? {
+        Some(line) => Ok(Some(line)),
+        None => exported(alloc, command),
+    }
 }

@@ -1,6 +1,6 @@
-use Rattle.std.proofs.Common.{subst, sym}
-use Rattle.port_breaks.specs.Breaks as specs
+use Rattle.port_breaks.specs.Breaks.{IsBreak}
+use Rattle.port_breaks.proofs.Breaking.{made_from}
 use Rattle.port_breaks.proofs.breaks.broken.Goals as goal
 
-pub break_each-requires : goal.break_each-requires
-break_each-requires c = record { begun = subst (specs.IsBrokenTo c.args.text.now 0) (sym c.new.ensures.items) specs.IsBrokenTo.begun }
+pub returns : goal.returns
+returns c = record { broken = made_from (IsBreak c.args.text.now) c.args.text.now c.as_slice.result.now c.in_ok-edits.edits.items _ c.as_slice.ensures.value c.in_ok-edits.ensures c.in_ok-out.ensures }

@@ -1,7 +1,0 @@
-use Rattle.std.proofs.lemmas.Slice.Eq.{strip_prefix_is}
-use Rattle.std.proofs.lemmas.Bool.Decides.{Decides-eqb}
-use Rattle.port_messages.proofs.Telling.{stripped}
-use Rattle.port_messages.proofs.noting.rest_after.Goals as goal
-
-pub returns : goal.returns
-returns c = stripped c.args.text.now c.args.front.now c.strip_prefix.result (strip_prefix_is Decides-eqb c.args.text.now c.args.front.now c.strip_prefix.result c.strip_prefix.ensures.cases)
