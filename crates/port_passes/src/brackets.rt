@@ -8,9 +8,9 @@ ghost use Rattle.port_spots.specs.Put as put;
 ghost use Rattle.port_passes.specs.Rewritten as specs;
 
 use crate::names::{is_before_value, names_variable};
-use crate::writing::{Pass, write_change};
 use ac_calls::{CallAt, Extent, calls_of};
 use lint_text::{is_word_byte, part};
+use port_edits::{Pass, write_change};
 use port_idioms::Idioms;
 use port_spots::{are_blank, has_compound, without_end_blanks};
 use std::alloc::{AllocError, Global};

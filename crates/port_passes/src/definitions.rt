@@ -6,11 +6,11 @@ ghost use Rattle.port_definitions.specs.Defined as specs;
 ghost use Rattle.port_definitions.specs.Unused.{DefinesUnused};
 ghost use Rattle.port_passes.specs.Rewritten as rewritten;
 
-use crate::writing::{Pass, write_change};
 use ac_calls::CallAt;
 use port_definitions::{
     UseSpot, argument, body_of, inner, is_name_at, is_unused_definition, is_used,
 };
+use port_edits::{Pass, write_change};
 use port_idioms::Idioms;
 use port_spots::Known;
 use std::alloc::AllocError;

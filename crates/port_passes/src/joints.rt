@@ -4,8 +4,8 @@ ghost use Rattle.std.specs.Prelude.{◌≡◌, ◌≤◌, ◌<◌, ◌+◌, true
 ghost use Rattle.ac_calls.specs.Calls.{calls_in, macro_call_of};
 ghost use Rattle.port_passes.specs.Rewritten as specs;
 
-use crate::writing::{Pass, write_change};
 use ac_calls::{CallAt, Extent};
+use port_edits::{Pass, write_change};
 use port_idioms::Idioms;
 use std::alloc::AllocError;
 

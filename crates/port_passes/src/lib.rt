@@ -14,7 +14,7 @@
 //!
 //! Read `specs/Rewritten` (what is copied, and what takes the place of the rest) with `specs/Making`,
 //! `specs/Compiler`, `specs/Exchanged`, `specs/Chains` and `specs/Pathed` (what crates above put). In
-//! `src`, read `writing` (a [`Pass`]), `making` (where a text below a comment may be put), and then
+//! `src`, read `making` (where a text below a comment may be put), and then
 //! `joints`, `definitions`, `plain`, `lines`, `brackets`, `names` and `output`. The time is in
 //! proportion to the length of the text. A call fails only if memory runs out. "own" marks a rule that no
 //! manual gives.
@@ -28,7 +28,6 @@ mod making;
 mod names;
 mod output;
 mod plain;
-mod writing;
 
 pub use brackets::pass_arguments;
 pub use definitions::{pass_defined, pass_spots};
@@ -38,4 +37,4 @@ pub use making::{can_be_made, is_init, lacks_version, put_made};
 pub use names::{defined_in, names_variable, pass_name};
 pub use output::{is_around, pass_output};
 pub use plain::pass_plain;
-pub use writing::{Pass, write_change};
+pub use port_edits::{Pass, write_change};

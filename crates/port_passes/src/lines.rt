@@ -6,10 +6,10 @@ ghost use Rattle.ac_calls.specs.Calls.{calls_in, macro_call_of};
 ghost use Rattle.port_spots.specs.Put.{is_space_or_return};
 ghost use Rattle.port_passes.specs.Rewritten as specs;
 
-use crate::writing::{Pass, write_change};
 use ac_calls::CallAt;
 use lint_text::from;
 use port_definitions::space_len;
+use port_edits::{Pass, write_change};
 use port_idioms::Idioms;
 use port_spots::{
     Spot, are_spaces, begins_statement, ends_statement, goes_on, is_after_separator, line_indent,

@@ -7,9 +7,9 @@ ghost use Rattle.port_idioms.specs.declared.idioms.Idioms.TheVariants.{All};
 ghost use Rattle.port_passes.specs.Making as specs;
 ghost use Rattle.port_passes.specs.Rewritten as rewritten;
 
-use crate::writing::{Pass, write_change};
 use ac_calls::CallAt;
 use lint_text::from;
+use port_edits::{Pass, write_change};
 use port_idioms::{Idioms, is_call_of};
 use port_spots::{Known, Spot, begins_statement, can_be_noted, ends_statement};
 use std::alloc::AllocError;

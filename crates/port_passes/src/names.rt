@@ -5,9 +5,9 @@ ghost use Rattle.ac_calls.specs.Calls.{calls_in, macro_call_of};
 ghost use Rattle.port_passes.specs.Rewritten as specs;
 
 use crate::brackets::in_brackets;
-use crate::writing::{Pass, write_change};
 use ac_calls::CallAt;
 use lint_text::{before, first_name, from, is_word_byte, part};
+use port_edits::{Pass, write_change};
 use port_idioms::Idioms;
 use port_spots::Known;
 use std::alloc::{AllocError, Global};

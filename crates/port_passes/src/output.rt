@@ -6,9 +6,9 @@ ghost use Rattle.ac_calls.specs.Calls.{calls_in, macro_call_of};
 ghost use Rattle.port_idioms.specs.declared.idioms.Idioms.TheVariants.{All};
 ghost use Rattle.port_passes.specs.Rewritten as specs;
 
-use crate::writing::{Pass, write_change};
 use ac_calls::CallAt;
 use lint_text::{before, from};
+use port_edits::{Pass, write_change};
 use port_idioms::{Idioms, is_call_of};
 use port_spots::{Spot, are_blank, blank_len, without_end_blanks};
 use std::alloc::{AllocError, Global};

@@ -4,9 +4,9 @@ ghost use Rattle.std.specs.Prelude.{OnOk};
 ghost use Rattle.port_definitions.specs.Defined as specs;
 ghost use Rattle.port_passes.specs.Rewritten as rewritten;
 
-use crate::writing::{Pass, write_change};
 use lint_text::part;
 use port_definitions::{PlainWord, WordSpot, is_plain_use, is_used, is_word_definition};
+use port_edits::{Pass, write_change};
 use port_idioms::Idioms;
 use std::alloc::{AllocError, Global};
 
