@@ -87,8 +87,8 @@ def examples():
         yield tried(sys.executable, f"tools/try_{name}.py", PROGRAMS / "acrun")
     for name in ("standin", "answers", "help", "errors", "lint", "port", "tools"):
         yield tried("sh", f"examples/{name}/run.sh", PROGRAMS / "acrun")
-    for name in ("wrapper", "compare"):
-        yield tried("sh", f"examples/{name}/run.sh")
+    yield tried("sh", "examples/wrapper/run.sh")
+    yield tried("sh", "examples/compare/run.sh", "--first")
 
 
 def main():
