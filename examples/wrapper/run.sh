@@ -115,6 +115,7 @@ rows_of_one_shell() {
     row '[-j1][configure][--help]' --help=short
     row '[-j1][configure][--libdir=/y][--lib=/y]' --libd=/y --lib=/y
     row '[-j1][configure][--with-x][--enable-a=b][-q][-C]' -with-x -enable-a=b -q -C
+    row '[-j1][configure][--without-x][--disable-a][--with-build=b][-V][-n]' -without-x -disable-a --with-build=b -V -n
     row '[-j1][configure][CC=gcc -DX="a b"][CFLAGS=]' 'CC=gcc -DX="a b"' CFLAGS=
     row '[-j1][configure][--no-such=1][cc]' --no-such=1 cc
     # What has no meaning here
@@ -124,6 +125,9 @@ rows_of_one_shell() {
     row 'configure: error: cross compiling is not supported: --host=arm, and --build is not given' --host arm
     row 'configure: error: cross compiling is not supported: --target=b, and --build=a' --target=b --build=a
     row 'configure: error: acrun does not rename programs: --program-prefix=g' --program-prefix=g
+    row 'configure: error: acrun does not rename programs: --program-suffix=-1' --program-suffix=-1
+    row 'configure: error: acrun does not rename programs: --program-suffix=-1' --program-suffix -1
+    row 'configure: error: acrun does not rename programs: --program-transform-name=s,a,b,' --program-transform-name=s,a,b, -q
     # Variables that the source declares
     printf 'usage: acrun configure\n  --host=x  a\n  build                 the system\n  host\n  targets  b\n' > ../help
     echo 0 > ../status
@@ -161,6 +165,7 @@ x86_64-alpine-linux-musl x86_64-alpine-linux-musl
 i386-linux-gnu i386-pc-linux-gnu
 i686-linux-gnu i686-pc-linux-gnu
 i586-suse-linux i586-suse-linux-gnu
+i686-linux i686-pc-linux-gnu
 END
     # Names without parts
     row '[-j1][configure][host=a]' --build=a
@@ -173,11 +178,17 @@ END
     rm ../help ../status ../asked
     # The environment stays
     build=1 srcdir=2 name=3 row '[-j1][configure] build=1 srcdir=2 name=3' --build=a --host=a
+    acrun_build=a acrun_host=b acrun_target=c acrun_awaits=build acrun_signal=TERM row '[-j1][configure][-q]' -q
     # The number of children at once
     ACRUN_JOBS=4 row '[-j4][configure]'
+    ACRUN_JOBS=12 row '[-j12][configure]'
+    ACRUN_JOBS=17 row '[-j16][configure]'
+    ACRUN_JOBS=0 row '[-j1][configure]'
+    ACRUN_JOBS=09 row '[-j1][configure]'
     ACRUN_JOBS=400 row '[-j16][configure]'
     ACRUN_JOBS=x row '[-j1][configure]'
     MAKEFLAGS=' -j8 --jobserver-auth=3,4' row '[-j8][configure]'
+    MAKEFLAGS='-j 8' row '[-j8][configure]'
     MAKEFLAGS='w' row '[-j1][configure]'
     DEB_BUILD_OPTIONS='nocheck parallel=32' row '[-j16][configure]'
     DEB_BUILD_OPTIONS='parallel=7,nocheck' MAKEFLAGS=k row '[-j7][configure]'
@@ -213,9 +224,11 @@ END
     touch conftest1.c conftest
     ACRUN_KEEP=1 row '[-j1][configure] then conftest conftest1.c '
     left 'conftest conftest1.c conftest2 conftest2.c '
-    touch conftest1.c conftest
-    row '[-j1][configure][--help] then conftest conftest1.c ' --help
-    left 'conftest conftest1.c conftest2 conftest2.c '
+    for word in -h --help -V --version; do
+        touch conftest1.c conftest
+        row "[-j1][configure][-q][$word] then conftest conftest1.c " -q "$word"
+        left 'conftest conftest1.c conftest2 conftest2.c '
+    done
     # A start that is refused removes nothing.
     touch conftest1.c
     row 'configure: error: acrun does not rename programs: --program-prefix=g' --program-prefix=g
@@ -236,7 +249,9 @@ END
     status 137 "$shell" ./configure
     left ''
     rm makes ends
-    # In another directory
+    # By its name alone, and from another directory
+    said=$($shell configure -q)
+    [ "$said" = '[-j1][configure][-q]' ] || { wrong=1; echo "$shell: by its name: $said"; }
     cd build || exit 2
     said=$($shell ../configure -q)
     [ "$said" = '[-j1][configure][--srcdir=..][-q]' ] || { wrong=1; echo "$shell: in build: $said"; }

@@ -1,5 +1,6 @@
 #!/usr/bin/env python3
-"""Sends signals to share/configure while a compiler runs, and looks at what ends, how, and what is left.
+"""Sends signals to share/configure while a compiler runs, and looks at what ends, how, and what is left. It also runs the script on a pseudo
+terminal.
 
     signals.py SHELL SCRIPT
 
@@ -17,8 +18,11 @@ import tempfile
 import time
 
 ACRUN = """#!/bin/sh
-# With `read`, it prints what it reads. Otherwise it runs a compiler, whose time is a file.
+# With `read`, it prints what it reads, and with `shows` it writes what it is asked to show. Otherwise it runs a compiler, whose time is a file.
+# With `slow`, it has something to do before TERM ends it.
 if [ -f read ]; then cat; exit 7; fi
+if [ -f slow ]; then trap 'sleep 1; : > conftest2.c; exit 3' TERM; fi
+if [ -f shows ]; then printf '%s' "${ACRUN_PROGRESS-unset}" > shows; exit 0; fi
 echo $$ > acrun.pid
 : > conftest1.o
 sh -c 'echo $$ > compiler.new; mv compiler.new compiler.pid; exec sleep "$(cat seconds)"' < /dev/null
@@ -105,6 +109,19 @@ class Trial:
         self.look(f"{name} to the script alone: its status, whether soon, what is left", (-getattr(signal, name), True, []), found)
         self.look(f"{name} to the script alone: what was printed", b"", run.communicate()[0])
 
+    def slow(self):
+        """The script ends when acrun has ended, also if that takes a while after a signal."""
+        (self.room / "slow").touch()
+        run = self.begin(LONG)
+        os.kill(run.pid, signal.SIGTERM)
+        until(lambda: run.poll() is not None)
+        running = is_there((self.room / "acrun.pid").read_text().strip())
+        left = self.left()
+        run.kill()
+        self.look("TERM to the script, and acrun ends later: its status, whether acrun runs, what is left", (-signal.SIGTERM, False, []), (run.wait(), running, left))
+        run.communicate()
+        (self.room / "slow").unlink()
+
     def terminal(self, key, name):
         """A key at the terminal, which sends a signal to all of its foreground group."""
         for file in ("acrun.pid", "compiler.pid"):
@@ -147,6 +164,27 @@ class Trial:
         self.look("standard input may be closed", (b"", 7), (run.stdout, run.returncode))
         (self.room / "read").unlink()
 
+    def progress(self):
+        """A line for each child is asked for, unless standard error is a terminal or the environment has ACRUN_PROGRESS."""
+        for terminals, given, expected in (
+            ([], {}, "lines"),
+            (["stdin"], {}, "lines"),
+            (["stdout"], {}, "lines"),
+            (["stdin", "stdout"], {}, "lines"),
+            (["stderr"], {}, "unset"),
+            (["stdin", "stdout", "stderr"], {}, "unset"),
+            (["stderr"], {"ACRUN_PROGRESS": "lines"}, "lines"),
+            (["stderr"], {"ACRUN_PROGRESS": ""}, ""),
+        ):
+            (self.room / "shows").write_text("not started")
+            ours, terminal = pty.openpty()
+            streams = dict.fromkeys(("stdin", "stdout", "stderr"), subprocess.DEVNULL) | dict.fromkeys(terminals, terminal)
+            subprocess.run([self.shell, "./configure"], cwd=self.room, env=self.environment() | given, **streams)
+            os.close(terminal)
+            os.close(ours)
+            self.look(f"ACRUN_PROGRESS with {', '.join(terminals) or 'nothing'} on a terminal, given {given}", expected, (self.room / "shows").read_text())
+        (self.room / "shows").unlink()
+
     def without_env(self):
         """An env that can't give signals back: the run is in the foreground."""
         self.write(self.room / "bin=1" / "env", NO_ENV)
@@ -156,6 +194,10 @@ class Trial:
         os.kill(run.pid, signal.SIGTERM)
         self.look("TERM, if env can't give signals back", (b"ended\n", -signal.SIGTERM), (run.communicate()[0], run.returncode))
         self.terminal(b"\x03", "SIGINT")
+        (self.room / "read").touch()
+        run = subprocess.run([self.shell, "./configure"], cwd=self.room, input=b"a", capture_output=True, env=self.environment())
+        self.look("standard input and the status, if env can't give signals back", (b"a", 7), (run.stdout, run.returncode))
+        (self.room / "read").unlink()
         os.environ["PATH"] = path
 
 
@@ -165,12 +207,14 @@ def main():
         trial = Trial(shell, script, pathlib.Path(name))
         for signal_name in ("SIGTERM", "SIGHUP", "SIGINT"):
             trial.alone(signal_name)
+        trial.slow()
         trial.terminal(b"\x03", "SIGINT")
         trial.terminal(b"\x1c", "SIGQUIT")
         trial.ignored()
         trial.stdin()
+        trial.progress()
         trial.without_env()
-    print(f"wrapper: {trial.rows} rows of signals, by {shell}{'' if trial.is_right else ': not as they should be'}")
+    print(f"wrapper: {trial.rows} rows of signals and terminals, by {shell}{'' if trial.is_right else ': not as they should be'}")
     return 0 if trial.is_right else 1
 
 
