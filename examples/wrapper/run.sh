@@ -1,6 +1,6 @@
 #!/bin/sh
 # Gives words to share/configure, and looks at the words with which it starts acrun. signals.py then sends it signals.
-#   run.sh [SHELL]     the shell that runs it; by default each of sh, dash and bash that is there
+#   run.sh [SHELL]     the shell that runs it; by default dash, bash, and sh if that is none of them
 set -u
 here=$(realpath "$(dirname "$0")") || exit 2
 # A shell can't take back that a signal is ignored, as it is below nohup and in a job in the background.
@@ -41,6 +41,14 @@ cd "$folder/source" || exit 2
 PATH=$folder:$PATH
 unset ACRUN ACRUN_JOBS ACRUN_PROGRESS ACRUN_WHY MAKEFLAGS DEB_BUILD_OPTIONS
 wrong=0 rows=0
+
+# Whether sh is dash or bash.
+is_one_of_these() {
+    for each in dash bash; do
+        [ "$(realpath "$(command -v sh)")" != "$(realpath "$(command -v "$each" || echo .)")" ] || return 0
+    done
+    return 1
+}
 
 # row EXPECTED WORD..: the words with which acrun is started, each in brackets, or else the message.
 row() {
@@ -262,8 +270,10 @@ END
     cd ..
 }
 
-for shell in ${1-sh dash bash}; do
-    command -v "$shell" > /dev/null && rows_of_one_shell
+for shell in ${1-dash bash sh}; do
+    command -v "$shell" > /dev/null || continue
+    [ $# = 0 ] && [ "$shell" = sh ] && is_one_of_these && continue
+    rows_of_one_shell
 done
 if command -v shellcheck > /dev/null; then shellcheck ./configure || wrong=1; fi
 [ "$wrong" = 0 ] && echo "wrapper: $rows rows as they should be"

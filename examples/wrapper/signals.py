@@ -28,6 +28,10 @@ echo $$ > acrun.pid
 sh -c 'echo $$ > compiler.new; mv compiler.new compiler.pid; exec sleep "$(cat seconds)"' < /dev/null
 echo ended
 """
+# Sends TERM to bash before it keeps the number of acrun's process.
+EARLY = """trap 'case $BASH_COMMAND in acrun_job=?!) kill -s TERM "$$" ;; esac' DEBUG
+set -o functrace
+"""
 NO_ENV = "#!/bin/sh\nexit 125\n"
 # What is ended takes less than this, in seconds, and the compiler takes more.
 SOON, LONG = 10, 30
@@ -122,6 +126,23 @@ class Trial:
         run.communicate()
         (self.room / "slow").unlink()
 
+    def early(self):
+        """A signal that comes before the script knows the number of acrun's process is sent to acrun then. Only bash can be stopped there."""
+        if not pathlib.Path(self.shell).name.startswith("bash"):
+            return
+        (self.room / "acrun.pid").unlink(missing_ok=True)
+        (self.room / "seconds").write_text(str(LONG))
+        self.write(self.room / "early", EARLY)
+        streams = dict.fromkeys(("stdin", "stdout", "stderr"), subprocess.DEVNULL)
+        run = subprocess.Popen([self.shell, "./configure"], cwd=self.room, env=self.environment() | {"BASH_ENV": "./early"}, start_new_session=True, **streams)
+        until(lambda: run.poll() is not None)
+        status = run.poll()
+        with contextlib.suppress(OSError):
+            os.killpg(run.pid, signal.SIGKILL)
+        run.wait()
+        left = [file.name for file in self.room.glob("conftest*")]
+        self.look("TERM before the number of acrun is known: its status, what is left", (-signal.SIGTERM, []), (status, left))
+
     def terminal(self, key, name):
         """A key at the terminal, which sends a signal to all of its foreground group."""
         for file in ("acrun.pid", "compiler.pid"):
@@ -208,6 +229,7 @@ def main():
         for signal_name in ("SIGTERM", "SIGHUP", "SIGINT"):
             trial.alone(signal_name)
         trial.slow()
+        trial.early()
         trial.terminal(b"\x03", "SIGINT")
         trial.terminal(b"\x1c", "SIGQUIT")
         trial.ignored()
