@@ -7,6 +7,14 @@
 #   run.sh --rows FOLDER [SHELL]  prints the rows, by a shell, of the directories in FOLDER/trees, which it makes unless they are there
 set -u
 here=$(realpath "$(dirname "$0")") || exit 2
+# A shell can't take back that a signal is ignored, as it is below nohup and in a job in the background.
+if [ -z "${signals_are_usual-}" ]; then
+    exec env signals_are_usual=1 python3 -c 'import os, signal, sys
+for name in ("SIGHUP", "SIGINT", "SIGTERM"):
+    signal.signal(getattr(signal, name), signal.SIG_DFL)
+os.execvp(sys.argv[1], sys.argv[1:])' sh "$0" "$@"
+fi
+unset signals_are_usual
 script=$(realpath "$here/../../share/acrun-compare") || exit 2
 expected=$here/expected.txt
 if [ "${1-}" = --rows ]; then
