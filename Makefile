@@ -9,6 +9,8 @@
 # make edits    tries the wrong bodies of every crate, or of those that NAMES names: make edits NAMES="crew plan"
 # make edits-test  tries the script that does it
 # make plants   tries the wrong bodies that tests alone refuse, of every crate, or of those that NAMES names
+# make turned   changes one thing at a time in functions of acrun-tools, or in those whose paths begin as FRONTS says, and lists what no example notices
+# make turned-scripts  does that in share/configure and share/acrun-compare: both end with an error if there is more than is explained
 # make install  puts the programs, acrun-compare, the manual pages, completions, share/configure, share/port and macros of rpm below $(DESTDIR)$(prefix)
 # make uninstall  removes them
 # make dist     makes an archive of the programs for machines without the toolchain, out/acrun-VERSION-x86_64-linux.tar.gz
@@ -27,7 +29,7 @@ rpmmacrodir = $(prefix)/lib/rpm/macros.d
 program = out/acrun
 tools = $$(dirname "$(program)")/acrun-tools
 
-.PHONY: all core try demo ports compile check proofs edits edits-test plants install install-files uninstall dist deb
+.PHONY: all core try demo ports compile check proofs edits edits-test plants turned turned-scripts install install-files uninstall dist deb
 
 # tools/build.sh looks at what has changed, and builds nothing anew if nothing has.
 all:
@@ -90,6 +92,13 @@ edits-test:
 
 plants:
 	@python3 tools/plant_tested.py $(NAMES)
+
+FRONTS = lint_ port_ cmd_ tools_runner
+turned:
+	@python3 tools/turned.py $(FRONTS)
+
+turned-scripts:
+	@python3 tools/turned_scripts.py
 
 install: all install-files
 
