@@ -103,6 +103,13 @@ lines'
     run -v -k named1 named2 a.h make
     run -k named2 named1 a.h
     run -k named3 named2 a.h
+    run away1 away2
+    run away1 away3
+    (cd away2 && run -s . ../away1 .)
+    run kinds1 kinds2
+    run kinds1 kinds2 config.hh
+    run / root1
+    run same saved
     run -k bits bits64 a.h
     run -k bits32 bits64 a.h
     run -k bits bits32 a.h
@@ -119,14 +126,19 @@ lines'
     run old new -k
     run -x
     run '' new
+    run old ''
+    run same same2 --help
     run old old/
     run old nowhere
     run known new
     run -x nowhere same same2
     (TMPDIR=nowhere && run same same2) | sed 's/compare\.[0-9]*/compare.PID/'
     for name in awk diff sort; do failing "$name" 'exit 2'; done
+    failing sort 'ls -dl "$TMPDIR"/acrun-compare.* | cut -c 1-10 >&2; exit 2'
     # A signal that ends the script: a command of it sends each to the shell that started it.
     for name in HUP INT TERM; do failing sort "kill -s $name \$PPID; exit 0"; done
+    run -k --help
+    run -h
     run --help
 }
 

@@ -339,7 +339,7 @@ mkfifo hard1/pipe hard2/pipe
 # Characters that drive a terminal, or turn or hide text, beside their neighbours, and bytes that are no character. The quotes are of C.
 marks='\302\200 \302\233 \302\237 \330\234 \342\200\213 \342\200\217 \342\200\250 \342\200\256 \342\201\246 \342\201\251 \357\273\277 \363\240\200\200 \363\240\201\277'
 plain='\302\240 \330\233 \342\200\212 \342\200\220 \342\200\257 \342\201\245 \342\201\252 \357\273\276 \363\240\202\200 \360\237\230\200 \303\233'
-broken='\233 \237[31m \344x \300\233 \340\200\233 \355\240\200 \364\220\200\200 \342\200 \342\200\342\200\256'
+broken='\233 \237[31m \344x \300\233 \340\200\233 \340\202\251 \360\202\202\254 \355\240\200 \364\220\200\200 \342\200 \342\200\342\200\256'
 mkdir marks1 marks2
 for each in marks1 marks2; do
     for name in marks plain broken; do
@@ -438,6 +438,22 @@ done
 chmod 755 modes1/script
 chmod 600 modes2/private
 chmod 4755 modes2/to
+# A source whose path is absolute, one without a path, and headers of other names. One file is said to be in the root directory.
+for each in away1 away2; do
+    mkdir $each
+    printf 'acrun-record 2\nheader a.h t\nend\n' > $each/config.status
+    echo "#define LIMIT $each" > $each/a.h
+    printf '\nAC_DEFINE([LIMIT], [1])\n' > $each/configure.ac
+done
+cp -R away2 away3
+printf 'acrun-record 2\nsrcdir /proc/self/cwd/away3\nheader a.h t\nend\n' > away3/config.status
+mkdir kinds1 kinds2 root1
+for each in kinds1 kinds2; do
+    printf 'config_headers=" config.hh"\nconfig_files=" config.hh lines.h"\n' > $each/config.status
+    echo "#define LIMIT $each" > $each/config.hh
+    echo "#define LIMIT $each" > $each/lines.h
+done
+echo 'config_files=" etc/passwd"' > root1/config.status
 # The width of offsets, which AC_SYS_LARGEFILE defines.
 mkdir bits bits32 bits64
 echo '/* #undef _FILE_OFFSET_BITS */' > bits/a.h
