@@ -10,7 +10,7 @@
 # make edits-test  tries the script that does it
 # make plants   tries the wrong bodies that tests alone refuse, of every crate, or of those that NAMES names
 # make turned   changes one thing at a time in functions of acrun-tools, or in those whose paths begin as FRONTS says, and lists what no example notices
-# make turned-scripts  does that in share/configure and share/acrun-compare: both end with an error if there is more than is explained
+# make turned-scripts  does that in share/configure, share/port and share/acrun-compare: both end with an error if there is more than is explained
 # make install  puts the programs, acrun-compare, the manual pages, completions, share/configure, share/port and macros of rpm below $(DESTDIR)$(prefix)
 # make uninstall  removes them
 # make dist     makes an archive of the programs for machines without the toolchain, out/acrun-VERSION-x86_64-linux.tar.gz
@@ -59,6 +59,7 @@ demo: all
 	@sh examples/exact/run.sh out/acrun
 	@sh examples/completions/run.sh out/acrun
 	@sh examples/wrapper/run.sh
+	@sh examples/wrapper/port.sh
 	@sh examples/install/run.sh out/acrun
 	@sh examples/hostile/run.sh out/acrun
 	@sh examples/errors/run.sh out/acrun

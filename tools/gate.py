@@ -3,7 +3,7 @@
 at each allocation (`refuse_each.py`), and runs of the built programs: over children that are acrun too (`examples/standin`), that
 are killed and go on (`examples/answers`), on a terminal (`try_terminal.py`), with errors (`examples/errors` and the examples of docs/errors.md), of the commands whose words no clause
 has (`examples/help`, `examples/lint` and `examples/port`), and of acrun with other programs in the place of acrun-tools
-(`examples/tools`). The scripts `share/configure` and `share/acrun-compare` have runs of their own (`examples/wrapper` and
+(`examples/tools`). The scripts `share/configure`, `share/port` and `share/acrun-compare` have runs of their own (`examples/wrapper` and
 `examples/compare`).
 
   gate.py            the gate
@@ -88,6 +88,7 @@ def examples():
     for name in ("standin", "answers", "help", "errors", "lint", "port", "tools"):
         yield tried("sh", f"examples/{name}/run.sh", PROGRAMS / "acrun")
     yield tried("sh", "examples/wrapper/run.sh")
+    yield tried("sh", "examples/wrapper/port.sh")
     yield tried("sh", "examples/compare/run.sh", "--first")
 
 

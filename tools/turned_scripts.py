@@ -4,8 +4,8 @@
     python3 tools/turned_scripts.py [--jobs N] [--kinds KIND,..] [--shells SHELL,..] [--only WORD] [--lines FIRST-LAST] [--again FILE]
                              [--list] [-v] [SCRIPT..]
 
-A SCRIPT is `configure`, which examples/wrapper tries, or `acrun-compare`, which examples/compare tries, and by default both are changed. In
-the shell text and in its programs of awk, these are changed:
+A SCRIPT is `configure` or `port`, which examples/wrapper tries, or `acrun-compare`, which examples/compare tries, and by default all are
+changed. In the shell text and in its programs of awk, these are changed:
 
     line      a line is left out, if what remains can be read
     turned    a condition is the other one: `&&` for `||`, `==` for `!=`, `<` for `>=`, or with a `!` or without its own
@@ -41,7 +41,7 @@ import turned
 ROOT = pathlib.Path(__file__).resolve().parent.parent
 KNOWN = ROOT / "tools/turned_scripts.txt"
 KINDS = ("line", "turned", "word")
-EXAMPLES = {"configure": "wrapper", "acrun-compare": "compare"}
+EXAMPLES = {"configure": "wrapper/run.sh", "port": "wrapper/port.sh", "acrun-compare": "compare/run.sh"}
 # The longest that the examples may take with a change, and each process of them, in seconds. What takes longer is noticed.
 MOST_SECONDS, MOST_OF_PROCESSOR = 300, 60
 # What stands for a part of a script that is no code of its language.
@@ -244,7 +244,7 @@ class Room:
 
     def __init__(self, folder, template):
         self.folder, self.template = folder, template
-        for name in {*EXAMPLES.values()}:
+        for name in {it.partition("/")[0] for it in EXAMPLES.values()}:
             shutil.copytree(ROOT / "examples" / name, folder / "examples" / name)
         shutil.copytree(ROOT / "share", folder / "share")
         (folder / "bin").mkdir()
@@ -257,7 +257,7 @@ class Room:
         place = self.folder / "share" / script
         if isinstance(change, Change):
             place.write_text(changed(change))
-        run = self.folder / "examples" / EXAMPLES[script] / "run.sh"
+        run = self.folder / "examples" / EXAMPLES[script]
         work = self.folder / "work"
         subprocess.run(["rm", "-rf", work], check=True)
         if script == "acrun-compare":
@@ -265,6 +265,9 @@ class Room:
             wanted = (run.parent / "expected.txt").read_bytes().splitlines(keepends=True)
             noticed = self.differs(["sh", run, "--rows", work, shell], work, wanted)
             noticed = noticed or (" ".join(it.name for it in (work / "temporary").iterdir()) or None)
+        elif script == "port":
+            work.mkdir()
+            noticed = self.differs(["sh", run, "--rows", shell], work, (run.parent / "port.txt").read_bytes().splitlines(keepends=True))
         else:
             work.mkdir()
             noticed = self.differs(["sh", run, shell], work, None)
