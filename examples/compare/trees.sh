@@ -449,7 +449,8 @@ cp -R away2 away3
 printf 'acrun-record 2\nsrcdir /proc/self/cwd/away3\nheader a.h t\nend\n' > away3/config.status
 mkdir kinds1 kinds2 root1
 for each in kinds1 kinds2; do
-    printf 'config_headers=" config.hh"\nconfig_files=" config.hh lines.h"\n' > $each/config.status
+    printf 'config_headers=" config.hh"\nconfig_files=" config.hh lines.h a"\n' > $each/config.status
+    echo "$each" > $each/a
     echo "#define LIMIT $each" > $each/config.hh
     echo "#define LIMIT $each" > $each/lines.h
 done
@@ -496,5 +497,7 @@ Makefile: line *: *
 
 config.h: macro *_*_H: 1 -> (not defined)
 *: file of no such name
+config.h: macro *NOT_THERE*: 1 -> (not defined)
+file.h: macro **
 config.h: comments: 3 lines gone, 1 new  (known: a compiler reads no comment)
 END
