@@ -203,7 +203,7 @@ def changes_of(script):
     shell, awk = masked(text)
     found = [*places_of_shell(shell), *places_of_awk(awk)]
     # A pattern of awk that stands alone
-    for it in re.finditer(r"(?m)(?:^|&& |\|\| |\()(/)", text):
+    for it in re.finditer(r"(?m)(?:^|&& |\|\| |(?<!\w)\()(/)", text):
         at = it.start(1)
         if awk[at] == OTHER and shell[at] == OTHER and (at == 0 or awk[at - 1] != OTHER) and end_of_awk(text, at) > at + 1:
             found.append(("turned", at, at, "!"))

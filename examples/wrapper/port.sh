@@ -140,6 +140,18 @@ END
     printf 'A\n' | source configure.ac
     echo 1 > ../status
     run name 2.0
+    # A line that port changed has the number of the one with its words, or of the first that it is in place of. One that it left has its own.
+    printf 'A\nB\nC one\n  D two; E\nF\n' | source configure.ac
+    echo 1 > ../status
+    printf 'A\nB\nnew\ndnl acrun: one\n\tD two\ndnl acrun: two\nG\ndnl acrun: sub/x.in:1: three\nF\n' > ../text
+    run name 2.0
+    printf 'A\ndnl acrun: old\nB\nC\n' | source configure.ac
+    echo 1 > ../status
+    run name 2.0
+    printf 'A\n\nB\n' | source configure.ac
+    echo 1 > ../status
+    printf 'A\ndnl acrun: one\n\nB\nC\ndnl acrun: two\n' > ../text
+    run name 2.0
     # acrun fails
     echo 2 > ../status
     printf 'acrun: no memory\n' > ../says
@@ -166,6 +178,8 @@ END
     packaged 'AC_PREREQ([2]) AC_INIT([a], V(1))'
     packaged '  AC_INIT([ACRUN], V(1), [x])'
     packaged 'AC_INIT([a, b (c)], [V(1)], [x])'
+    packaged 'AC_INIT([a], $(x)V(1))'
+    packaged 'AC_INIT([a], $(x, V(1)))'
     # The text that is used with the name that was found
     printf 'AC_INIT([a], V(1))\n' | source configure.ac
     printf 'dnl acrun: in place of AC_INIT: the name and the version are those of --package\nAC_INIT([a], [2.0])\n' > ../packaged
