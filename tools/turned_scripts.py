@@ -43,7 +43,7 @@ KNOWN = ROOT / "tools/turned_scripts.txt"
 KINDS = ("line", "turned", "word")
 EXAMPLES = {"configure": "wrapper/run.sh", "port": "wrapper/port.sh", "acrun-compare": "compare/run.sh"}
 # The longest that the examples may take with a change, and each process of them, in seconds. What takes longer is noticed.
-MOST_SECONDS, MOST_OF_PROCESSOR = 300, 60
+MOST_SECONDS, MOST_OF_PROCESSOR = 300, 10
 # What stands for a part of a script that is no code of its language.
 OTHER = "\x01"
 OPPOSITES = {"&&": "||", "||": "&&", "==": "!=", "!=": "==", "~": "!~", "!~": "~", "<": ">=", ">=": "<", ">": "<=", "<=": ">"}

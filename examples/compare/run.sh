@@ -110,6 +110,9 @@ lines'
     run kinds1 kinds2 config.hh
     run / root1
     run same saved
+    run logged logged2
+    run plain1 plain2
+    run plain1 plain3
     run -k bits bits64 a.h
     run -k bits32 bits64 a.h
     run -k bits bits32 a.h

@@ -455,6 +455,21 @@ for each in kinds1 kinds2; do
     echo "#define LIMIT $each" > $each/lines.h
 done
 echo 'config_files=" etc/passwd"' > root1/config.status
+# A log with one output, texts with backslashes in a record, and lines that name nothing there.
+mkdir logged2 plain1 plain2
+echo 'config.status:9: creating Makefile' > logged2/config.log
+printf 'a = c\n' > logged2/Makefile
+for each in plain1 plain2; do
+    printf 'config_files=" a"\nfile none t\nheader none.h t\n' > $each/config.status
+    echo $each > $each/a
+    printf 'my_cv_a=%s\n' $each > $each/config.cache
+done
+printf 'acrun-record 2\nsrcdir ../so\\\\urce\nvar -C\nlink none\nfile a t\nend\n' > plain2/config.status
+mkdir 'so\urce'
+: > 'so\urce/configure.ac'
+cp -R plain2 plain3
+printf 'acrun-record 2\nsrcdir ..\\n\narg --cache-file=config\\\\cache\nfile a t\nend\n' > plain3/config.status
+mv plain3/config.cache 'plain3/config\cache'
 # The width of offsets, which AC_SYS_LARGEFILE defines.
 mkdir bits bits32 bits64
 echo '/* #undef _FILE_OFFSET_BITS */' > bits/a.h

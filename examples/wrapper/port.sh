@@ -148,6 +148,10 @@ END
     printf 'A\ndnl acrun: old\nB\nC\n' | source configure.ac
     echo 1 > ../status
     run name 2.0
+    printf 'dnl acrun: old\nB\nC\nD\n' | source configure.ac
+    echo 1 > ../status
+    printf 'dnl acrun: old\nB\nD\n' > ../text
+    run name 2.0
     printf 'A\n\nB\n' | source configure.ac
     echo 1 > ../status
     printf 'A\ndnl acrun: one\n\nB\nC\ndnl acrun: two\n' > ../text
@@ -185,6 +189,9 @@ END
     printf 'dnl acrun: in place of AC_INIT: the name and the version are those of --package\nAC_INIT([a], [2.0])\n' > ../packaged
     run name 2.0
     echo 1 > ../status
+    run name 2.0
+    echo 0 > ../status
+    echo 'case $* in *--package=a,*) exit 1 ;; esac' > ../commands
     run name 2.0
     # Without acrun, a place for files, and rights
     printf 'A\n' | source configure.ac
