@@ -103,6 +103,9 @@ lines'
     run -v -k named1 named2 a.h make
     run -k named2 named1 a.h
     run -k named3 named2 a.h
+    run -k named1 named3 a.h
+    run -k named4 named2 a.h
+    run -k named3 named2 make
     run away1 away2
     run away1 away3
     (cd away2 && run -s . ../away1 .)

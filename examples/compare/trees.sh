@@ -480,18 +480,30 @@ write named1/a.h << 'END'
 #define PACKAGE_NAME ""
 #define PACKAGE_STRING ""
 #define PACKAGE_TARNAME ""
+#define PACKAGE_URL "https://example.org/"
 #define PACKAGE_VERSION ""
+#define OTHER_URL "https://www.gnu.org/software/demo/"
 END
 write named2/a.h << 'END'
 #define PACKAGE_BUGREPORT "bugs"
 #define PACKAGE_NAME "demo"
 #define PACKAGE_STRING "demo 1.2"
 #define PACKAGE_TARNAME "demo"
+#define PACKAGE_URL ""
 #define PACKAGE_VERSION "1.2"
+#define OTHER_URL ""
 END
 write named3/a.h << 'END'
 #define PACKAGE_NAME "demo"
 #define PACKAGE_VERSION ""
+END
+write named4/a.h << 'END'
+#define PACKAGE_NAME ""
+#define PACKAGE_VERSION "1"
+END
+write named3/make << 'END'
+PACKAGE_NAME = demo
+PACKAGE_TARNAME =
 END
 write named1/make << 'END'
 DEFS = -DPACKAGE_NAME=\"\" -DPACKAGE_VERSION=\"\"
