@@ -1,47 +1,14 @@
--- What one step of a pass over conditions makes.
-use Rattle.std.proofs.Common.{◌≡◌, ℕ, ◌<◌, ◌≤◌, List, [], ◌∷◌, ◌++◌, length, slice_range, sym, subst, ap, ◌∙◌, true, map, get_or, Result, Option, arith}
+-- What is known of conditions, and of the calls that ask for files.
+use Rattle.std.proofs.Common.{◌≡◌, ℕ, ◌<◌, List, [], ◌∷◌, ◌++◌, length, slice_range, sym, subst, ap, ◌∙◌, map, get_or, Result, Option}
 use Rattle.std.specs.Prelude.{Contains, IfOk, IfSome, codes}
 use Rattle.std.proofs.lemmas.List.{get_or-map, length-map}
 use Rattle.std.proofs.lemmas.List.Elements.{Contains-get_or}
 use Rattle.ac_calls.specs.declared.call.CallAt.{CallAt}
 use Rattle.ac_calls.specs.Calls.{MacroCall, macro_call_of}
-use Rattle.std.specs.List.{list_all}
 use Rattle.port_compounds.specs.Guards.{IsGuarded}
-use Rattle.port_parts.specs.Places.{is_space_or_return}
-use Rattle.port_idioms.specs.declared.idioms.Idioms.{Idioms}
-use Rattle.port_idioms.specs.declared.idioms.Idioms.TheVariants.{All}
 use Rattle.port_joints.specs.Files.{program_of}
-use Rattle.port_joints.specs.Joints.{Becomes}
 use Rattle.port_put.specs.Calls.{IsPut}
-use Rattle.port_joints.specs.Spelled.{IsRespelled}
-use Rattle.port_statements.specs.Statements.{MayBegin}
-use Rattle.port_shell.specs.Formed.{IsPass, IsTestAt, IsListTest, Asks, IsAsked, lacking, MayAskAt, AreOrdered, spelled_so, asked_so}
-use Rattle.port_shell.specs.Formed as specs
-
-pub tested_step : (idioms : Idioms) (text : List ℕ) (at : ℕ) (out : List ℕ) (start from to : ℕ) (put : List ℕ) (new_at : ℕ) (new : List ℕ)
-    → IsPass idioms text at out → MayBegin text start → IsTestAt text start from to → AreOrdered text start from to → Becomes (slice_range text from to) put → at ≤ from
-    → (new_at ≡ to) × (new ≡ (out ++ slice_range text at from) ++ put) → IsPass idioms text new_at new
-tested_step idioms text at out start from to put new_at new before begins is (first, second, third) become place (at_is, new_is) =
-    subst (λ a. IsPass idioms text a new) (sym at_is)
-    (subst (IsPass idioms text to) (sym new_is) (specs.IsPass.tested start to put (specs.IsPass.copied from before place (omega (arith, second, third))) begins is (first, second, third) become))
-
-pub spelled_step : (idioms : Idioms) (text : List ℕ) (at : ℕ) (out : List ℕ) (start from to : ℕ) (indent put whole : List ℕ) (new_at : ℕ) (new : List ℕ) → idioms ≡ All
-    → IsPass idioms text at out → MayBegin text start → IsTestAt text start from to → AreOrdered text start from to → IsRespelled (slice_range text from to) put → list_all is_space_or_return indent ≡ true → at ≤ start
-    → whole ≡ spelled_so indent ++ (slice_range text start from ++ put)
-    → (new_at ≡ to) × (new ≡ (out ++ slice_range text at start) ++ whole) → IsPass idioms text new_at new
-spelled_step idioms text at out start from to indent put whole new_at new all before begins is (first, second, third) spelled blank place whole_is (at_is, new_is) =
-    subst (λ a. IsPass idioms text a new) (sym at_is)
-    (subst (IsPass idioms text to) (sym (new_is ∙ ap (λ w. (out ++ slice_range text at start) ++ w) whole_is))
-    (specs.IsPass.respelled from to put indent all (specs.IsPass.copied start before place (omega (arith, first, second, third))) begins is (first, second, third) spelled blank))
-
-pub asked_step : (idioms : Idioms) (text : List ℕ) (at : ℕ) (out : List ℕ) (start from to : ℕ) (indent put call whole : List ℕ) (new_at : ℕ) (new : List ℕ) → idioms ≡ All
-    → IsPass idioms text at out → MayBegin text start → IsTestAt text start from to → AreOrdered text start from to → MayAskAt text start → IsAsked (slice_range text from to) put call → list_all is_space_or_return indent ≡ true → at ≤ start
-    → whole ≡ asked_so indent call ++ (slice_range text start from ++ put)
-    → (new_at ≡ to) × (new ≡ (out ++ slice_range text at start) ++ whole) → IsPass idioms text new_at new
-asked_step idioms text at out start from to indent put call whole new_at new all before begins is (first, second, third) may asked blank place whole_is (at_is, new_is) =
-    subst (λ a. IsPass idioms text a new) (sym at_is)
-    (subst (IsPass idioms text to) (sym (new_is ∙ ap (λ w. (out ++ slice_range text at start) ++ w) whole_is))
-    (specs.IsPass.asked from to put call indent all (specs.IsPass.copied start before place (omega (arith, first, second, third))) begins is (first, second, third) may asked blank))
+use Rattle.port_shell.specs.Formed.{IsListTest, Asks, lacking}
 
 -- The arguments of a call that asks.
 pub asks_for : {V E : Type 0} (items : V → List ℕ) (r : Result (Option V) E) (letter : ℕ) (path name program found lacks none : List ℕ)

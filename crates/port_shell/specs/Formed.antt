@@ -4,6 +4,7 @@ use Rattle.std.specs.List.{list_all}
 use Rattle.ac_calls.specs.Calls.{MacroCall, calls_in}
 use Rattle.ac_calls.specs.declared.call.Extent.{Extent}
 use Rattle.lint_errors.specs.Errors.{IsAccepted}
+use Rattle.port_breaks.specs.Breaks.{IsMade}
 use Rattle.port_compounds.specs.Cases.{IsCase}
 use Rattle.port_compounds.specs.Defaults.{IsDefaulting, assignment, empty_test}
 use Rattle.port_compounds.specs.Guards.{IsGuarded, ReadsStatus}
@@ -11,6 +12,7 @@ use Rattle.port_compounds.specs.Ifs.{IsIf}
 use Rattle.port_compounds.specs.Loops.{IsWrittenOut}
 use Rattle.port_parts.specs.Parts.{IsListEnd}
 use Rattle.port_parts.specs.Places.{is_space_or_return, AreBlank, IsWord, BeginsStatement}
+use Rattle.port_edits.specs.Edits.{Change}
 use Rattle.port_idioms.specs.declared.idioms.Idioms.{Idioms}
 use Rattle.port_idioms.specs.declared.idioms.Idioms.TheVariants.{All}
 use Rattle.port_joints.specs.Files.{HasPart, IsFileTest, IsTestOfFiles, program_of, with_answer}
@@ -67,6 +69,13 @@ pub data IsTestAt (text : List ℕ) (start from to : ℕ) : Type 0 where
 -- The offsets are in this order.
 abbrev pub AreOrdered : List ℕ → ℕ → ℕ → ℕ → Type 0
 AreOrdered text start from to = (start ≤ from) × (from ≤ to) × (to ≤ length text)
+
+-- A condition is between the last two of these offsets, of a statement at the first one, which begins outside quotes, substitutions, comments
+-- and here-documents.
+pub record IsPlace (text : List ℕ) (start from to : ℕ) : Type 0 where
+  pub begins : MayBegin text start
+  pub is : IsTestAt text start from to
+  pub order : AreOrdered text start from to
 
 -- The comment above a condition that is spelled otherwise. After it come a newline and the indent of the statement.
 unfoldable pub spelled_so : List ℕ → List ℕ
@@ -156,26 +165,30 @@ pub data MayPut (text : List ℕ) (start end : ℕ) (put : List ℕ) : Type 0 wh
       → MayPut text start end put
   repeated : IsWrittenOut text start end put → IsAccepted (source_with put) → MayPut text start end put
 
--- One pass over a text has read so much of it, and written this. Everything is copied, but what may be put in the place of a statement may be
--- written there. In a condition, `-a` and `-o` of `test` may become `&&` and `||`. If all idioms are wanted, a comment may be right before what is
--- put, and in a condition of an `if`, of AS_IF or of a guarded statement `==`, `-eq` and `-ne` may be spelled otherwise, with a comment right before
--- the statement. In such a condition the answer of a program may also come in the place of a test of a file, with a comment and the call that
--- asks right before the statement. Each of these statements begins outside quotes, substitutions, comments and here-documents: what is replaced,
--- and the `if`, the `elif`, the call of AS_IF or the guarded statement whose condition is written otherwise.
-pub data IsPass (idioms : Idioms) (text : List ℕ) : ℕ → List ℕ → Type 0 where
-  begun : IsPass idioms text 0 []
-  copied : {at : ℕ} {out : List ℕ} (next : ℕ) → IsPass idioms text at out → at ≤ next → next ≤ length text → IsPass idioms text next (out ++ slice_range text at next)
-  changed : {at : ℕ} {out : List ℕ} (end : ℕ) (note put : List ℕ) → IsPass idioms text at out → MayBegin text at → MayPut text at end put → IsNote idioms note
-      → IsPass idioms text end (out ++ (note ++ put))
-  tested : {from : ℕ} {out : List ℕ} (start to : ℕ) (put : List ℕ) → IsPass idioms text from out → MayBegin text start → IsTestAt text start from to → AreOrdered text start from to
-      → Becomes (slice_range text from to) put → IsPass idioms text to (out ++ put)
-  respelled : {start : ℕ} {out : List ℕ} (from to : ℕ) (put indent : List ℕ) → idioms ≡ All → IsPass idioms text start out → MayBegin text start → IsTestAt text start from to → AreOrdered text start from to
-      → IsRespelled (slice_range text from to) put → list_all is_space_or_return indent ≡ true → IsPass idioms text to (out ++ (spelled_so indent ++ (slice_range text start from ++ put)))
-  asked : {start : ℕ} {out : List ℕ} (from to : ℕ) (put call indent : List ℕ) → idioms ≡ All → IsPass idioms text start out → MayBegin text start → IsTestAt text start from to → AreOrdered text start from to
-      → MayAskAt text start → IsAsked (slice_range text from to) put call → list_all is_space_or_return indent ≡ true
-      → IsPass idioms text to (out ++ (asked_so indent call ++ (slice_range text start from ++ put)))
+-- The change of a condition in which `-a` and `-o` of `test` become `&&` and `||`.
+pub record IsTested (text : List ℕ) (change : Change) : Type 0 where
+  pub start : ℕ
+  pub place : IsPlace text start change.start change.end
+  pub become : Becomes (slice_range text change.start change.end) change.put
 
--- The one text becomes the other by passes, each of which reads what the one before it wrote.
+-- The change of a statement up to the end of its condition, in which `==`, `-eq` and `-ne` are spelled otherwise, or which has the answer of a
+-- program in the place of a test of a file. A comment comes right before the statement, and with an answer the call that asks.
+pub data IsIdiom (text : List ℕ) (change : Change) : Type 0 where
+  respelled : (from : ℕ) (put indent : List ℕ) → IsPlace text change.start from change.end → IsRespelled (slice_range text from change.end) put
+      → list_all is_space_or_return indent ≡ true → change.put ≡ spelled_so indent ++ (slice_range text change.start from ++ put) → IsIdiom text change
+  asked : (from : ℕ) (put call indent : List ℕ) → IsPlace text change.start from change.end → MayAskAt text change.start
+      → IsAsked (slice_range text from change.end) put call → list_all is_space_or_return indent ≡ true
+      → change.put ≡ asked_so indent call ++ (slice_range text change.start from ++ put) → IsIdiom text change
+
+-- The change of a part of a text: what may be put in the place of a statement that begins outside quotes, substitutions, comments and
+-- here-documents, with a comment right before it if all idioms are wanted; or a condition that is written otherwise.
+pub data IsEdit (idioms : Idioms) (text : List ℕ) (change : Change) : Type 0 where
+  changed : (note put : List ℕ) → MayBegin text change.start → MayPut text change.start change.end put → IsNote idioms note → change.put ≡ note ++ put → IsEdit idioms text change
+  tested : IsTested text change → IsEdit idioms text change
+  idiom : idioms ≡ All → IsIdiom text change → IsEdit idioms text change
+
+-- The one text becomes the other by passes, each of which reads what the one before it wrote, and makes such changes, which are apart and in
+-- order. All else is copied.
 pub data IsFormed (idioms : Idioms) : List ℕ → List ℕ → Type 0 where
   same : {text : List ℕ} → IsFormed idioms text text
-  passed : {text mid out : List ℕ} → IsFormed idioms text mid → IsPass idioms mid (length mid) out → IsFormed idioms text out
+  passed : {text mid out : List ℕ} → IsFormed idioms text mid → IsMade (IsEdit idioms mid) mid out → IsFormed idioms text out

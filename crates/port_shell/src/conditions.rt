@@ -2,21 +2,21 @@
 
 ghost use Rattle.std.specs.Prelude.{◌≡◌, ◌⊎◌, ◌≤◌, ◌<◌, ◌+◌, ◌++◌, ◌∷◌, true, Some, map, length, slice_get, slice_index, slice_range, codes, All, Contains, IfOk, IfSome, OnOk, IsTrue};
 ghost use Rattle.std.specs.List.{list_all};
+ghost use Rattle.port_breaks.specs.Breaks.{IsMade};
+ghost use Rattle.port_edits.specs.Edits.{change_of};
 ghost use Rattle.ac_calls.specs.Calls.{calls_in, macro_call_of};
 ghost use Rattle.port_compounds.specs.Guards.{IsGuarded};
 ghost use Rattle.port_parts.specs.Places.{is_space_or_return, AreBlank, IsWord};
-ghost use Rattle.port_joints.specs.Joints.{Becomes};
-ghost use Rattle.port_joints.specs.Spelled.{IsRespelled};
 ghost use Rattle.port_statements.specs.Statements.{MayBegin};
 ghost use Rattle.port_shell.specs.Formed as specs;
 
 use crate::branches::has_file_branch;
-use crate::files::pass_files;
-use crate::passing::finish;
+use crate::files::asked_edit;
+use crate::passing::{changed, push_edit};
 use ac_calls::{CallAt, Extent, calls_of};
 use lint_text::{line_start, part, without_end_blanks};
 use port_compounds::guard_parts;
-use port_edits::{Pass, write_change};
+use port_edits::Edit;
 use port_idioms::Idioms;
 use port_joints::{joined_condition, respelled};
 use port_parts::{GuardCut, IfCut, are_blank, are_spaces, is_list_end, is_word};
@@ -357,26 +357,27 @@ fn places_in(
 
 // ---- what is written
 
-/// Writes a condition of AS_IF in which `-a` and `-o` became `&&` and `||`.
-fn put_joined(
-    idioms: Idioms,
+/// Returns the change of a condition of AS_IF in which `-a` and `-o` become `&&` and `||`.
+fn joined_edit(
+    alloc: Global,
     text: &[u8],
     place: ConditionPlace,
-    put: &[u8],
-    pass: &mut Pass,
-) -> Result<(), AllocError>
-    requires begins { MayBegin text.now place.start }
-    requires is { specs.IsTestAt text.now place.start place.from place.to }
-    requires order { specs.AreOrdered text.now place.start place.from place.to }
-    requires becomes { Becomes (slice_range text.now place.from place.to) put.now }
-    requires begun { specs.IsPass idioms text.now pass.old.at pass.old.out.items }
-    ensures { OnOk result (specs.IsPass idioms text.now pass.new.at pass.new.out.items) }
+) -> Result<Option<Edit>, AllocError>
+    requires { specs.IsPlace text.now place.start place.from place.to }
+    ensures { IfOk result (λ o. IfSome o (λ e. specs.IsTested text.now (change_of e))) }
 {
-    let _ = idioms;
-    if place.from < pass.at {
-        return Ok(());
+    if !matches!(place.whole, Whole::Call(_)) {
+        return Ok(None);
     }
-    write_change(text, place.from, place.to, put, pass)
+    let Some(joined) = joined_condition(alloc, &text[place.from..place.to])? else {
+        return Ok(None);
+    };
+    let put = joined.into_vec(alloc)?;
+    Ok(Some(Edit {
+        start: place.from,
+        end: place.to,
+        put,
+    }))
 }
 
 /// Returns the comment above a condition, with this indent after it.
@@ -400,34 +401,6 @@ fn below(alloc: Global, indent: &[u8], front: &[u8], put: &[u8]) -> Result<Vec<u
     Ok(out)
 }
 
-/// Writes the comment above a statement, and the statement up to its condition, which is spelled
-/// otherwise.
-fn put_spelled(
-    alloc: Global,
-    idioms: Idioms,
-    text: &[u8],
-    indent: &[u8],
-    place: ConditionPlace,
-    put: &[u8],
-    pass: &mut Pass,
-) -> Result<(), AllocError>
-    requires all { idioms ≡ Idioms.All }
-    requires begins { MayBegin text.now place.start }
-    requires is { specs.IsTestAt text.now place.start place.from place.to }
-    requires order { specs.AreOrdered text.now place.start place.from place.to }
-    requires spelled { IsRespelled (slice_range text.now place.from place.to) put.now }
-    requires indent { list_all is_space_or_return indent.now ≡ true }
-    requires begun { specs.IsPass idioms text.now pass.old.at pass.old.out.items }
-    ensures { OnOk result (specs.IsPass idioms text.now pass.new.at pass.new.out.items) }
-{
-    let _ = idioms;
-    if place.start < pass.at {
-        return Ok(());
-    }
-    let whole = below(alloc, indent, &text[place.start..place.from], put)?;
-    write_change(text, place.start, place.to, whole.as_slice(), pass)
-}
-
 /// Returns whether an offset is in an argument without brackets of one of the calls. A comment there
 /// would be a part of it.
 pub(crate) fn is_in_bare(text: &[u8], calls: &[CallAt], at: usize) -> bool {
@@ -443,196 +416,135 @@ pub(crate) fn is_in_bare(text: &[u8], calls: &[CallAt], at: usize) -> bool {
     false
 }
 
-/// Writes a condition that is spelled otherwise, unless the comment can't be on a line above.
-fn pass_spelled(
-    alloc: Global,
-    idioms: Idioms,
-    text: &[u8],
-    calls: &[CallAt],
-    place: ConditionPlace,
-    put: &[u8],
-    pass: &mut Pass,
-) -> Result<(), AllocError>
-    requires all { idioms ≡ Idioms.All }
-    requires begins { MayBegin text.now place.start }
-    requires is { specs.IsTestAt text.now place.start place.from place.to }
-    requires order { specs.AreOrdered text.now place.start place.from place.to }
-    requires spelled { IsRespelled (slice_range text.now place.from place.to) put.now }
-    requires begun { specs.IsPass idioms text.now pass.old.at pass.old.out.items }
-    ensures { OnOk result (specs.IsPass idioms text.now pass.new.at pass.new.out.items) }
+/// Returns the spaces before a statement on its line, if there is nothing else, and if a comment can
+/// be on a line above.
+pub(crate) fn indent_at<'a>(text: &'a [u8], calls: &[CallAt], at: usize) -> Option<&'a [u8]>
+    ensures { IfSome result (λ i. list_all is_space_or_return i.now ≡ true) }
 {
-    let indent = part(text, line_start(text, place.start), place.start);
-    if !are_spaces(indent) || is_in_bare(text, calls, place.start) {
-        return Ok(());
-    }
-    put_spelled(alloc, idioms, text, indent, place, put, pass)
-}
-
-/// Writes a condition that is spelled otherwise, if there is a spelling.
-fn pass_other(
-    alloc: Global,
-    idioms: Idioms,
-    text: &[u8],
-    calls: &[CallAt],
-    place: ConditionPlace,
-    pass: &mut Pass,
-) -> Result<(), AllocError>
-    requires all { idioms ≡ Idioms.All }
-    requires begins { MayBegin text.now place.start }
-    requires is { specs.IsTestAt text.now place.start place.from place.to }
-    requires order { specs.AreOrdered text.now place.start place.from place.to }
-    requires begun { specs.IsPass idioms text.now pass.old.at pass.old.out.items }
-    ensures { OnOk result (specs.IsPass idioms text.now pass.new.at pass.new.out.items) }
-{
-    match respelled(alloc, &text[place.from..place.to])? {
-        Some(put) => pass_spelled(alloc, idioms, text, calls, place, put.as_slice(), pass),
-        None => Ok(()),
+    let indent = part(text, line_start(text, at), at);
+    if are_spaces(indent) && !is_in_bare(text, calls, at) {
+        Some(indent)
+    } else {
+        None
     }
 }
 
-/// Writes a condition that is spelled otherwise, if there is a spelling, or asks for a file that it
-/// tests, unless a later branch keeps the whole statement.
-fn pass_idioms(
+/// Returns the change of a condition that is spelled otherwise, if there is a spelling, and if a
+/// comment can be on a line above.
+fn spelled_edit(
     alloc: Global,
-    idioms: Idioms,
     text: &[u8],
     calls: &[CallAt],
     place: ConditionPlace,
-    pass: &mut Pass,
-) -> Result<(), AllocError>
+) -> Result<Option<Edit>, AllocError>
+    requires { specs.IsPlace text.now place.start place.from place.to }
+    ensures { IfOk result (λ o. IfSome o (λ e. specs.IsIdiom text.now (change_of e))) }
+{
+    let Some(condition) = respelled(alloc, &text[place.from..place.to])? else {
+        return Ok(None);
+    };
+    let Some(indent) = indent_at(text, calls, place.start) else {
+        return Ok(None);
+    };
+    let front = &text[place.start..place.from];
+    let put = below(alloc, indent, front, condition.as_slice())?;
+    Ok(Some(Edit {
+        start: place.start,
+        end: place.to,
+        put,
+    }))
+}
+
+/// Returns the change of a condition that is spelled otherwise, if there is a spelling, or that has
+/// the answer for a file that it tests, unless a later branch keeps the whole statement.
+fn idiom_edit(
+    alloc: Global,
+    text: &[u8],
+    calls: &[CallAt],
+    place: ConditionPlace,
+) -> Result<Option<Edit>, AllocError>
     requires calls { map macro_call_of calls.now ≡ calls_in text.now }
-    requires all { idioms ≡ Idioms.All }
-    requires begins { MayBegin text.now place.start }
-    requires is { specs.IsTestAt text.now place.start place.from place.to }
-    requires order { specs.AreOrdered text.now place.start place.from place.to }
-    requires begun { specs.IsPass idioms text.now pass.old.at pass.old.out.items }
-    ensures { OnOk result (specs.IsPass idioms text.now pass.new.at pass.new.out.items) }
+    requires place { specs.IsPlace text.now place.start place.from place.to }
+    ensures { IfOk result (λ o. IfSome o (λ e. specs.IsIdiom text.now (change_of e))) }
 {
     if has_file_branch(text, place.start, place.to) {
-        return Ok(());
+        return Ok(None);
     }
-    pass_other(alloc, idioms, text, calls, place, pass)?;
-    pass_files(alloc, idioms, text, calls, place, pass)
+    match spelled_edit(alloc, text, calls, place)? {
+        Some(edit) => Ok(Some(edit)),
+        None => asked_edit(alloc, text, calls, place),
+    }
 }
 
-/// Writes a condition that is spelled otherwise, if there is a spelling and all idioms are wanted.
-fn pass_wanted(
+/// Returns whether a condition is at a place, of a statement that begins at one of these offsets.
+fn is_place(
     alloc: Global,
-    idioms: Idioms,
     text: &[u8],
     calls: &[CallAt],
+    offsets: &[usize],
     place: ConditionPlace,
-    pass: &mut Pass,
-) -> Result<(), AllocError>
+) -> Result<bool, AllocError>
     requires calls { map macro_call_of calls.now ≡ calls_in text.now }
-    requires begins { MayBegin text.now place.start }
-    requires is { specs.IsTestAt text.now place.start place.from place.to }
-    requires order { specs.AreOrdered text.now place.start place.from place.to }
-    requires begun { specs.IsPass idioms text.now pass.old.at pass.old.out.items }
-    ensures { OnOk result (specs.IsPass idioms text.now pass.new.at pass.new.out.items) }
+    requires offsets { All (MayBegin text.now) offsets.now }
+    ensures { IfOk result (λ b.
+        IsTrue b → specs.IsPlace text.now place.start place.from place.to) }
 {
-    match idioms {
-        Idioms::Exact => Ok(()),
-        Idioms::All => pass_idioms(alloc, idioms, text, calls, place, pass),
+    let is_there = place.start <= place.from && place.from <= place.to && place.to <= text.len();
+    if !is_there || !may_begin(text, offsets, place.start) {
+        return Ok(false);
     }
+    is_test_at(alloc, text, calls, place)
 }
 
-/// Writes a condition of AS_IF with `&&` and `||`, if it has `-a` and `-o`.
-fn pass_joined(
-    alloc: Global,
-    idioms: Idioms,
-    text: &[u8],
-    place: ConditionPlace,
-    pass: &mut Pass,
-) -> Result<(), AllocError>
-    requires begins { MayBegin text.now place.start }
-    requires is { specs.IsTestAt text.now place.start place.from place.to }
-    requires order { specs.AreOrdered text.now place.start place.from place.to }
-    requires begun { specs.IsPass idioms text.now pass.old.at pass.old.out.items }
-    ensures { OnOk result (specs.IsPass idioms text.now pass.new.at pass.new.out.items) }
-{
-    if !matches!(place.whole, Whole::Call(_)) {
-        return Ok(());
-    }
-    match joined_condition(alloc, &text[place.from..place.to])? {
-        Some(put) => put_joined(idioms, text, place, put.as_slice(), pass),
-        None => Ok(()),
-    }
-}
-
-/// Writes a condition otherwise, if there is another text for it, and if its statement begins at one
-/// of these offsets.
-fn pass_place(
+/// Returns the change of what is at a place, if that is a condition of a statement that begins at one
+/// of these offsets, and if there is another text for it.
+fn condition_edit(
     alloc: Global,
     idioms: Idioms,
     text: &[u8],
     calls: &[CallAt],
     offsets: &[usize],
     place: ConditionPlace,
-    pass: &mut Pass,
-) -> Result<(), AllocError>
+) -> Result<Option<Edit>, AllocError>
     requires calls { map macro_call_of calls.now ≡ calls_in text.now }
     requires offsets { All (MayBegin text.now) offsets.now }
-    requires begun { specs.IsPass idioms text.now pass.old.at pass.old.out.items }
-    ensures { OnOk result (specs.IsPass idioms text.now pass.new.at pass.new.out.items) }
+    ensures { IfOk result (λ o. IfSome o (λ e. specs.IsEdit idioms text.now (change_of e))) }
 {
-    let is_there = place.start <= place.from && place.from <= place.to && place.to <= text.len();
-    if !is_there || !may_begin(text, offsets, place.start) {
-        return Ok(());
+    if !is_place(alloc, text, calls, offsets, place)? {
+        return Ok(None);
     }
-    if !is_test_at(alloc, text, calls, place)? {
-        return Ok(());
+    if let Some(edit) = joined_edit(alloc, text, place)? {
+        return Ok(Some(edit));
     }
-    pass_joined(alloc, idioms, text, place, pass)?;
-    pass_wanted(alloc, idioms, text, calls, place, pass)
+    match idioms {
+        Idioms::Exact => Ok(None),
+        Idioms::All => match idiom_edit(alloc, text, calls, place)? {
+            Some(edit) => Ok(Some(edit)),
+            None => Ok(None),
+        },
+    }
 }
 
-/// Goes over the places where conditions may be.
-fn pass_places(
+/// Returns the changes of the conditions at these places. One that begins in what another one
+/// changes is left.
+fn condition_edits(
     alloc: Global,
     idioms: Idioms,
     text: &[u8],
     calls: &[CallAt],
     offsets: &[usize],
     places: &[ConditionPlace],
-    pass: &mut Pass,
-) -> Result<(), AllocError>
+) -> Result<Vec<Edit>, AllocError>
     requires calls { map macro_call_of calls.now ≡ calls_in text.now }
     requires offsets { All (MayBegin text.now) offsets.now }
-    requires begun { specs.IsPass idioms text.now pass.old.at pass.old.out.items }
-    ensures { OnOk result (specs.IsPass idioms text.now pass.new.at pass.new.out.items) }
+    ensures { IfOk result (λ v. All (λ e. specs.IsEdit idioms text.now (change_of e)) v.items) }
 {
+    let mut edits = Vec::new(alloc);
     for i in 0..places.len() {
-        pass_place(alloc, idioms, text, calls, offsets, places[i], pass)?;
+        let edit = condition_edit(alloc, idioms, text, calls, offsets, places[i])?;
+        push_edit(idioms, text, edit, &mut edits)?;
     }
-    Ok(())
-}
-
-/// Returns what `tested_once` does, of the statements that were found.
-fn tested_with(
-    alloc: Global,
-    idioms: Idioms,
-    text: &[u8],
-    calls: &[CallAt],
-    found: &Statements,
-) -> Result<Option<Vec<u8>>, AllocError>
-    requires calls { map macro_call_of calls.now ≡ calls_in text.now }
-    requires offsets { All (MayBegin text.now) found.now.offsets.items }
-    ensures { IfOk result (λ o.
-        IfSome o (λ v. specs.IsPass idioms text.now (length text.now) v.items)) }
-{
-    let places = places_in(alloc, text, calls, found.cuts.as_slice())?;
-    let mut pass = Pass::new(alloc);
-    pass_places(
-        alloc,
-        idioms,
-        text,
-        calls,
-        found.offsets.as_slice(),
-        places.as_slice(),
-        &mut pass,
-    )?;
-    finish(idioms, text, pass)
+    Ok(edits)
 }
 
 /// Returns the text with conditions of AS_IF in which `-a` and `-o` became `&&` and `||`, and, if
@@ -644,9 +556,18 @@ pub(crate) fn tested_once(
     text: &[u8],
 ) -> Result<Option<Vec<u8>>, AllocError>
     ensures { IfOk result (λ o.
-        IfSome o (λ v. specs.IsPass idioms text.now (length text.now) v.items)) }
+        IfSome o (λ v. IsMade (specs.IsEdit idioms text.now) text.now v.items)) }
 {
     let calls = calls_of(alloc, text)?;
     let found = statements_in(alloc, text, calls.as_slice())?;
-    tested_with(alloc, idioms, text, calls.as_slice(), &found)
+    let places = places_in(alloc, text, calls.as_slice(), found.cuts.as_slice())?;
+    let edits = condition_edits(
+        alloc,
+        idioms,
+        text,
+        calls.as_slice(),
+        found.offsets.as_slice(),
+        places.as_slice(),
+    )?;
+    changed(alloc, idioms, text, edits.as_slice())
 }

@@ -1,22 +1,20 @@
 //! Tests of files in conditions: a program asks before the statement.
 
 ghost use Rattle.std.specs.Prelude.{◌≡◌, ◌≤◌, ◌<◌, ◌+◌, ◌++◌, true, false, map, length, slice_range, codes, Contains, IfOk, IfSome, OnOk, IsTrue};
-ghost use Rattle.std.specs.List.{list_all};
 ghost use Rattle.ac_calls.specs.Calls.{calls_in, macro_call_of};
-ghost use Rattle.port_parts.specs.Places.{is_space_or_return, IsWord};
-ghost use Rattle.port_idioms.specs.declared.idioms.Idioms.TheVariants.{All};
+ghost use Rattle.port_parts.specs.Places.{IsWord};
 ghost use Rattle.port_joints.specs.Files as files;
+ghost use Rattle.port_edits.specs.Edits.{change_of};
 ghost use Rattle.port_put.specs.Calls.{IsPut};
-ghost use Rattle.port_statements.specs.Statements.{MayBegin};
 ghost use Rattle.port_shell.specs.Formed as specs;
 
-use crate::conditions::{ConditionPlace, is_in_bare};
+use crate::conditions::{ConditionPlace, indent_at};
 use ac_calls::CallAt;
-use lint_text::{line_start, part, without_end_blanks};
-use port_edits::{Pass, write_change};
+use lint_text::{part, without_end_blanks};
+use port_edits::Edit;
 use port_idioms::Idioms;
 use port_joints::{FileCut, file_test, has_part, is_test_of_files, program_of, with_answer};
-use port_parts::{are_spaces, begins_statement, is_word};
+use port_parts::begins_statement;
 use port_put::accepted_call;
 use std::alloc::{AllocError, Global};
 
@@ -149,63 +147,6 @@ fn below(
     Ok(out)
 }
 
-/// Writes the call that asks for a file above a statement, and the statement up to its condition,
-/// which has the answer in the place of the test.
-fn put_asked(
-    alloc: Global,
-    idioms: Idioms,
-    text: &[u8],
-    indent: &[u8],
-    place: ConditionPlace,
-    put: &[u8],
-    call: &[u8],
-    pass: &mut Pass,
-) -> Result<(), AllocError>
-    requires all { idioms ≡ All }
-    requires begins { MayBegin text.now place.start }
-    requires is { specs.IsTestAt text.now place.start place.from place.to }
-    requires order { specs.AreOrdered text.now place.start place.from place.to }
-    requires may { specs.MayAskAt text.now place.start }
-    requires asked { specs.IsAsked (slice_range text.now place.from place.to) put.now call.now }
-    requires indent { list_all is_space_or_return indent.now ≡ true }
-    requires begun { specs.IsPass idioms text.now pass.old.at pass.old.out.items }
-    ensures { OnOk result (specs.IsPass idioms text.now pass.new.at pass.new.out.items) }
-{
-    let _ = idioms;
-    if place.start < pass.at {
-        return Ok(());
-    }
-    let whole = below(alloc, indent, call, &text[place.start..place.from], put)?;
-    write_change(text, place.start, place.to, whole.as_slice(), pass)
-}
-
-/// Writes a condition with the answer of a call, if the call can be on lines above.
-fn pass_asked(
-    alloc: Global,
-    idioms: Idioms,
-    text: &[u8],
-    calls: &[CallAt],
-    place: ConditionPlace,
-    put: &[u8],
-    call: &[u8],
-    pass: &mut Pass,
-) -> Result<(), AllocError>
-    requires all { idioms ≡ All }
-    requires begins { MayBegin text.now place.start }
-    requires is { specs.IsTestAt text.now place.start place.from place.to }
-    requires order { specs.AreOrdered text.now place.start place.from place.to }
-    requires may { specs.MayAskAt text.now place.start }
-    requires asked { specs.IsAsked (slice_range text.now place.from place.to) put.now call.now }
-    requires begun { specs.IsPass idioms text.now pass.old.at pass.old.out.items }
-    ensures { OnOk result (specs.IsPass idioms text.now pass.new.at pass.new.out.items) }
-{
-    let indent = part(text, line_start(text, place.start), place.start);
-    if !are_spaces(indent) || is_joined(text, place.start) || is_in_bare(text, calls, place.start) {
-        return Ok(());
-    }
-    put_asked(alloc, idioms, text, indent, place, put, call, pass)
-}
-
 /// Returns a variable's name with a text after it.
 fn assignment(alloc: Global, name: &[u8], value: &[u8]) -> Result<Vec<u8>, AllocError>
     ensures { IfOk result (λ v. v.items ≡ name.now ++ value.now) }
@@ -287,145 +228,84 @@ fn new_name(condition: &[u8]) -> &'static [u8] {
     b""
 }
 
-/// Writes a condition with the answer of a call in the place of a test of a file.
-fn pass_answer(
-    alloc: Global,
-    idioms: Idioms,
-    text: &[u8],
-    calls: &[CallAt],
-    place: ConditionPlace,
-    condition: &[u8],
-    cut: FileCut,
-    name: &[u8],
-    call: &[u8],
-    pass: &mut Pass,
-) -> Result<(), AllocError>
-    requires all { idioms ≡ All }
-    requires begins { MayBegin text.now place.start }
-    requires is { specs.IsTestAt text.now place.start place.from place.to }
-    requires order { specs.AreOrdered text.now place.start place.from place.to }
-    requires may { specs.MayAskAt text.now place.start }
-    requires condition { condition.now ≡ slice_range text.now place.from place.to }
-    requires test { files.IsFileTest condition.now cut.at cut.letter cut.from cut.to cut.end }
-    requires readable { files.IsTestOfFiles condition.now }
-    requires new_name { files.HasPart condition.now name.now → ⊥ }
-    requires asks { specs.Asks cut.letter (slice_range condition.now cut.from cut.to) name.now call.now }
-    requires begun { specs.IsPass idioms text.now pass.old.at pass.old.out.items }
-    ensures { OnOk result (specs.IsPass idioms text.now pass.new.at pass.new.out.items) }
-{
-    let put = with_answer(alloc, condition, cut.at, cut.end, name)?;
-    pass_asked(
-        alloc,
-        idioms,
-        text,
-        calls,
-        place,
-        put.as_slice(),
-        call,
-        pass,
-    )
+/// A condition with the answer of a program in the place of a test of a file.
+#[derive(Drop)]
+struct Answer {
+    put: Vec<u8>,
+    /// The call that asks.
+    call: Vec<u8>,
 }
 
-/// Asks for a file that a condition tests, and puts the answer into a variable of a new name.
-fn pass_named(
+/// Returns a condition with the answer of a call that asks for a file that it tests, which sets a
+/// variable of a new name.
+fn answered(
     alloc: Global,
-    idioms: Idioms,
-    text: &[u8],
-    calls: &[CallAt],
-    place: ConditionPlace,
     condition: &[u8],
     cut: FileCut,
     name: &[u8],
-    pass: &mut Pass,
-) -> Result<(), AllocError>
-    requires all { idioms ≡ All }
-    requires begins { MayBegin text.now place.start }
-    requires is { specs.IsTestAt text.now place.start place.from place.to }
-    requires order { specs.AreOrdered text.now place.start place.from place.to }
-    requires may { specs.MayAskAt text.now place.start }
-    requires condition { condition.now ≡ slice_range text.now place.from place.to }
+) -> Result<Option<Answer>, AllocError>
     requires test { files.IsFileTest condition.now cut.at cut.letter cut.from cut.to cut.end }
     requires readable { files.IsTestOfFiles condition.now }
-    requires begun { specs.IsPass idioms text.now pass.old.at pass.old.out.items }
-    ensures { OnOk result (specs.IsPass idioms text.now pass.new.at pass.new.out.items) }
+    ensures { IfOk result (λ o.
+        IfSome o (λ a. specs.IsAsked condition.now a.put.items a.call.items)) }
 {
     if name.is_empty() || has_part(condition, name) {
-        return Ok(());
+        return Ok(None);
     }
-    match asking_call(alloc, cut.letter, &condition[cut.from..cut.to], name)? {
-        Some(call) => pass_answer(
-            alloc,
-            idioms,
-            text,
-            calls,
-            place,
-            condition,
-            cut,
-            name,
-            call.as_slice(),
-            pass,
-        ),
-        None => Ok(()),
-    }
+    let Some(call) = asking_call(alloc, cut.letter, &condition[cut.from..cut.to], name)? else {
+        return Ok(None);
+    };
+    let put = with_answer(alloc, condition, cut.at, cut.end, name)?;
+    Ok(Some(Answer { put, call }))
 }
 
-/// Asks for the first file that a condition tests, if a program may ask there.
-fn pass_cut(
+/// Returns a condition with the answer for the first file that it tests, if it tests one, and if a
+/// program can ask for it.
+fn asked(alloc: Global, condition: &[u8]) -> Result<Option<Answer>, AllocError>
+    ensures { IfOk result (λ o.
+        IfSome o (λ a. specs.IsAsked condition.now a.put.items a.call.items)) }
+{
+    let Some(cut) = file_test(condition) else {
+        return Ok(None);
+    };
+    if !is_test_of_files(alloc, condition)? {
+        return Ok(None);
+    }
+    answered(alloc, condition, cut, new_name(condition))
+}
+
+/// Returns the change of a condition that has the answer for a file that it tests, if a program may
+/// ask before its statement.
+pub(crate) fn asked_edit(
     alloc: Global,
-    idioms: Idioms,
     text: &[u8],
     calls: &[CallAt],
     place: ConditionPlace,
-    condition: &[u8],
-    cut: FileCut,
-    pass: &mut Pass,
-) -> Result<(), AllocError>
+) -> Result<Option<Edit>, AllocError>
     requires calls { map macro_call_of calls.now ≡ calls_in text.now }
-    requires all { idioms ≡ All }
-    requires begins { MayBegin text.now place.start }
-    requires is { specs.IsTestAt text.now place.start place.from place.to }
-    requires order { specs.AreOrdered text.now place.start place.from place.to }
-    requires condition { condition.now ≡ slice_range text.now place.from place.to }
-    requires test { files.IsFileTest condition.now cut.at cut.letter cut.from cut.to cut.end }
-    requires begun { specs.IsPass idioms text.now pass.old.at pass.old.out.items }
-    ensures { OnOk result (specs.IsPass idioms text.now pass.new.at pass.new.out.items) }
+    requires place { specs.IsPlace text.now place.start place.from place.to }
+    ensures { IfOk result (λ o. IfSome o (λ e. specs.IsIdiom text.now (change_of e))) }
 {
-    if !may_ask_at(text, calls, place.start) || !is_test_of_files(alloc, condition)? {
-        return Ok(());
+    if is_joined(text, place.start) || !may_ask_at(text, calls, place.start) {
+        return Ok(None);
     }
-    pass_named(
+    let Some(indent) = indent_at(text, calls, place.start) else {
+        return Ok(None);
+    };
+    let Some(answer) = asked(alloc, &text[place.from..place.to])? else {
+        return Ok(None);
+    };
+    let front = &text[place.start..place.from];
+    let put = below(
         alloc,
-        idioms,
-        text,
-        calls,
-        place,
-        condition,
-        cut,
-        new_name(condition),
-        pass,
-    )
-}
-
-/// Asks for the first file that a condition tests, if it tests one.
-pub(crate) fn pass_files(
-    alloc: Global,
-    idioms: Idioms,
-    text: &[u8],
-    calls: &[CallAt],
-    place: ConditionPlace,
-    pass: &mut Pass,
-) -> Result<(), AllocError>
-    requires calls { map macro_call_of calls.now ≡ calls_in text.now }
-    requires all { idioms ≡ All }
-    requires begins { MayBegin text.now place.start }
-    requires is { specs.IsTestAt text.now place.start place.from place.to }
-    requires order { specs.AreOrdered text.now place.start place.from place.to }
-    requires begun { specs.IsPass idioms text.now pass.old.at pass.old.out.items }
-    ensures { OnOk result (specs.IsPass idioms text.now pass.new.at pass.new.out.items) }
-{
-    let condition = &text[place.from..place.to];
-    match file_test(condition) {
-        Some(cut) => pass_cut(alloc, idioms, text, calls, place, condition, cut, pass),
-        None => Ok(()),
-    }
+        indent,
+        answer.call.as_slice(),
+        front,
+        answer.put.as_slice(),
+    )?;
+    Ok(Some(Edit {
+        start: place.start,
+        end: place.to,
+        put,
+    }))
 }

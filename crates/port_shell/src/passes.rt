@@ -1,6 +1,7 @@
 //! Passes over a text, until nothing is rewritten.
 
-ghost use Rattle.std.specs.Prelude.{length, IfOk, IfSome};
+ghost use Rattle.std.specs.Prelude.{IfOk, IfSome};
+ghost use Rattle.port_breaks.specs.Breaks.{IsMade};
 ghost use Rattle.port_shell.specs.Formed as specs;
 
 use crate::conditions::tested_once;
@@ -16,7 +17,7 @@ const PASSES: usize = 70;
 /// rewritten, or `None` if nothing can be.
 fn passed_once(alloc: Global, idioms: Idioms, text: &[u8]) -> Result<Option<Vec<u8>>, AllocError>
     ensures { IfOk result (λ o.
-        IfSome o (λ v. specs.IsPass idioms text.now (length text.now) v.items)) }
+        IfSome o (λ v. IsMade (specs.IsEdit idioms text.now) text.now v.items)) }
 {
     match tested_once(alloc, idioms, text)? {
         Some(next) => Ok(Some(next)),

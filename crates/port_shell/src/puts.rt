@@ -14,6 +14,7 @@ use deftable::Bytes;
 use port_compounds::{
     assignment_of, case_parts, default_of, empty_test, guard_parts, if_parts, loop_turns,
 };
+use port_edits::Edit;
 use port_joints::{joined_texts, slices};
 use port_parts::{CaseCut, DefaultOf, ForCut, GuardCut, IfCut};
 use port_put::{accepted_call, is_accepted};
@@ -207,35 +208,27 @@ fn call_for_default(
 
 // ---- any statement
 
-/// What may be put in the place of what is between two offsets.
-#[derive(Drop)]
-pub(crate) struct Replacement {
-    pub start: usize,
-    pub end: usize,
-    pub put: Vec<u8>,
-}
-
 /// Returns the change of what is between two offsets, if something may be put there.
-fn change(text: &[u8], start: usize, end: usize, put: Option<Vec<u8>>) -> Option<Replacement>
+fn change(text: &[u8], start: usize, end: usize, put: Option<Vec<u8>>) -> Option<Edit>
     requires { IfSome put (λ v. specs.MayPut text.now start end v.items) }
     ensures put { IfSome result (λ c. specs.MayPut text.now c.start c.end c.put.items) }
     ensures start { IfSome result (λ c. c.start ≡ start) }
 {
     let _ = text;
     match put {
-        Some(put) => Some(Replacement { start, end, put }),
+        Some(put) => Some(Edit { start, end, put }),
         None => None,
     }
 }
 
 /// Returns the change of a statement, unless it is none, or acrun doesn't accept what would take its
 /// place. `reads` says whether the text may read the status of a command.
-pub(crate) fn change_of(
+pub(crate) fn put_for(
     alloc: Global,
     text: &[u8],
     cut: &StatementCut,
     reads: bool,
-) -> Result<Option<Replacement>, AllocError>
+) -> Result<Option<Edit>, AllocError>
     requires { reads ≡ false → ReadsStatus text.now → ⊥ }
     ensures put { IfOk result (λ o.
         IfSome o (λ c. specs.MayPut text.now c.start c.end c.put.items)) }

@@ -1,5 +1,0 @@
-use Rattle.port_shell.proofs.Steps.{pass_end}
-use Rattle.port_shell.proofs.passing.copy_rest.Goals as goal
-
-pub returns : goal.returns
-returns c = pass_end c.extend_from_slice.result c.args.idioms c.args.text.now c.args.pass.now.at c.args.pass.now.out.items _ c.requires.begun c.extend_from_slice.ensures.items
