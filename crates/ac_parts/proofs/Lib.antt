@@ -1,0 +1,5 @@
+mod Complete
+pub mod Laws
+mod Sound
+pub mod Texts
+pub mod Turns

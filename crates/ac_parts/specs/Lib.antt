@@ -1,0 +1,4 @@
+pub mod Leaves
+pub mod Shapes
+pub mod Trees
+pub mod Walks
