@@ -12,10 +12,12 @@
 //! has a shape that its kind may have. So whoever makes a list may decide as it likes, as
 //! `parts_reader` does.
 //!
+//! A call that returns a `Result` fails only if memory runs out. "own" marks a rule that no manual
+//! gives.
+//!
 //! Read `kind`, `shapes` (the parts that may be within each kind) and `leaves` (the texts that a leaf
 //! may have), and then `specs/Trees`, what a tree is. `specs/Walks` has the walk over a list as a
-//! function, and `facts` says that the leaves are the text. A call that returns a `Result` fails only
-//! if memory runs out. "own" marks a rule that no manual gives.
+//! function, and `facts` says that the leaves are the text.
 #![tactic(auto)]
 
 mod facts;
