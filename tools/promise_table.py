@@ -57,6 +57,7 @@ WHY_NONE = {
     "port_parts": "They say where to look for a part. What is there is stated by the functions that judge it.",
     "port_statements": "Whether Autoconf makes checks before a call is a judgement by the table of macros.",
     "port_reasons": "It names statements that stay, for the words of an error.",
+    "port_rules": "It gives the rows. What a row puts is stated by `edit_by`, for any row.",
 }
 FN = re.compile(r"( *)(pub |pub\([^)]*\) )?(?:const )?(?:unsafe )?fn (\w+)")
 CLAUSE = re.compile(r"(\s*)(requires|ensures)(?: (\w+))? \{")
