@@ -116,8 +116,8 @@ lines'
     run logged logged2
     run plain1 plain2
     run plain1 plain3
-    run -k bits bits64 a.h
-    run -k bits32 bits64 a.h
+    run -k bits bits64 a.h make
+    run -k bits32 bits64 a.h make
     run -k bits bits32 a.h
     run -k bits64 bits a.h
     run old// new// file.h

@@ -474,6 +474,10 @@ mv plain3/config.cache 'plain3/config\cache'
 mkdir bits bits32 bits64
 echo '/* #undef _FILE_OFFSET_BITS */' > bits/a.h
 for each in 32 64; do echo "#define _FILE_OFFSET_BITS $each" > "bits$each/a.h"; done
+# Paths for make.
+echo 'VPATH = a:b' > bits/make
+echo 'VPATH = b' > bits32/make
+echo 'VPATH = a:$(srcdir):b:.' > bits64/make
 # A package without a name, and one with its name, in a header and in a Makefile.
 write named1/a.h << 'END'
 #define PACKAGE_BUGREPORT ""
