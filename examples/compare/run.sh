@@ -74,6 +74,7 @@ rows() {
 lines'
     run cached cached1
     run cached none
+    run same none
     run logged same
     run saved same
     run saved logged
