@@ -112,6 +112,7 @@ lines'
     (cd away2 && run -s . ../away1 .)
     run kinds1 kinds2
     run kinds1 kinds2 config.hh
+    run kinds1 kinds2 a
     run / root1
     run same saved
     run logged logged2

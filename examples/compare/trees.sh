@@ -450,7 +450,7 @@ printf 'acrun-record 2\nsrcdir /proc/self/cwd/away3\nheader a.h t\nend\n' > away
 mkdir kinds1 kinds2 root1
 for each in kinds1 kinds2; do
     printf 'config_headers=" config.hh"\nconfig_files=" config.hh lines.h a"\n' > $each/config.status
-    echo "$each" > $each/a
+    echo "a = $each" > $each/a
     echo "#define LIMIT $each" > $each/config.hh
     echo "#define LIMIT $each" > $each/lines.h
 done
