@@ -8,10 +8,11 @@ use Rattle.ac_parts.specs.declared.kind.Kind.{Kind}
 use Rattle.ac_parts.specs.declared.kind.Part.{Part}
 use Rattle.ac_parts.specs.Shapes.{is_kind}
 use Rattle.port_match.specs.declared.pattern.Pat.{Pat}
-use Rattle.port_match.specs.declared.pattern.Pat.TheVariants.{Open, Close, One, Named, Gaps}
+use Rattle.port_match.specs.declared.pattern.Pat.TheVariants.{Open, Close, One, Named, Many, Gaps}
+use Rattle.port_match.specs.declared.pattern.Piece.{Piece}
 use Rattle.port_match.specs.declared.pattern.Bound.{Bound}
-use Rattle.port_match.specs.Matches.{is_gap, is_named, IsMatch, nothing, one, within, named, gaps, word_of}
-use Rattle.port_match.specs.Matcher.{At, is_whole, one_step, open_step, close_step, named_step, after_gaps, stepped, then_to, matched}
+use Rattle.port_match.specs.Matches.{is_gap, is_named, ArePieces, no_piece, piece, AreRounds, no_round, round, IsMatch, nothing, one, within, named, many, gaps, word_of, pieces_of}
+use Rattle.port_match.specs.Matcher.{At, is_whole, one_step, open_step, close_step, named_step, after_gaps, are_next, pieces_to, rounds, stepped, then_to, matched}
 
 -- A pattern leads from some parts to others, and out of the parts that are open, at the end of each.
 data Reaches (text : List ℕ) : List Pat → List Part → List ℕ → List Bound → List Part → Type 0 where
@@ -69,6 +70,83 @@ gaps_reach : (text : List ℕ) (pats : List Pat) (parts front left : List Part) 
 gaps_reach text pats parts front left [] bounds to all same (flat {front = more} e m) = flat (same ∙ ap (λ l. front ++ l) e ∙ sym (append_assoc front more to)) (gaps front all m)
 gaps_reach text pats parts front left (end ∷ ends) bounds to all same (up {inner} {more} p e b n m r) =
     up (ap (λ l. Gaps ∷ l) p) (same ∙ ap (λ l. front ++ l) e ∙ sym (append_assoc front inner more)) b n (gaps front all m) r
+
+-- From a place the matcher comes to another one over parts, with what the slots have of them.
+record Over (From : List Part → List Bound → Type 0) (from to : At) : Type 0 where
+  front : List Part
+  has : List Bound
+  same : from.left ≡ front ++ to.left
+  added : to.bounds ≡ from.bounds ++ has
+  ends : to.ends ≡ from.ends
+  are : From front has
+
+over_none : (From : List Part → List Bound → Type 0) (from to : At) → From [] [] → from ≡ to → Over From from to
+over_none From from to are e = record {
+  front = [];
+  has = [];
+  same = ap (λ p. p.left) e;
+  added = sym (ap (λ p. p.bounds) e) ∙ sym (append-nil from.bounds);
+  ends = sym (ap (λ p. p.ends) e);
+  are = are;
+}
+
+piece_by : (it : Piece) (pieces : List Piece) (from to : At) (part : Part) (rest : List Part) (t : Bool) → is_whole it.0 part rest ≡ t → from.left ≡ part ∷ rest
+    → ((at : At) → pieces_to pieces at ≡ Some to → Over (ArePieces pieces) at to)
+    → then_to (pieces_to pieces) (cond t (Some (record { left = drop part.within rest; ends = from.ends; bounds = from.bounds ++ record { slot = it.1; part = part } ∷ [] })) None) ≡ Some to
+    → Over (ArePieces (it ∷ pieces)) from to
+piece_by it pieces from to part rest false is left inner e = absurd (cc)
+piece_by it pieces from to part rest true is left inner e =
+    let b : Bound = record { slot = it.1; part = part } in
+    let r = inner (record { left = drop part.within rest; ends = from.ends; bounds = from.bounds ++ b ∷ [] }) e in
+    let w = whole it.0 part rest is in
+    let n : part.within ≡ length (take part.within rest) = sym (length-take-le part.within rest w.1) in
+    record {
+      front = part ∷ (take part.within rest ++ r.front);
+      has = b ∷ r.has;
+      same = left ∙ ap (λ l. part ∷ l) (sym (take-append-drop part.within rest) ∙ ap (λ l. take part.within rest ++ l) r.same ∙ sym (append_assoc (take part.within rest) r.front to.left));
+      added = r.added ∙ append_assoc from.bounds (b ∷ []) r.has;
+      ends = r.ends;
+      are = piece (take part.within rest) w.0 n r.are;
+    }
+
+piece_over : (it : Piece) (pieces : List Piece) (from to : At) (parts : List Part) → from.left ≡ parts → ((at : At) → pieces_to pieces at ≡ Some to → Over (ArePieces pieces) at to)
+    → then_to (pieces_to pieces) (one_step it.0 it.1 parts from) ≡ Some to → Over (ArePieces (it ∷ pieces)) from to
+piece_over it pieces from to [] left inner e = absurd (cc)
+piece_over it pieces from to (part ∷ rest) left inner e = piece_by it pieces from to part rest (is_whole it.0 part rest) refl left inner e
+
+pieces_over : (pieces : List Piece) (to from : At) → pieces_to pieces from ≡ Some to → Over (ArePieces pieces) from to
+pieces_over [] to from e = over_none (ArePieces []) from to no_piece (some_is e)
+pieces_over (it ∷ pieces) to from e = piece_over it pieces from to from.left refl (pieces_over pieces to) e
+
+round_over : (pieces : List Piece) (turns : List Part) (from to : At) (o : Option At) → pieces_to pieces from ≡ o → ((at : At) → rounds turns pieces at ≡ Some to → Over (AreRounds pieces) at to)
+    → then_to (rounds turns pieces) o ≡ Some to → Over (AreRounds pieces) from to
+round_over pieces turns from to None is inner e = absurd (cc)
+round_over pieces turns from to (Some mid) is inner e =
+    let p = pieces_over pieces mid from is in
+    let r = inner mid e in
+    record {
+      front = p.front ++ r.front;
+      has = p.has ++ r.has;
+      same = p.same ∙ ap (λ l. p.front ++ l) r.same ∙ sym (append_assoc p.front r.front to.left);
+      added = r.added ∙ ap (λ l. l ++ r.has) p.added ∙ append_assoc from.bounds p.has r.has;
+      ends = r.ends ∙ p.ends;
+      are = round p.are r.are;
+    }
+
+rounds_by : (pieces : List Piece) (turns : List Part) (from to : At) (t : Bool) → ((at : At) → rounds turns pieces at ≡ Some to → Over (AreRounds pieces) at to)
+    → cond t (then_to (rounds turns pieces) (pieces_to pieces from)) (Some from) ≡ Some to → Over (AreRounds pieces) from to
+rounds_by pieces turns from to true inner e = round_over pieces turns from to (pieces_to pieces from) refl inner e
+rounds_by pieces turns from to false inner e = over_none (AreRounds pieces) from to no_round (some_is e)
+
+rounds_over : (turns : List Part) (pieces : List Piece) (to from : At) → rounds turns pieces from ≡ Some to → Over (AreRounds pieces) from to
+rounds_over [] pieces to from e = over_none (AreRounds pieces) from to no_round (some_is e)
+rounds_over (turn ∷ turns) pieces to from e = rounds_by pieces turns from to (are_next pieces from.left) (rounds_over turns pieces to) e
+
+many_reaches : (text : List ℕ) (pat : Pat) (pieces : List Piece) (pats : List Pat) (parts front left : List Part) (ends : List ℕ) (has bounds : List Bound) (to : List Part)
+    → pieces_of pat ≡ Some pieces → AreRounds pieces front has → parts ≡ front ++ left → Reaches text pats left ends bounds to → Reaches text (pat ∷ pats) parts ends (has ++ bounds) to
+many_reaches text pat pieces pats parts front left [] has bounds to w are same (flat {front = more} e m) = flat (same ∙ ap (λ l. front ++ l) e ∙ sym (append_assoc front more to)) (many w are m)
+many_reaches text pat pieces pats parts front left (end ∷ ends) has bounds to w are same (up {inner} {more} {first} {second} p e b n m r) =
+    up (ap (λ l. pat ∷ l) p) (same ∙ ap (λ l. front ++ l) e ∙ sym (append_assoc front inner more)) (ap (λ l. has ++ l) b ∙ sym (append_assoc has first second)) n (many w are m) r
 
 open_reaches : (text : List ℕ) (kind : Kind) (pats : List Pat) (part : Part) (rest : List Part) (end : ℕ) (ends : List ℕ) (bounds : List Bound) (to : List Part)
     → is_whole kind part rest ≡ true → length rest - part.within ≡ end → Reaches text pats rest (end ∷ ends) bounds to → Reaches text (Open kind ∷ pats) (part ∷ rest) ends bounds to
@@ -169,6 +247,22 @@ sound_gaps text pats from to sound e =
     let s = split from.left in
     record { bounds = r.bounds; added = r.added; reaches = gaps_reach text pats from.left s.front (after_gaps from.left) from.ends r.bounds to.left s.all s.same r.reaches }
 
+sound_many_by : (text : List ℕ) (pat : Pat) (pieces : List Piece) (pats : List Pat) (from to : At) (o : Option At) → rounds from.left pieces from ≡ o → pieces_of pat ≡ Some pieces → Sound text pats to
+    → then_to (matched text pats) o ≡ Some to → Comes text (pat ∷ pats) from to
+sound_many_by text pat pieces pats from to None is w sound e = absurd (cc)
+sound_many_by text pat pieces pats from to (Some at) is w sound e =
+    let r = sound at e in
+    let k = rounds_over from.left pieces at from is in
+    record {
+      bounds = k.has ++ r.bounds;
+      added = r.added ∙ ap (λ l. l ++ r.bounds) k.added ∙ append_assoc from.bounds k.has r.bounds;
+      reaches = many_reaches text pat pieces pats from.left k.front at.left from.ends k.has r.bounds to.left w k.are k.same (subst (λ es. Reaches text pats at.left es r.bounds to.left) k.ends r.reaches);
+    }
+
+sound_many : (text : List ℕ) (pat : Pat) (pieces : List Piece) (pats : List Pat) (from to : At) → pieces_of pat ≡ Some pieces → Sound text pats to
+    → then_to (matched text pats) (rounds from.left pieces from) ≡ Some to → Comes text (pat ∷ pats) from to
+sound_many text pat pieces pats from to w sound e = sound_many_by text pat pieces pats from to (rounds from.left pieces from) refl w sound e
+
 comes_none : (text : List ℕ) (from to : At) → to.ends ≡ [] → Some from ≡ Some to → Comes text [] from to
 comes_none text from to ends e =
     let same : from ≡ to = some_is e in
@@ -184,6 +278,7 @@ comes text (One kind slot ∷ pats) to ends from e = sound_one text kind slot pa
 comes text (Open kind ∷ pats) to ends from e = sound_open text kind pats from to from.left refl (comes text pats to ends) e
 comes text (Close ∷ pats) to ends from e = sound_close text pats from to from.ends refl (comes text pats to ends) e
 comes text (Named word ∷ pats) to ends from e = sound_named text (Named word) word.now pats from to from.left refl refl (comes text pats to ends) e
+comes text (Many pieces ∷ pats) to ends from e = sound_many text (Many pieces) pieces.now pats from to refl (comes text pats to ends) e
 comes text (Gaps ∷ pats) to ends from e = sound_gaps text pats from to (comes text pats to ends) e
 
 outside : (text : List ℕ) (pats : List Pat) (parts rest : List Part) (bounds : List Bound) → Reaches text pats parts [] bounds rest → (length rest ≤ length parts) × IsMatch text pats (take (length parts - length rest) parts) bounds

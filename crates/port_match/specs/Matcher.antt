@@ -4,7 +4,8 @@ use Rattle.ac_parts.specs.declared.kind.Kind.{Kind}
 use Rattle.ac_parts.specs.declared.kind.Part.{Part}
 use Rattle.ac_parts.specs.Shapes.{is_kind}
 use Rattle.port_match.specs.declared.pattern.Pat.{Pat}
-use Rattle.port_match.specs.declared.pattern.Pat.TheVariants.{Open, Close, One, Named, Gaps}
+use Rattle.port_match.specs.declared.pattern.Pat.TheVariants.{Open, Close, One, Named, Many, Gaps}
+use Rattle.port_match.specs.declared.pattern.Piece.{Piece}
 use Rattle.port_match.specs.declared.pattern.Bound.{Bound}
 use Rattle.port_match.specs.Matches.{is_gap, is_named}
 
@@ -42,17 +43,41 @@ abbrev pub after_gaps : List Part → List Part
 after_gaps [] = []
 after_gaps (part ∷ rest) = if is_gap part then after_gaps rest else part ∷ rest
 
+abbrev pub piece_after : Piece → List Part → Option (List Part)
+piece_after it [] = None
+piece_after it (part ∷ rest) = if is_whole it.0 part rest then Some (drop part.within rest) else None
+
+abbrev pub next_by : (List Part → Bool) → Option (List Part) → Bool
+next_by f None = false
+next_by f (Some rest) = f rest
+
+-- The parts begin with these pieces, one after the other.
+abbrev pub are_next : List Piece → List Part → Bool
+are_next [] parts = true
+are_next (it ∷ pieces) parts = next_by (are_next pieces) (piece_after it parts)
+
+abbrev pub then_to : (At → Option At) → Option At → Option At
+then_to f None = None
+then_to f (Some at) = f at
+
+-- Where the matcher is after these pieces, one after the other.
+abbrev pub pieces_to : List Piece → At → Option At
+pieces_to [] at = Some at
+pieces_to (it ∷ pieces) at = then_to (pieces_to pieces) (one_step it.0 it.1 at.left at)
+
+-- Where the matcher is after these pieces again and again, at most once for each part of a list.
+abbrev pub rounds : List Part → List Piece → At → Option At
+rounds [] pieces at = Some at
+rounds (turn ∷ turns) pieces at = if are_next pieces at.left then then_to (rounds turns pieces) (pieces_to pieces at) else Some at
+
 -- Where the matcher is after an element of a pattern.
 abbrev pub stepped : List ℕ → Pat → At → Option At
 stepped text (One kind slot) at = one_step kind slot at.left at
 stepped text (Open kind) at = open_step kind at.left at
 stepped text Close at = close_step at.ends at
 stepped text (Named word) at = named_step text word.now at.left at
+stepped text (Many pieces) at = rounds at.left pieces.now at
 stepped text Gaps at = Some (record { left = after_gaps at.left; ends = at.ends; bounds = at.bounds })
-
-abbrev pub then_to : (At → Option At) → Option At → Option At
-then_to f None = None
-then_to f (Some at) = f at
 
 -- Where the matcher is after a pattern.
 abbrev pub matched : List ℕ → List Pat → At → Option At

@@ -11,4 +11,4 @@ mod matching;
 mod pattern;
 
 pub use matching::{Match, match_at};
-pub use pattern::{Bound, Pat};
+pub use pattern::{Bound, Pat, Piece};

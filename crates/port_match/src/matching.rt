@@ -5,7 +5,7 @@ ghost use Rattle.port_match.specs.declared.pattern.Bound.{Bound};
 ghost use Rattle.port_match.specs.Matcher as specs;
 ghost use Rattle.port_match.specs.Matches.{IsMatch, is_gap, is_gap_kind, is_named};
 
-use crate::pattern::{Bound, Pat};
+use crate::pattern::{Bound, Pat, Piece};
 use ac_parts::{Kind, Part};
 use std::alloc::{AllocError, Global};
 
@@ -112,6 +112,55 @@ impl Matcher {
         }
     }
 
+    /// Takes the parts of these pieces, one after the other. Returns the parts after them.
+    fn take<'p>(
+        &mut self,
+        pieces: &[Piece],
+        parts: &'p [Part],
+    ) -> Result<Option<&'p [Part]>, AllocError>
+        ensures { IfOk result (λ o.
+            let to = specs.pieces_to pieces.now
+            (specs.at_of parts.now self.old.ends.items self.old.bounds.items) in
+            MatchOption o (to ≡ None)
+            (λ rest. to ≡ Some (specs.at_of rest.now self.new.ends.items self.new.bounds.items))) }
+    {
+        let mut left = parts;
+        for piece in pieces {
+            let Some(rest) = self.one(piece.0, piece.1, left)? else {
+                return Ok(None);
+            };
+            left = rest;
+        }
+        Ok(Some(left))
+    }
+
+    /// Goes over these pieces again and again. Returns the parts after them.
+    fn many<'p>(
+        &mut self,
+        pieces: &[Piece],
+        parts: &'p [Part],
+    ) -> Result<Option<&'p [Part]>, AllocError>
+        ensures { IfOk result (λ o.
+            let to = specs.rounds parts.now pieces.now
+            (specs.at_of parts.now self.old.ends.items self.old.bounds.items) in
+            MatchOption o (to ≡ None)
+            (λ rest. to ≡ Some (specs.at_of rest.now self.new.ends.items self.new.bounds.items))) }
+    {
+        let mut left = parts;
+        for turn in parts {
+            let _ = turn;
+            if !are_next(pieces, left) {
+                return Ok(Some(left));
+            }
+            let taken = self.take(pieces, left)?;
+            match taken {
+                None => return Ok(None),
+                Some(rest) => left = rest,
+            }
+        }
+        Ok(Some(left))
+    }
+
     /// Makes a step.
     fn step<'p>(
         &mut self,
@@ -136,6 +185,7 @@ impl Matcher {
                 }
             }
             Pat::Named(word) => Ok(after_named(text, word, left)),
+            Pat::Many(pieces) => self.many(pieces, left),
             Pat::Gaps => Ok(Some(after_gaps(left))),
         }
     }
@@ -178,6 +228,35 @@ fn after_named<'p>(text: &[u8], word: &[u8], left: &'p [Part]) -> Option<&'p [Pa
     } else {
         None
     }
+}
+
+/// Returns the parts after a piece, if they begin with it.
+fn after_piece(piece: Piece, parts: &[Part]) -> Option<&[Part]>
+    ensures { MatchOption result (specs.piece_after piece parts.now ≡ None)
+        (λ rest. specs.piece_after piece parts.now ≡ Some rest.now) }
+{
+    let [part, rest @ ..] = parts else {
+        return None;
+    };
+    if is_whole(piece.0, *part, rest) {
+        Some(&rest[part.within..])
+    } else {
+        None
+    }
+}
+
+/// Returns whether parts begin with these pieces, one after the other.
+fn are_next(pieces: &[Piece], parts: &[Part]) -> bool
+    ensures { result ≡ specs.are_next pieces.now parts.now }
+{
+    let mut left = parts;
+    for piece in pieces {
+        let Some(rest) = after_piece(*piece, left) else {
+            return false;
+        };
+        left = rest;
+    }
+    true
 }
 
 /// Returns the parts after blanks and newlines.

@@ -2,6 +2,10 @@
 
 use ac_parts::{Kind, Part};
 
+/// A part of a kind with all that is in it, for a slot.
+#[derive(Clone, Copy)]
+pub struct Piece(pub Kind, pub usize);
+
 /// An element of a pattern. A pattern is a list: what is between `Open` and its `Close` is all that is
 /// within a part.
 #[derive(Clone, Copy)]
@@ -14,6 +18,8 @@ pub enum Pat {
     One(Kind, usize),
     /// A leaf that is this text.
     Named(&'static [u8]),
+    /// These parts one after the other, as often as they are there.
+    Many(&'static [Piece]),
     /// Blanks, newlines and `;`, if there are some.
     Gaps,
 }
