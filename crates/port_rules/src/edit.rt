@@ -1,10 +1,11 @@
 //! What a rule puts at a place.
 
-ghost use Rattle.std.specs.Prelude.{◌≡◌, ◌++◌, IfOk, IfSome, OnOk};
+ghost use Rattle.std.specs.Prelude.{◌≡◌, IfOk, IfSome};
 ghost use Rattle.port_rules.specs.Edits as specs;
 ghost use Rattle.port_rules.specs.Edits.{IsEdit};
 
-use crate::rule::{Cond, Put, Rule};
+use crate::fill::{filled, slot_text};
+use crate::rule::{Cond, Rule};
 use ac_parts::Part;
 use port_match::{Bound, match_at};
 use std::alloc::{AllocError, Global};
@@ -18,29 +19,6 @@ pub struct Edit {
     pub bounds: Vec<Bound>,
     /// The text.
     pub put: Vec<u8>,
-}
-
-/// Returns a part of the text, or nothing if there is none.
-fn between(text: &[u8], start: usize, end: usize) -> &[u8]
-    ensures { result.now ≡ specs.between text.now start end }
-{
-    if start <= end && end <= text.len() {
-        &text[start..end]
-    } else {
-        &text[..0]
-    }
-}
-
-/// Returns the text of a slot, or nothing if it has no part.
-fn slot_text<'a>(text: &'a [u8], bounds: &[Bound], slot: usize) -> &'a [u8]
-    ensures { result.now ≡ specs.slot_text text.now bounds.now slot }
-{
-    for bound in bounds {
-        if bound.slot == slot {
-            return between(text, bound.part.start, bound.part.end);
-        }
-    }
-    &text[..0]
 }
 
 /// Returns whether a text is a `$` and another one.
@@ -58,9 +36,13 @@ fn holds(text: &[u8], bounds: &[Bound], cond: Cond) -> bool
     ensures { result ≡ specs.holds text.now bounds.now cond }
 {
     match cond {
-        Cond::Same(one, other) => slot_text(text, bounds, one) == slot_text(text, bounds, other),
+        Cond::Same(one, other) => slot_text(text, bounds, one, 0)
+            == slot_text(text, bounds, other, 0),
         Cond::Shows(one, other) => {
-            shows(slot_text(text, bounds, one), slot_text(text, bounds, other))
+            shows(
+                slot_text(text, bounds, one, 0),
+                slot_text(text, bounds, other, 0),
+            )
         }
     }
 }
@@ -75,27 +57,6 @@ fn all_hold(text: &[u8], bounds: &[Bound], conds: &[Cond]) -> bool
         }
     }
     true
-}
-
-/// Returns what an element puts.
-fn put_text<'a>(text: &'a [u8], bounds: &[Bound], put: Put) -> &'a [u8]
-    ensures { result.now ≡ specs.put_text text.now bounds.now put }
-{
-    match put {
-        Put::Text(it) => it,
-        Put::Slot(slot) => slot_text(text, bounds, slot),
-    }
-}
-
-/// Returns what is put, with the slots filled in.
-fn filled(alloc: Global, text: &[u8], bounds: &[Bound], puts: &[Put]) -> Result<Vec<u8>, AllocError>
-    ensures { IfOk result (λ v. v.items ≡ specs.filled text.now bounds.now puts.now) }
-{
-    let mut out = Vec::new(alloc);
-    for put in puts {
-        out.extend_from_slice(put_text(text, bounds, *put))?;
-    }
-    Ok(out)
 }
 
 /// Returns what a rule puts from the first of these parts on, if it matches there.

@@ -5,13 +5,14 @@
 //! the rule, that its conditions hold, and that the text is its own with the slots filled in. So a further
 //! rule needs no proof.
 //!
-//! Read `rule`, `specs/Edits`, `edit`, and then `rows`.
+//! Read `rule`, `specs/Edits`, `edit` and `fill`, and then `rows`.
 #![tactic(auto)]
 
 mod edit;
+mod fill;
 mod rows;
 mod rule;
 
 pub use edit::{Edit, edit_by};
 pub use rows::rules;
-pub use rule::{Cond, Put, Rule};
+pub use rule::{Cond, Fill, Put, Rule};

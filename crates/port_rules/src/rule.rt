@@ -11,13 +11,25 @@ pub enum Cond {
     Shows(usize, usize),
 }
 
+/// Text that a rule puts, once or for each part of a slot.
+#[derive(Clone, Copy)]
+pub enum Fill {
+    /// This text.
+    Text(&'static [u8]),
+    /// The text of a slot. In what is put for each part of one, that of the part with the same number,
+    /// or of the last one.
+    Slot(usize),
+    /// The text of a slot without the blanks, newlines and `;` at its edges.
+    Bare(usize),
+}
+
 /// An element of what a rule puts.
 #[derive(Clone, Copy)]
 pub enum Put {
-    /// This text.
-    Text(&'static [u8]),
-    /// The text of a slot.
-    Slot(usize),
+    /// This, once.
+    Once(Fill),
+    /// These for each part of a slot.
+    Each(usize, &'static [Fill]),
 }
 
 /// A rule.

@@ -41,12 +41,13 @@ const ROWS: &[u8] = br##"
 x=${x:-y} =>  default-of AS_IF([test -z "$x"], [x=y])
 x=${z:-y} =>
 x=${x:-y} z =>
-if a; then b; fi =>  if AS_IF([a], [ b; ])
-if a^Jthen^J  b^Jelse^J  c^Jfi =>  if-else AS_IF([a], [^J  b^J], [^J  c^J])
-if a; then b; elif c; then d; fi =>  if-elif AS_IF([a], [ b; ], [c], [ d; ])
+if a; then b; fi =>  if AS_IF([a], [b])
+if a^Jthen^J  b^Jelse^J  c^Jfi =>  if AS_IF([a], [b], [c])
+if a; then b; elif c; then d; elif e && f^Jthen^J  g; h^Jelse i; fi =>  if AS_IF([a], [b], [c], [d], [e && f], [g; h], [i])
 if a; then b; fi && c =>
-if a; b; then c; fi =>
-AC_PATH_PROGS([P], [q r]) =>  path-progs AC_PATH_PROG([P], [q])^JAS_IF([test -z "$P"], [AC_PATH_PROG([P], [r])])
+for a in b; do if c; then d; fi; done =>
+AC_PATH_PROGS([P], [q]) =>  path-progs AC_PATH_PROG([P], [q])
+AC_PATH_PROGS([P], [q r  s]) =>  path-progs AC_PATH_PROG([P], [q])^JAS_IF([test -z "$P"], [AC_PATH_PROG([P], [r])])^JAS_IF([test -z "$P"], [AC_PATH_PROG([P], [s])])
 AC_PATH_PROG([P], [q r]) =>
 AC_MSG_CHECKING([for a])^JAC_CACHE_VAL([a_cv_b], [c])^JAC_MSG_RESULT([$a_cv_b]) =>  cache-check AC_CACHE_CHECK([for a], [a_cv_b], [c])
 AC_MSG_CHECKING([for a])^JAC_CACHE_VAL([a_cv_b], [c])^JAC_MSG_RESULT([$a_cv_c]) =>
