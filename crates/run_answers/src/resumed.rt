@@ -79,10 +79,10 @@ impl<'a, C: Crew + Drop, R: Files + Env, E: Hears + Drop> Resumed<'a, C, R, E> {
             return;
         };
         let version = self.version.as_bytes();
-        let Ok(environment) = told.environment(self.alloc) else {
+        let Ok(words) = told.words(self.alloc) else {
             return;
         };
-        let givens = told.givens(environment.as_slice());
+        let givens = told.givens(&words);
         let Ok(Some(found)) = found_answers(self.alloc, self.rt, version, &givens) else {
             return;
         };
