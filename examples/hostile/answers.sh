@@ -133,7 +133,7 @@ unset ACRUN_AFRESH
 same 'a run that begins afresh' 7
 
 # Two runs in one directory at once, and one that goes on from the answers of a run that still goes. They share the conftests, so each may
-# be cut. Each other one makes what one alone makes, and so does one after them.
+# be cut, and the cache that one of them puts may be read by the next. Each other one makes what one alone makes, and so does one after them.
 cat > "$folder/bin/slow" << 'END'
 #!/bin/sh
 sleep 0.2
@@ -142,7 +142,7 @@ chmod +x "$folder/bin/slow"
 slowly() { timeout 60 "$acrun" configure -C CC="$folder/bin/slow" > "$1.out" 2> "$1.err" || echo "status $?" >> "$1.out"; }
 # like_alone NAME: the run printed what one alone prints.
 like_alone() {
-    sed 's/^config.status: config.h is unchanged$/config.status: creating config.h/' "$1.out" | cmp -s - alone.out &&
+    sed -e 's/^config.status: config.h is unchanged$/config.status: creating config.h/' -e 's/\.\.\. (cached) /... /' "$1.out" | cmp -s - alone.out &&
         grep -v '^configure: goes on from ' "$1.err" | cmp -s - alone.err
 }
 package beside

@@ -116,8 +116,18 @@ END
     makes conftest.c
 }
 
+# The answers of a run with a cache, until it ends.
+answers() {
+    cat << 'END'
+getcwd("*", 4096)
+openat("config.answers", O_WRONLY|O_CREAT|O_EXCL|O_NOCTTY|O_CLOEXEC, 0600)
+unlink("config.answers")
+END
+}
+
 {
     children
+    answers
     # shellcheck disable=SC2016
     echo 'runs "sh", "-c", "test -f "$1" && test -x "$1"", "sh", "*cc"'
     echo 'runs "*cc", "-c", "conftest[12].c"'
@@ -138,6 +148,7 @@ ln -s ../cache build/config.cache
 ln -s nowhere build/conftest.o
 {
     children
+    answers
     opens ../source/configure.ac config.cache config.h
     templates
     makes acrun-1.tmp sub/new/acrun-1.tmp config.log
@@ -177,6 +188,7 @@ traced build remade status
 
 {
     children
+    answers
     opens config.status ../source/configure.ac config.cache
     makes acrun-1.tmp config.log
     echo 'unlink("config.log")'
